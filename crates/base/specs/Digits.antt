@@ -1,0 +1,196 @@
+-- A number as digits in mixed radix, lowest first: `ks` lists the radices. A node's coordinates are such digits.
+-- Order: the product of the radices, reading a digit, writing one; laws of one written and one read; turning a digit round.
+-- Assumes nothing.
+use mathlib.Core.Path.{_≡_, refl, ap, ap₂, sym, _∙_}
+use mathlib.Core.List.{List, [], _∷_}
+use mathlib.Core.Logic.{_⊎_, inl, inr, _≢_}
+use Prim.Native.Nat.{ℕ, zero, suc, _+_, _*_, _/_, _%_, _-_, _<_, _≤_}
+use native.Mathlib.Nat.{le-of-suc-le-suc, not-suc-le-zero, mod-lt, mod-eq-of-lt, mod-add-div, add-mul-div-left, add-mul-mod-self-left, div-eq-of-lt, zero-add, add-zero, mul-comm, mod-add-mod, add-mod-mod, add-mod-right, add-assoc, mod-mod, mod-self, div-lt-iff-lt-mul, mul-le-mul-left, mul-pos, div-zero, mod-zero, zero-mul, add-mul-mod-self-right, add-comm}
+use native.Mathlib.Omega.{arith}
+use lib.ListN.{length, getD}
+
+unfoldable pub product : List ℕ → ℕ
+product [] = 1
+product (k ∷ ks) = k * product ks
+
+unfoldable pub digit : List ℕ → ℕ → ℕ → ℕ
+digit [] i n = 0
+digit (k ∷ ks) zero n = n % k
+digit (k ∷ ks) (suc i) n = digit ks i (n / k)
+
+unfoldable pub putDigit : List ℕ → ℕ → ℕ → ℕ → ℕ
+putDigit [] i c n = n
+putDigit (k ∷ ks) zero c n = c + k * (n / k)
+putDigit (k ∷ ks) (suc i) c n = n % k + k * putDigit ks i c (n / k)
+
+-- all radices are above 0
+unfoldable pub Positive : List ℕ → Type 0
+Positive [] = Unit {0}
+Positive (k ∷ ks) = (0 < k) × Positive ks
+
+pub digit-lt : (ks : List ℕ) (i n : ℕ) → Positive ks → i < length ks → digit ks i n < getD ks i 0
+unfolding digit Positive
+digit-lt [] i n p h = absurd (not-suc-le-zero h)
+digit-lt (k ∷ ks) zero n p h = mod-lt n (p .0)
+digit-lt (k ∷ ks) (suc i) n p h = digit-lt ks i (n / k) (p .1) (le-of-suc-le-suc h)
+
+pub product-pos : (ks : List ℕ) → Positive ks → 0 < product ks
+unfolding product Positive
+product-pos [] p = omega arith
+product-pos (k ∷ ks) p = mul-pos (p .0) (product-pos ks (p .1))
+
+-- the two parts of c + k × m
+low : (c k m : ℕ) → c < k → (c + k * m) % k ≡ c
+low c k m h = add-mul-mod-self-left c k m ∙ mod-eq-of-lt h
+
+high : (c k m : ℕ) → c < k → (c + k * m) / k ≡ m
+high c k m h = add-mul-div-left c m (pos c k h) ∙ ap (λ (x : ℕ). x + m) (div-eq-of-lt h) ∙ zero-add m
+  where
+    pos : (c k : ℕ) → c < k → 0 < k
+    pos c k h = omega arith
+
+pub digit-put-same : (ks : List ℕ) (i c n : ℕ) → Positive ks → i < length ks → c < getD ks i 0 → digit ks i (putDigit ks i c n) ≡ c
+unfolding digit putDigit Positive
+digit-put-same [] i c n p h hc = absurd (not-suc-le-zero h)
+digit-put-same (k ∷ ks) zero c n p h hc = low c k (n / k) hc
+digit-put-same (k ∷ ks) (suc i) c n p h hc =
+    ap (digit ks i) (high (n % k) k (putDigit ks i c (n / k)) (mod-lt n (p .0)))
+    ∙ digit-put-same ks i c (n / k) (p .1) (le-of-suc-le-suc h) hc
+
+pub digit-put-other : (ks : List ℕ) (i j c n : ℕ) → Positive ks → j ≢ i → c < getD ks i 0 → digit ks j (putDigit ks i c n) ≡ digit ks j n
+unfolding digit putDigit Positive
+digit-put-other [] i j c n p ne hc = refl
+digit-put-other (k ∷ ks) zero zero c n p ne hc = absurd (ne refl)
+digit-put-other (k ∷ ks) zero (suc j) c n p ne hc = ap (digit ks j) (high c k (n / k) hc)
+digit-put-other (k ∷ ks) (suc i) zero c n p ne hc = low (n % k) k (putDigit ks i c (n / k)) (mod-lt n (p .0))
+digit-put-other (k ∷ ks) (suc i) (suc j) c n p ne hc =
+    ap (digit ks j) (high (n % k) k (putDigit ks i c (n / k)) (mod-lt n (p .0)))
+    ∙ digit-put-other ks i j c (n / k) (p .1) (λ e. ne (ap suc e)) hc
+
+pub put-put : (ks : List ℕ) (i c d n : ℕ) → Positive ks → c < getD ks i 0 → putDigit ks i d (putDigit ks i c n) ≡ putDigit ks i d n
+unfolding putDigit Positive
+put-put [] i c d n p hc = refl
+put-put (k ∷ ks) zero c d n p hc = ap (λ (x : ℕ). d + k * x) (high c k (n / k) hc)
+put-put (k ∷ ks) (suc i) c d n p hc =
+    ap₂ (λ (x y : ℕ). x + k * putDigit ks i d y)
+    (low (n % k) k (putDigit ks i c (n / k)) (mod-lt n (p .0)))
+    (high (n % k) k (putDigit ks i c (n / k)) (mod-lt n (p .0)))
+    ∙ ap (λ (x : ℕ). n % k + k * x) (put-put ks i c d (n / k) (p .1) hc)
+
+pub put-comm : (ks : List ℕ) (i j c d n : ℕ) → Positive ks → i ≢ j → c < getD ks i 0 → d < getD ks j 0
+    → putDigit ks i c (putDigit ks j d n) ≡ putDigit ks j d (putDigit ks i c n)
+unfolding putDigit Positive
+put-comm [] i j c d n p ne hc hd = refl
+put-comm (k ∷ ks) zero zero c d n p ne hc hd = absurd (ne refl)
+put-comm (k ∷ ks) zero (suc j) c d n p ne hc hd =
+    ap (λ (x : ℕ). c + k * x) (high (n % k) k (putDigit ks j d (n / k)) (mod-lt n (p .0)))
+    ∙ ap₂ (λ (x y : ℕ). x + k * putDigit ks j d y) (sym (low c k (n / k) hc)) (sym (high c k (n / k) hc))
+put-comm (k ∷ ks) (suc i) zero c d n p ne hc hd =
+    ap₂ (λ (x y : ℕ). x + k * putDigit ks i c y) (low d k (n / k) hd) (high d k (n / k) hd)
+    ∙ ap (λ (x : ℕ). d + k * x) (sym (high (n % k) k (putDigit ks i c (n / k)) (mod-lt n (p .0))))
+put-comm (k ∷ ks) (suc i) (suc j) c d n p ne hc hd =
+    ap₂ (λ (x y : ℕ). x + k * putDigit ks i c y)
+    (low (n % k) k (putDigit ks j d (n / k)) (mod-lt n (p .0)))
+    (high (n % k) k (putDigit ks j d (n / k)) (mod-lt n (p .0)))
+    ∙ ap (λ (x : ℕ). n % k + k * x) (put-comm ks i j c d (n / k) (p .1) (λ e. ne (ap suc e)) hc hd)
+    ∙ ap₂ (λ (x y : ℕ). x + k * putDigit ks j d y)
+    (sym (low (n % k) k (putDigit ks i c (n / k)) (mod-lt n (p .0))))
+    (sym (high (n % k) k (putDigit ks i c (n / k)) (mod-lt n (p .0))))
+
+pub put-digit : (ks : List ℕ) (i n : ℕ) → putDigit ks i (digit ks i n) n ≡ n
+unfolding putDigit digit
+put-digit [] i n = refl
+put-digit (k ∷ ks) zero n = mod-add-div n k
+put-digit (k ∷ ks) (suc i) n = ap (λ (x : ℕ). n % k + k * x) (put-digit ks i (n / k)) ∙ mod-add-div n k
+
+below-product : (c k m q : ℕ) → c < k → m < q → c + k * m < k * q
+below-product c k m q hc hm = go (mul-le-mul-left k hm)
+  where
+    go : k * suc m ≤ k * q → c + k * m < k * q
+    go l = let e : k * suc m ≡ k * m + k = native.Mathlib.Nat.mul-suc k m in omega arith
+
+pub put-lt : (ks : List ℕ) (i c n : ℕ) → Positive ks → c < getD ks i 0 → n < product ks → putDigit ks i c n < product ks
+unfolding putDigit product Positive
+put-lt [] i c n p hc h = h
+put-lt (k ∷ ks) zero c n p hc h = below-product c k (n / k) (product ks) hc (div-lt-iff-lt-mul (p .0) .1 (rw mul-comm at h))
+put-lt (k ∷ ks) (suc i) c n p hc h =
+    below-product (n % k) k (putDigit ks i c (n / k)) (product ks) (mod-lt n (p .0))
+    (put-lt ks i c (n / k) (p .1) hc (div-lt-iff-lt-mul (p .0) .1 (rw mul-comm at h)))
+
+-- numbers below the product with the same digits are the same
+pub digits-eq : (ks : List ℕ) (n m : ℕ) → Positive ks → n < product ks → m < product ks
+    → ((i : ℕ) → i < length ks → digit ks i n ≡ digit ks i m) → n ≡ m
+unfolding digit product Positive
+digits-eq [] n m p hn hm h = omega arith
+digits-eq (k ∷ ks) n m p hn hm h =
+    sym (mod-add-div n k)
+    ∙ ap₂ (λ (x y : ℕ). x + k * y) (h 0 (omega arith))
+    (digits-eq ks (n / k) (m / k) (p .1)
+    (div-lt-iff-lt-mul (p .0) .1 (rw mul-comm at hn))
+    (div-lt-iff-lt-mul (p .0) .1 (rw mul-comm at hm))
+    (λ i hi. h (suc i) (native.Mathlib.Nat.suc-le-suc-iff .1 hi)))
+    ∙ mod-add-div m k
+
+-- a digit turned on by a, round its radix
+unfoldable pub turn : List ℕ → ℕ → ℕ → ℕ → ℕ
+turn ks i a n = putDigit ks i ((digit ks i n + a) % getD ks i 0) n
+
+pub radix-pos : (ks : List ℕ) (i : ℕ) → Positive ks → i < length ks → 0 < getD ks i 0
+unfolding Positive
+radix-pos [] i p h = absurd (not-suc-le-zero h)
+radix-pos (k ∷ ks) zero p h = p .0
+radix-pos (k ∷ ks) (suc i) p h = radix-pos ks i (p .1) (le-of-suc-le-suc h)
+
+turned-lt : (ks : List ℕ) (i a n : ℕ) → Positive ks → i < length ks → (digit ks i n + a) % getD ks i 0 < getD ks i 0
+turned-lt ks i a n p h = mod-lt (digit ks i n + a) (radix-pos ks i p h)
+
+pub turn-lt : (ks : List ℕ) (i a n : ℕ) → Positive ks → i < length ks → n < product ks → turn ks i a n < product ks
+unfolding turn
+turn-lt ks i a n p h hn = put-lt ks i ((digit ks i n + a) % getD ks i 0) n p (turned-lt ks i a n p h) hn
+
+pub digit-turn-same : (ks : List ℕ) (i a n : ℕ) → Positive ks → i < length ks → digit ks i (turn ks i a n) ≡ (digit ks i n + a) % getD ks i 0
+unfolding turn
+digit-turn-same ks i a n p h = digit-put-same ks i ((digit ks i n + a) % getD ks i 0) n p h (turned-lt ks i a n p h)
+
+pub digit-turn-other : (ks : List ℕ) (i j a n : ℕ) → Positive ks → i < length ks → j ≢ i → digit ks j (turn ks i a n) ≡ digit ks j n
+unfolding turn
+digit-turn-other ks i j a n p h ne = digit-put-other ks i j ((digit ks i n + a) % getD ks i 0) n p ne (turned-lt ks i a n p h)
+
+-- turns of one digit add up
+pub turn-turn : (ks : List ℕ) (i a b n : ℕ) → Positive ks → i < length ks → turn ks i b (turn ks i a n) ≡ turn ks i (a + b) n
+unfolding turn
+turn-turn ks i a b n p h =
+    put-put ks i ((digit ks i n + a) % k) ((digit ks i (putDigit ks i ((digit ks i n + a) % k) n) + b) % k) n p (turned-lt ks i a n p h)
+    ∙ ap (λ (c : ℕ). putDigit ks i c n)
+    (ap (λ (c : ℕ). (c + b) % k) (digit-put-same ks i ((digit ks i n + a) % k) n p h (turned-lt ks i a n p h))
+    ∙ mod-add-mod (digit ks i n + a) k b
+    ∙ ap (λ (c : ℕ). c % k) (add-assoc (digit ks i n) a b))
+  where
+    k : ℕ
+    k = getD ks i 0
+
+-- turns of two digits, or of one twice, in either order
+pub turn-comm : (ks : List ℕ) (i j a b n : ℕ) → Positive ks → i < length ks → j < length ks → turn ks i a (turn ks j b n) ≡ turn ks j b (turn ks i a n)
+unfolding turn
+turn-comm ks i j a b n p hi hj = go (native.Mathlib.Decide.ℕ-discrete i j)
+  where
+    apart : i ≢ j → turn ks i a (turn ks j b n) ≡ turn ks j b (turn ks i a n)
+    apart ne =
+        ap (λ (c : ℕ). putDigit ks i ((c + a) % getD ks i 0) (turn ks j b n)) (digit-turn-other ks j i b n p hj ne)
+        ∙ put-comm ks i j ((digit ks i n + a) % getD ks i 0) ((digit ks j n + b) % getD ks j 0) n p ne (turned-lt ks i a n p hi) (turned-lt ks j b n p hj)
+        ∙ ap (λ (c : ℕ). putDigit ks j ((c + b) % getD ks j 0) (turn ks i a n)) (sym (digit-turn-other ks i j a n p hi (λ e. ne (sym e))))
+
+    go : Dec (i ≡ j) → turn ks i a (turn ks j b n) ≡ turn ks j b (turn ks i a n)
+    go (yes e) =
+        let t : turn ks i a (turn ks i b n) ≡ turn ks i b (turn ks i a n) =
+        turn-turn ks i b a n p hi ∙ ap (λ (c : ℕ). turn ks i c n) (add-comm b a) ∙ sym (turn-turn ks i a b n p hi) in
+        rw (← e) t
+    go (no ne) = apart ne
+
+-- whole rounds change nothing
+pub turn-rounds : (ks : List ℕ) (i m n : ℕ) → Positive ks → i < length ks → turn ks i (m * getD ks i 0) n ≡ n
+unfolding turn
+turn-rounds ks i m n p h =
+    ap (λ (c : ℕ). putDigit ks i c n)
+    (add-mul-mod-self-right (digit ks i n) m (getD ks i 0) ∙ mod-eq-of-lt (digit-lt ks i n p h))
+    ∙ put-digit ks i n

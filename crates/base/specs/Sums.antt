@@ -1,0 +1,57 @@
+-- Sums of a number for each number below n, and of a number for each element of a list, with the law for a change at one place.
+-- Assumes nothing.
+use mathlib.Core.Path.{_≡_, refl, ap, sym, _∙_}
+use mathlib.Core.Bool.{Bool, true, false, cond}
+use mathlib.Core.List.{List, [], _∷_, _++_}
+use mathlib.Core.Logic.{_⊎_, inl, inr, _≢_}
+use Prim.Native.Nat.{ℕ, zero, suc, _+_, _<_, _≤_}
+use native.Mathlib.Nat.{eq-or-lt-of-le, le-of-suc-le-suc, not-suc-le-zero, le-step, lt-suc-self, ne-of-gt, lt-irrefl}
+use native.Mathlib.Omega.{arith}
+
+unfoldable pub sumBelow : ℕ → (ℕ → ℕ) → ℕ
+sumBelow zero f = 0
+sumBelow (suc n) f = sumBelow n f + f n
+
+unfoldable pub sumOf : {A : Type 0} → (A → ℕ) → List A → ℕ
+sumOf f [] = 0
+sumOf f (x ∷ xs) = f x + sumOf f xs
+
+pub sumOf-append : {A : Type 0} (f : A → ℕ) (xs ys : List A) → sumOf f (xs ++ ys) ≡ sumOf f xs + sumOf f ys
+unfolding sumOf
+sumOf-append f [] ys = omega arith
+sumOf-append f (x ∷ xs) ys = let e = sumOf-append f xs ys in omega arith
+
+pub sum-same : (n : ℕ) (f g : ℕ → ℕ) → ((i : ℕ) → i < n → f i ≡ g i) → sumBelow n f ≡ sumBelow n g
+unfolding sumBelow
+sum-same zero f g h = refl
+sum-same (suc n) f g h =
+    let e = sum-same n f g (λ i h′. h i (le-step h′)) in
+    let e′ = h n (lt-suc-self n) in
+    omega arith
+
+-- f and g differ at i at most: their sums differ by what they differ there
+pub sum-change : (n : ℕ) (f g : ℕ → ℕ) (i : ℕ) → i < n → ((j : ℕ) → j < n → j ≢ i → f j ≡ g j) → sumBelow n f + g i ≡ sumBelow n g + f i
+unfolding sumBelow
+sum-change zero f g i h s = absurd (not-suc-le-zero h)
+sum-change (suc n) f g i h s = go (eq-or-lt-of-le (le-of-suc-le-suc h)) (λ h′. sum-change n f g i h′ (λ j k ne. s j (le-step k) ne))
+  where
+    go : (i ≡ n) ⊎ (i < n) → (i < n → sumBelow n f + g i ≡ sumBelow n g + f i) → sumBelow n f + f n + g i ≡ sumBelow n g + g n + f i
+    go (inl e) r =
+        let low : sumBelow n f ≡ sumBelow n g = sum-same n f g (λ j k. s j (le-step k) (λ e′. lt-irrefl n (rw (e′ ∙ e) at k))) in
+        let fe : f i ≡ f n = ap f e in
+        let ge : g i ≡ g n = ap g e in
+        omega arith
+    go (inr h′) r =
+        let e = r h′ in
+        let top : f n ≡ g n = s n (lt-suc-self n) (ne-of-gt h′) in
+        omega arith
+
+-- each term is at most the sum
+pub term-le : (n : ℕ) (f : ℕ → ℕ) (i : ℕ) → i < n → f i ≤ sumBelow n f
+unfolding sumBelow
+term-le zero f i h = absurd (not-suc-le-zero h)
+term-le (suc n) f i h = go (eq-or-lt-of-le (le-of-suc-le-suc h)) (λ h′. term-le n f i h′)
+  where
+    go : (i ≡ n) ⊎ (i < n) → (i < n → f i ≤ sumBelow n f) → f i ≤ sumBelow n f + f n
+    go (inl e) r = let fe : f i ≡ f n = ap f e in omega arith
+    go (inr h′) r = let l = r h′ in omega arith

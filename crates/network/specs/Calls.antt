@@ -1,0 +1,232 @@
+-- Document 01, "Calls": what each call answers and leaves in every word lent to it, on refusals too. `w` is the words at the call.
+-- Order: Make, Check, Offer, Move, Credit, Look, First, Drain; then document 01's number and values for each case of an answer. Assumes nothing.
+use mathlib.Core.Bool.{Bool, true, false, cond, _&&_}
+use mathlib.Core.List.{List, [], _∷_, _++_, map}
+use Prim.Native.Nat.{ℕ, zero, suc, _+_, _*_}
+use lib.Dec.{eqb}
+use lib.IntN.{ℤ}
+use lib.ListN.{length, drop, replicate}
+use Rattle.network.specs.declared.Moved.{Moved}
+use Rattle.network.specs.declared.Credit.{Credit}
+use Rattle.network.specs.declared.Found.{Found}
+use Rattle.network.specs.declared.Stop.{Stop}
+use Rattle.network.specs.declared.Drained.{Drained}
+use Rattle.network.specs.Sizes.{Shape, size, nodes, queues, injectionQueue, directionOf, dimensionOf}
+use Rattle.network.specs.Packet.{packetWord, shorterWay, hop}
+use Rattle.network.specs.Torus.{coordinate}
+use Rattle.network.specs.Layout.{shape, need, nodeWords, held, putQueue, raised, acceptedAt, deliveredAt, movesAt}
+use Rattle.network.specs.Check.{packetsHeld}
+use Rattle.network.specs.Routes.{routes, target, freeSlots, deliver}
+use Rattle.network.specs.Refusals.{networkRefusal, makeRefusal, offerRefusal, moveRefusal, moveRules, creditRefusal, lookRefusal, head}
+
+-- "A refusal .. writes to neither network nor ledger": the words as a call leaves them, by its refusal
+abbrev pub unlessRefused : ℕ → List ℕ → List ℕ → List ℕ
+unlessRefused refusal after before = cond (eqb refusal 0) after before
+
+-- Make --------------------------------------------------------------------------------------------------------------------------------
+
+unfoldable pub shapeOf : ℕ → ℕ → ℕ → ℕ → ℕ → Shape
+shapeOf x y e a j = record { sizes = x ∷ y ∷ []; escape = e; adaptive = a; injection = j }
+
+-- "Make: writes an empty network, all counts 0."
+unfoldable pub emptyNetwork : Shape → List ℕ
+emptyNetwork S = S .sizes ++ (S .escape ∷ S .adaptive ∷ S .injection ∷ 0 ∷ 0 ∷ 0 ∷ replicate (nodes S * nodeWords S) 0)
+
+-- "Memory after the last node is never touched."
+unfoldable pub makeWords : Shape → List ℕ → List ℕ
+makeWords S w = unlessRefused (makeRefusal S w) (emptyNetwork S ++ drop (need S) w) w
+
+-- Check: "0 or the refusal", networkRefusal; the words are lent to be read only -------------------------------------------------------
+
+-- Offer -------------------------------------------------------------------------------------------------------------------------------
+
+-- the packet of an offer: "At an offer dx is the shorter way round"
+unfoldable pub offered : Shape → ℕ → ℕ → ℕ → ℕ
+offered S n destination tag = packetWord tag destination (λ i. shorterWay (size S i) (coordinate S i n) (coordinate S i destination))
+
+-- "the packet goes to the end of the node's injection queue and accepted rises by one"
+unfoldable pub afterOffer : Shape → List ℕ → ℕ → ℕ → ℕ → List ℕ
+afterOffer S w n destination tag =
+    raised acceptedAt (putQueue S w n injectionQueue (held S w n injectionQueue ++ (offered S n destination tag ∷ [])))
+
+unfoldable pub offerWords : List ℕ → ℕ → ℕ → ℕ → List ℕ
+offerWords w n destination tag = unlessRefused (offerRefusal w n destination) (afterOffer (shape w) w n destination tag) w
+
+-- Move --------------------------------------------------------------------------------------------------------------------------------
+
+-- "The head leaves"
+unfoldable pub headLeaves : Shape → List ℕ → ℕ → ℕ → List ℕ
+headLeaves S w n q = putQueue S w n q (drop 1 (held S w n q))
+
+-- "and becomes the newest packet of the target"
+unfoldable pub packetArrives : Shape → List ℕ → ℕ → ℕ → ℕ → List ℕ
+packetArrives S w n q p = putQueue S w n q (held S w n q ++ (p ∷ []))
+
+-- "its offset in the output's dimension shrinks by one hop, moves made rises by one; a delivery hands out the packet word and raises delivered"
+unfoldable pub afterMove : Shape → List ℕ → ℕ → ℕ → ℕ → List ℕ
+afterMove S w n q o =
+    raised movesAt
+    (cond (eqb o deliver)
+    (raised deliveredAt (headLeaves S w n q))
+    (packetArrives S (headLeaves S w n q) (target S n o) o (hop (dimensionOf (directionOf o)) (head (held S w n q)))))
+
+unfoldable pub moveWords : List ℕ → ℕ → ℕ → ℕ → List ℕ
+moveWords w n q o = unlessRefused (moveRefusal w n q o) (afterMove (shape w) w n q o) w
+
+unfoldable pub moveAnswer : List ℕ → ℕ → ℕ → ℕ → Moved
+moveAnswer w n q o =
+    cond (eqb (moveRefusal w n q o) 0)
+    (cond (eqb o deliver) (Moved.Delivered (head (held (shape w) w n q))) Moved.Passed)
+    (Moved.Refused (moveRefusal w n q o))
+
+-- Credit: "node and output 1 to 8; the free slots of that target" ---------------------------------------------------------------------
+
+unfoldable pub creditAnswer : List ℕ → ℕ → ℕ → Credit
+creditAnswer w n o = cond (eqb (creditRefusal w n o) 0) (Credit.Free (freeSlots (shape w) w n o)) (Credit.Refused (creditRefusal w n o))
+
+-- Look: "it gives back the held words as a part of the lent memory, not a copy, and an empty part on a refusal"; its companion's answer is
+-- lookRefusal ------------------------------------------------------------------------------------------------------------------------
+
+unfoldable pub lookPart : List ℕ → ℕ → ℕ → List ℕ
+lookPart w n q = cond (eqb (lookRefusal w n q) 0) (held (shape w) w n q) []
+
+-- First: "the first permitted move in the order node, queue, route; or none" ----------------------------------------------------------
+
+-- the first of the outputs by which the head of queue q of node n may move
+unfoldable pub firstOutput : Shape → List ℕ → ℕ → ℕ → List ℕ → Found
+firstOutput S w n q [] = Found.Nothing
+firstOutput S w n q (o ∷ os) = cond (eqb (moveRules S w n q o) 0) (Found.Move n q o) (firstOutput S w n q os)
+
+unfoldable pub firstInQueue : Shape → List ℕ → ℕ → ℕ → Found
+firstInQueue S w n q = firstOutput S w n q (routes q (head (held S w n q)))
+
+unfoldable pub orElse : Found → Found → Found
+orElse (Found.Refused r) later = Found.Refused r
+orElse Found.Nothing later = later
+orElse (Found.Move n q o) later = Found.Move n q o
+
+-- the first found at i, i + 1, .., so many of them
+unfoldable pub search : (ℕ → Found) → ℕ → ℕ → Found
+search f i zero = Found.Nothing
+search f i (suc count) = orElse (f i) (search f (suc i) count)
+
+unfoldable pub firstInNode : Shape → List ℕ → ℕ → Found
+firstInNode S w n = search (λ q. firstInQueue S w n q) 0 queues
+
+unfoldable pub firstMove : Shape → List ℕ → Found
+firstMove S w = search (λ n. firstInNode S w n) 0 (nodes S)
+
+unfoldable pub firstAnswer : List ℕ → Found
+firstAnswer w = cond (eqb (networkRefusal w) 0) (firstMove (shape w) w) (Found.Refused (networkRefusal w))
+
+-- Drain -------------------------------------------------------------------------------------------------------------------------------
+
+-- a packet word handed out, and the node of its move
+pub record Delivery : Type 0 where
+  pub node : ℕ
+  pub packet : ℕ
+
+-- where moves made one after another have come to: the words, the packets handed out in order, the number of moves, why they stopped
+pub record Progress : Type 0 where
+  pub words : List ℕ
+  pub deliveries : List Delivery
+  pub moves : ℕ
+  pub stop : Stop
+
+unfoldable pub stopped : List ℕ → Stop → Progress
+stopped w why = record { words = w; deliveries = []; moves = 0; stop = why }
+
+-- one move more, made first, with what it handed out
+unfoldable pub oneMore : List Delivery → Progress → Progress
+oneMore ds r = record { words = r .words; deliveries = ds ++ r .deliveries; moves = suc (r .moves); stop = r .stop }
+
+-- "full (the next move delivers and no ledger word is left)": room is the number of ledger words left, and `on` goes on from there
+unfoldable pub deliverNext : Shape → List ℕ → ℕ → ℕ → ℕ → (ℕ → List ℕ → Progress) → Progress
+deliverNext S w n q zero on = stopped w Stop.Full
+deliverNext S w n q (suc room) on =
+    oneMore (record { node = n; packet = head (held S w n q) } ∷ []) (on room (afterMove S w n q deliver))
+
+-- "It makes First's move again and again". While anything is held First names a move (the crate `run` proves it), so the first two cases do not
+-- come up
+unfoldable pub moveNext : Shape → List ℕ → ℕ → Found → (ℕ → List ℕ → Progress) → Progress
+moveNext S w room (Found.Refused r) on = stopped w Stop.Emptied
+moveNext S w room Found.Nothing on = stopped w Stop.Emptied
+moveNext S w room (Found.Move n q o) on =
+    cond (eqb o deliver) (deliverNext S w n q room on) (oneMore [] (on room (afterMove S w n q o)))
+
+-- "why it stopped: emptied (nothing held), else spent (budget used), else full", tested in this order before every move
+unfoldable pub drainFrom : Shape → ℕ → ℕ → List ℕ → Progress
+drainFrom S zero room w = cond (eqb (packetsHeld S w) 0) (stopped w Stop.Emptied) (stopped w Stop.Spent)
+drainFrom S (suc budget) room w =
+    cond (eqb (packetsHeld S w) 0) (stopped w Stop.Emptied) (moveNext S w room (firstMove S w) (λ room′ w′. drainFrom S budget room′ w′))
+
+-- a Drain that is not refused, with a ledger of so many words
+unfoldable pub drained : List ℕ → ℕ → ℕ → Progress
+drained w budget room = drainFrom (shape w) budget room w
+
+unfoldable pub drainWords : List ℕ → ℕ → ℕ → List ℕ
+drainWords w budget room = unlessRefused (networkRefusal w) (drained w budget room .words) w
+
+-- "writes each delivered word to the next ledger word .. Later ledger words are untouched."
+unfoldable pub drainLedger : List ℕ → ℕ → List ℕ → List ℕ
+drainLedger w budget ledger = unlessRefused (networkRefusal w) (written (drained w budget (length ledger) .deliveries) ledger) ledger
+  where
+    written : List Delivery → List ℕ → List ℕ
+    written ds ledger = map (λ d. d .packet) ds ++ drop (length ds) ledger
+
+-- "It answers the number of moves made, the number delivered and why it stopped"
+unfoldable pub drainAnswer : List ℕ → ℕ → ℕ → Drained
+drainAnswer w budget room =
+    cond (eqb (networkRefusal w) 0)
+    (Drained.Stopped (drained w budget room .moves) (length (drained w budget room .deliveries)) (drained w budget room .stop))
+    (Drained.Refused (networkRefusal w))
+
+-- "Where an answer is an enum, a definition gives this paper's number and values for each of its cases." "A refusal hands out no packet, names
+-- no move and no stop, reports zero for every count" -------------------------------------------------------------------------------------
+
+unfoldable pub movedNumber : Moved → ℕ
+movedNumber (Moved.Refused r) = r
+movedNumber Moved.Passed = 0
+movedNumber (Moved.Delivered p) = 0
+
+-- the packet words handed out
+unfoldable pub movedPackets : Moved → List ℕ
+movedPackets (Moved.Refused r) = []
+movedPackets Moved.Passed = []
+movedPackets (Moved.Delivered p) = p ∷ []
+
+unfoldable pub creditNumber : Credit → ℕ
+creditNumber (Credit.Refused r) = r
+creditNumber (Credit.Free n) = 0
+
+unfoldable pub creditSlots : Credit → ℕ
+creditSlots (Credit.Refused r) = 0
+creditSlots (Credit.Free n) = n
+
+unfoldable pub foundNumber : Found → ℕ
+foundNumber (Found.Refused r) = r
+foundNumber Found.Nothing = 0
+foundNumber (Found.Move n q o) = 0
+
+-- node, queue and output of the move that is named, if one is
+unfoldable pub foundMove : Found → List ℕ
+foundMove (Found.Refused r) = []
+foundMove Found.Nothing = []
+foundMove (Found.Move n q o) = n ∷ q ∷ o ∷ []
+
+unfoldable pub drainedNumber : Drained → ℕ
+drainedNumber (Drained.Refused r) = r
+drainedNumber (Drained.Stopped m d s) = 0
+
+unfoldable pub drainedMoves : Drained → ℕ
+drainedMoves (Drained.Refused r) = 0
+drainedMoves (Drained.Stopped m d s) = m
+
+unfoldable pub drainedDelivered : Drained → ℕ
+drainedDelivered (Drained.Refused r) = 0
+drainedDelivered (Drained.Stopped m d s) = d
+
+-- the stop that is named, if one is
+unfoldable pub drainedStop : Drained → List Stop
+drainedStop (Drained.Refused r) = []
+drainedStop (Drained.Stopped m d s) = s ∷ []

@@ -1,0 +1,83 @@
+-- Document 01, "Nodes, queues and words": where everything stands in the lent words. Order: the header; where each queue's words stand;
+-- a queue's words; reading and replacing a queue; sums over all queues. Assumes nothing.
+use mathlib.Core.List.{List, [], _∷_, _++_}
+use Prim.Native.Nat.{ℕ, _+_, _*_, _-_}
+use lib.ListN.{length, getD, take, drop, set, replicate}
+use Rattle.base.specs.Sums.{sumBelow}
+use Rattle.base.specs.Parts.{span, splice}
+use Rattle.network.specs.Sizes.{Shape, nodes, queues, directions, capacity}
+
+-- "Words 0 to 7: X, Y, E, A, J, packets accepted, packets delivered, moves made."
+abbrev pub headerWords : ℕ
+headerWords = 8
+
+unfoldable pub shape : List ℕ → Shape
+shape w = record { sizes = getD w 0 0 ∷ getD w 1 0 ∷ []; escape = getD w 2 0; adaptive = getD w 3 0; injection = getD w 4 0 }
+
+abbrev pub acceptedAt : ℕ
+acceptedAt = 5
+
+abbrev pub deliveredAt : ℕ
+deliveredAt = 6
+
+abbrev pub movesAt : ℕ
+movesAt = 7
+
+unfoldable pub accepted : List ℕ → ℕ
+accepted w = getD w acceptedAt 0
+
+unfoldable pub delivered : List ℕ → ℕ
+delivered w = getD w deliveredAt 0
+
+unfoldable pub movesMade : List ℕ → ℕ
+movesMade w = getD w movesAt 0
+
+-- the words with one counter risen by one
+unfoldable pub raised : ℕ → List ℕ → List ℕ
+raised at w = set w at (getD w at 0 + 1)
+
+-- "Then the nodes in order, each with its queues in order: one word for the number held, then as many words as the capacity"
+unfoldable pub queueLength : Shape → ℕ → ℕ
+queueLength S q = 1 + capacity S q
+
+-- "A node takes 9 + J + 4A + 4E words."
+unfoldable pub nodeWords : Shape → ℕ
+nodeWords S = queues + S .injection + directions * S .adaptive + directions * S .escape
+
+unfoldable pub queueStart : Shape → ℕ → ℕ → ℕ
+queueStart S n q = headerWords + n * nodeWords S + sumBelow q (λ i. queueLength S i)
+
+unfoldable pub queueEnd : Shape → ℕ → ℕ → ℕ
+queueEnd S n q = queueStart S n q + queueLength S q
+
+-- the words that the sizes need: K1, K2
+unfoldable pub need : Shape → ℕ
+need S = headerWords + nodes S * nodeWords S
+
+-- "one word for the number held, then as many words as the capacity, oldest packet first, unused ones 0"
+unfoldable pub queueWords : ℕ → List ℕ → List ℕ
+queueWords capacity packets = length packets ∷ (packets ++ replicate (capacity - length packets) 0)
+
+-- the words of queue q of node n, its number held, its packets, oldest first, and its unused words
+unfoldable pub queuePart : Shape → List ℕ → ℕ → ℕ → List ℕ
+queuePart S w n q = span w (queueStart S n q) (queueEnd S n q)
+
+unfoldable pub countOf : List ℕ → ℕ
+countOf part = getD part 0 0
+
+unfoldable pub packetsOf : List ℕ → List ℕ
+packetsOf part = take (countOf part) (drop 1 part)
+
+unfoldable pub unusedOf : List ℕ → List ℕ
+unusedOf part = drop (countOf part) (drop 1 part)
+
+unfoldable pub held : Shape → List ℕ → ℕ → ℕ → List ℕ
+held S w n q = packetsOf (queuePart S w n q)
+
+-- "Inside a call a queue is worked on as that part of the lent words which it fills, and no other.": the words with that part replaced
+unfoldable pub putQueue : Shape → List ℕ → ℕ → ℕ → List ℕ → List ℕ
+putQueue S w n q packets = splice w (queueStart S n q) (queueEnd S n q) (queueWords (capacity S q) packets)
+
+-- the sum of a number for each queue of each node
+unfoldable pub total : Shape → List ℕ → (List ℕ → ℕ) → ℕ
+total S w f = sumBelow (nodes S) (λ n. sumBelow queues (λ q. f (held S w n q)))

@@ -1,0 +1,120 @@
+-- Document 01, "Refusals": the numbers, and for each call the first test that applies, in its order; 0 if none does.
+-- Order: the numbers; the tests that all calls but Make share; Make; Offer; Move; Credit; Look. Assumes nothing.
+use mathlib.Core.Bool.{Bool, true, false, not, cond, _&&_, _||_}
+use mathlib.Core.List.{List, [], _∷_}
+use Prim.Native.Nat.{ℕ, _^_, _-_}
+use lib.Dec.{leb, ltb, eqb}
+use lib.ListN.{length, getD}
+use Rattle.base.specs.Tests.{elem}
+use Rattle.network.specs.Sizes.{Shape, sizesInRange, nodes, queues, injectionQueue, capacity}
+use Rattle.network.specs.Layout.{shape, headerWords, need, held, accepted}
+use Rattle.network.specs.Check.{isNetwork, mostAccepted}
+use Rattle.network.specs.Routes.{routes, deliver, freeSlots, slotsNeeded}
+
+-- the table's numbers, with the trade's words; 13, "bad line", belongs to the bench program
+abbrev pub shortStore : ℕ
+shortStore = 1
+
+abbrev pub wrongSize : ℕ
+wrongSize = 2
+
+abbrev pub noNetwork : ℕ
+noNetwork = 3
+
+abbrev pub noSuchNode : ℕ
+noSuchNode = 4
+
+abbrev pub noSuchQueue : ℕ
+noSuchQueue = 5
+
+abbrev pub noSuchOutput : ℕ
+noSuchOutput = 6
+
+-- "gate full"
+abbrev pub injectionFull : ℕ
+injectionFull = 7
+
+abbrev pub countSpent : ℕ
+countSpent = 8
+
+-- "nobody there"
+abbrev pub queueEmpty : ℕ
+queueEmpty = 9
+
+-- "not its way"
+abbrev pub noRoute : ℕ
+noRoute = 10
+
+abbrev pub noSlot : ℕ
+noSlot = 11
+
+abbrev pub noBubble : ℕ
+noBubble = 12
+
+-- refused by this number if the test applies, else whatever the later tests say
+abbrev pub refuse : Bool → ℕ → ℕ → ℕ
+refuse true number later = number
+refuse false number later = later
+
+-- what earlier tests say, else what later ones say
+abbrev pub elseBy : ℕ → ℕ → ℕ
+elseBy earlier later = cond (eqb earlier 0) later earlier
+
+-- "Every other call tests 1 (eight words), 2, 1 (need), 3"
+unfoldable pub networkRefusal : List ℕ → ℕ
+networkRefusal w =
+    refuse (ltb (length w) headerWords) shortStore
+    (refuse (not (sizesInRange (shape w))) wrongSize
+    (refuse (ltb (length w) (need (shape w))) shortStore
+    (refuse (not (isNetwork (shape w) w)) noNetwork 0)))
+
+-- "Make tests 2, then 1."
+unfoldable pub makeRefusal : Shape → List ℕ → ℕ
+makeRefusal S w = refuse (not (sizesInRange S)) wrongSize (refuse (ltb (length w) (need S)) shortStore 0)
+
+-- "then Offer 4, 8, 7"
+unfoldable pub offerRules : Shape → List ℕ → ℕ → ℕ → ℕ
+offerRules S w n destination =
+    refuse (leb (nodes S) n || leb (nodes S) destination) noSuchNode
+    (refuse (eqb (accepted w) mostAccepted) countSpent
+    (refuse (eqb (length (held S w n injectionQueue)) (capacity S injectionQueue)) injectionFull 0))
+
+unfoldable pub offerRefusal : List ℕ → ℕ → ℕ → ℕ
+offerRefusal w n destination = elseBy (networkRefusal w) (offerRules (shape w) w n destination)
+
+-- the head of a queue, the oldest packet
+unfoldable pub head : List ℕ → ℕ
+head packets = getD packets 0 0
+
+-- "Move 4, 5, 6, 9, 10, 11, 12": a delivery has no target and needs no slot
+unfoldable pub flowRules : Shape → List ℕ → ℕ → ℕ → ℕ → ℕ
+flowRules S w n q o =
+    cond (eqb o deliver) 0
+    (refuse (eqb (freeSlots S w n o) 0) noSlot
+    (refuse (ltb (freeSlots S w n o) (slotsNeeded q o)) noBubble 0))
+
+unfoldable pub moveRules : Shape → List ℕ → ℕ → ℕ → ℕ → ℕ
+moveRules S w n q o =
+    refuse (leb (nodes S) n) noSuchNode
+    (refuse (leb queues q) noSuchQueue
+    (refuse (leb queues o) noSuchOutput
+    (refuse (eqb (length (held S w n q)) 0) queueEmpty
+    (refuse (not (elem o (routes q (head (held S w n q))))) noRoute
+    (flowRules S w n q o)))))
+
+unfoldable pub moveRefusal : List ℕ → ℕ → ℕ → ℕ → ℕ
+moveRefusal w n q o = elseBy (networkRefusal w) (moveRules (shape w) w n q o)
+
+-- "Credit 4, 6": "above 8; in Credit also 0"
+unfoldable pub creditRules : Shape → ℕ → ℕ → ℕ
+creditRules S n o = refuse (leb (nodes S) n) noSuchNode (refuse (eqb o deliver || leb queues o) noSuchOutput 0)
+
+unfoldable pub creditRefusal : List ℕ → ℕ → ℕ → ℕ
+creditRefusal w n o = elseBy (networkRefusal w) (creditRules (shape w) n o)
+
+-- "Look 4, 5"
+unfoldable pub lookRules : Shape → ℕ → ℕ → ℕ
+lookRules S n q = refuse (leb (nodes S) n) noSuchNode (refuse (leb queues q) noSuchQueue 0)
+
+unfoldable pub lookRefusal : List ℕ → ℕ → ℕ → ℕ
+lookRefusal w n q = elseBy (networkRefusal w) (lookRules (shape w) n q)
