@@ -55,3 +55,12 @@ term-le (suc n) f i h = go (eq-or-lt-of-le (le-of-suc-le-suc h)) (λ h′. term-
     go : (i ≡ n) ⊎ (i < n) → (i < n → f i ≤ sumBelow n f) → f i ≤ sumBelow n f + f n
     go (inl e) r = let fe : f i ≡ f n = ap f e in omega arith
     go (inr h′) r = let l = r h′ in omega arith
+
+-- a sum of nothing
+pub sum-zero : (n : ℕ) (f : ℕ → ℕ) → ((i : ℕ) → i < n → f i ≡ 0) → sumBelow n f ≡ 0
+unfolding sumBelow
+sum-zero zero f h = refl
+sum-zero (suc n) f h =
+    let low : sumBelow n f ≡ 0 = sum-zero n f (λ i k. h i (le-step k)) in
+    let top : f n ≡ 0 = h n (lt-suc-self n) in
+    omega arith

@@ -4,8 +4,11 @@ pub mod Packet
 pub mod Torus
 pub mod Layout
 pub mod Check
+pub mod CheckLaws
 pub mod Routes
+pub mod RoutesLaws
 pub mod Refusals
+pub mod RefusalLaws
 pub mod Calls
 pub mod Run
 pub mod Cases

@@ -1,0 +1,218 @@
+-- The check of a network as facts, and back: each Boolean definition of Check.antt is the record of its clauses that stands here.
+-- Order: a packet; a queue; the whole. Assumes nothing.
+use mathlib.Core.Path.{_≡_, refl, ap, sym, _∙_}
+use mathlib.Core.Logic.{_⊎_, inl, inr, _≢_}
+use mathlib.Core.Bool.{Bool, true, false, cond, not, _&&_, _||_}
+use mathlib.Core.List.{List, []}
+use Prim.Native.Nat.{ℕ, zero, suc, _+_, _*_, _/_, _<_, _≤_}
+use lib.Dec.{T, leb, ltb, eqb, leb→le, le→leb, ltb→lt, lt→ltb, eqb→eq, eqb-refl, T-not}
+use lib.ListN.{length}
+use Rattle.base.specs.Tests.{allBelow, allOf, and-l, and-r, and-i, or-l, or-r, or-e, all-at, all-by, passed?}
+use Rattle.network.specs.Sizes.{Shape, size, sizesInRange, nodes, queues, directions, dimensions, dimensionOf, directionOf, isEscape, injectionQueue, capacity}
+use Rattle.network.specs.Packet.{destination, distance, hops}
+use Rattle.network.specs.Torus.{movedBy}
+use Rattle.network.specs.Layout.{held, queuePart, countOf, unusedOf, need, accepted, delivered, movesMade}
+use Rattle.network.specs.Check.{rightPlace, isQueueOf, nearEnough, opposite, rightSign, lowerDone, packetFits, queueFits, queuesFit, ringHasRoom, ringsHaveRoom, packetsHeld, workLeft, mostAccepted, mostWork, countersFit, isNetwork}
+
+-- the test of an equation, as a fact and back
+pub eq-T : (a b : ℕ) → a ≡ b → T (eqb a b)
+eq-T a b e = rw e (eqb-refl b)
+
+-- the clauses for a packet p in queue q of node n
+pub record PacketFits (S : Shape) (n q p : ℕ) : Type 0 where
+  pub addressed : destination p < nodes S
+  pub arrives : movedBy S p n ≡ destination p
+  pub near : (i : ℕ) → i < dimensions → distance i p + cond (isQueueOf i q) 1 0 ≤ size S i / 2
+  pub sign : q ≢ injectionQueue → hops (opposite (directionOf q)) p ≡ 0
+  pub lower : T (isEscape q) → (i : ℕ) → i < dimensionOf (directionOf q) → distance i p ≡ 0
+
+pub packet-of : (S : Shape) (n q p : ℕ) → T (packetFits S n q p) → PacketFits S n q p
+unfolding packetFits rightPlace nearEnough rightSign lowerDone
+packet-of S n q p t =
+    record {
+      addressed = ltb→lt (destination p) (nodes S) (and-l (ltb (destination p) (nodes S)) (eqb (movedBy S p n) (destination p)) place);
+      arrives = eqb→eq (movedBy S p n) (destination p) (and-r (ltb (destination p) (nodes S)) (eqb (movedBy S p n) (destination p)) place);
+      near =
+          λ i h.
+          leb→le (distance i p + cond (isQueueOf i q) 1 0) (size S i / 2)
+          (all-at dimensions (λ j. leb (distance j p + cond (isQueueOf j q) 1 0) (size S j / 2)) (and-l (nearEnough S q p) (rightSign q p && lowerDone q p) rest) i h);
+      sign = λ ne. signed ne (or-e (eqb q injectionQueue) (eqb (hops (opposite (directionOf q)) p) 0) (and-l (rightSign q p) (lowerDone q p) last));
+      lower =
+          λ e i h.
+          low e i h (or-e (not (isEscape q)) (allBelow (dimensionOf (directionOf q)) (λ j. eqb (distance j p) 0)) (and-r (rightSign q p) (lowerDone q p) last));
+    }
+  where
+    place : T (rightPlace S n p)
+    place = and-l (rightPlace S n p) (nearEnough S q p && (rightSign q p && lowerDone q p)) t
+
+    rest : T (nearEnough S q p && (rightSign q p && lowerDone q p))
+    rest = and-r (rightPlace S n p) (nearEnough S q p && (rightSign q p && lowerDone q p)) t
+
+    last : T (rightSign q p && lowerDone q p)
+    last = and-r (nearEnough S q p) (rightSign q p && lowerDone q p) rest
+
+    signed : q ≢ injectionQueue → T (eqb q injectionQueue) ⊎ T (eqb (hops (opposite (directionOf q)) p) 0) → hops (opposite (directionOf q)) p ≡ 0
+    signed ne (inl e) = absurd (ne (eqb→eq q injectionQueue e))
+    signed ne (inr e) = eqb→eq (hops (opposite (directionOf q)) p) 0 e
+
+    low : T (isEscape q) → (i : ℕ) → i < dimensionOf (directionOf q) → T (not (isEscape q)) ⊎ T (allBelow (dimensionOf (directionOf q)) (λ j. eqb (distance j p) 0))
+        → distance i p ≡ 0
+    low e i h (inl no′) = absurd (T-not (isEscape q) no′ e)
+    low e i h (inr all) = eqb→eq (distance i p) 0 (all-at (dimensionOf (directionOf q)) (λ j. eqb (distance j p) 0) all i h)
+
+pub packet-by : (S : Shape) (n q p : ℕ) → PacketFits S n q p → T (packetFits S n q p)
+unfolding packetFits rightPlace nearEnough rightSign lowerDone
+packet-by S n q p f =
+    and-i (rightPlace S n p) (nearEnough S q p && (rightSign q p && lowerDone q p))
+    (and-i (ltb (destination p) (nodes S)) (eqb (movedBy S p n) (destination p))
+    (lt→ltb (destination p) (nodes S) (f .addressed))
+    (eq-T (movedBy S p n) (destination p) (f .arrives)))
+    (and-i (nearEnough S q p) (rightSign q p && lowerDone q p)
+    (all-by dimensions (λ j. leb (distance j p + cond (isQueueOf j q) 1 0) (size S j / 2))
+    (λ i h. le→leb (distance i p + cond (isQueueOf i q) 1 0) (size S i / 2) (f .near i h)))
+    (and-i (rightSign q p) (lowerDone q p) (signed (passed? (eqb q injectionQueue))) (low (passed? (isEscape q)))))
+  where
+    signed : T (eqb q injectionQueue) ⊎ T (not (eqb q injectionQueue)) → T (rightSign q p)
+    signed (inl e) = or-l (eqb q injectionQueue) (eqb (hops (opposite (directionOf q)) p) 0) e
+    signed (inr ne) =
+        or-r (eqb q injectionQueue) (eqb (hops (opposite (directionOf q)) p) 0)
+        (eq-T (hops (opposite (directionOf q)) p) 0 (f .sign (λ e. T-not (eqb q injectionQueue) ne (eq-T q injectionQueue e))))
+
+    low : T (isEscape q) ⊎ T (not (isEscape q)) → T (lowerDone q p)
+    low (inl e) =
+        or-r (not (isEscape q)) (allBelow (dimensionOf (directionOf q)) (λ j. eqb (distance j p) 0))
+        (all-by (dimensionOf (directionOf q)) (λ j. eqb (distance j p) 0) (λ i h. eq-T (distance i p) 0 (f .lower e i h)))
+    low (inr no′) = or-l (not (isEscape q)) (allBelow (dimensionOf (directionOf q)) (λ j. eqb (distance j p) 0)) no′
+
+-- the clauses for queue q of node n
+pub record QueueFits (S : Shape) (w : List ℕ) (n q : ℕ) : Type 0 where
+  pub few : countOf (queuePart S w n q) ≤ capacity S q
+  pub unused : T (allOf (eqb 0) (unusedOf (queuePart S w n q)))
+  pub packets : T (allOf (packetFits S n q) (held S w n q))
+
+pub queue-of : (S : Shape) (w : List ℕ) (n q : ℕ) → T (queueFits S w n q) → QueueFits S w n q
+unfolding queueFits
+queue-of S w n q t =
+    record {
+      few = leb→le (countOf (queuePart S w n q)) (capacity S q) (and-l a (b && c) t);
+      unused = and-l b c (and-r a (b && c) t);
+      packets = and-r b c (and-r a (b && c) t);
+    }
+  where
+    a : Bool
+    a = leb (countOf (queuePart S w n q)) (capacity S q)
+
+    b : Bool
+    b = allOf (eqb 0) (unusedOf (queuePart S w n q))
+
+    c : Bool
+    c = allOf (packetFits S n q) (held S w n q)
+
+pub queue-by : (S : Shape) (w : List ℕ) (n q : ℕ) → QueueFits S w n q → T (queueFits S w n q)
+unfolding queueFits
+queue-by S w n q f =
+    and-i a (b && c) (le→leb (countOf (queuePart S w n q)) (capacity S q) (f .few)) (and-i b c (f .unused) (f .packets))
+  where
+    a : Bool
+    a = leb (countOf (queuePart S w n q)) (capacity S q)
+
+    b : Bool
+    b = allOf (eqb 0) (unusedOf (queuePart S w n q))
+
+    c : Bool
+    c = allOf (packetFits S n q) (held S w n q)
+
+-- the clauses for the words
+pub record Network (S : Shape) (w : List ℕ) : Type 0 where
+  pub in-range : T (sizesInRange S)
+  pub long : need S ≤ length w
+  pub queue : (n q : ℕ) → n < nodes S → q < queues → QueueFits S w n q
+  pub ring : (d n : ℕ) → d < directions → n < nodes S → T (ringHasRoom S w d n)
+  pub few-accepted : accepted w ≤ mostAccepted
+  pub counted : delivered w + packetsHeld S w ≡ accepted w
+  pub bounded : movesMade w + workLeft S w ≤ mostWork * accepted w
+
+pub network-of : (S : Shape) (w : List ℕ) → T (isNetwork S w) → Network S w
+unfolding isNetwork queuesFit ringsHaveRoom countersFit
+network-of S w t =
+    record {
+      in-range = and-l (sizesInRange S) (b && (c && (d && e))) t;
+      long = leb→le (need S) (length w) (and-l b (c && (d && e)) t₁);
+      queue =
+          λ n q hn hq.
+          queue-of S w n q
+          (all-at queues (λ r. queueFits S w n r) (all-at (nodes S) (λ m. allBelow queues (λ r. queueFits S w m r)) (and-l c (d && e) t₂) n hn) q hq);
+      ring =
+          λ d′ n hd hn.
+          all-at (nodes S) (λ m. ringHasRoom S w d′ m)
+          (all-at directions (λ e′. allBelow (nodes S) (λ m. ringHasRoom S w e′ m)) (and-l d e t₃) d′ hd) n hn;
+      few-accepted = leb→le (accepted w) mostAccepted (and-l x (y && z) t₄);
+      counted = eqb→eq (delivered w + packetsHeld S w) (accepted w) (and-l y z (and-r x (y && z) t₄));
+      bounded = leb→le (movesMade w + workLeft S w) (mostWork * accepted w) (and-r y z (and-r x (y && z) t₄));
+    }
+  where
+    b : Bool
+    b = leb (need S) (length w)
+
+    c : Bool
+    c = queuesFit S w
+
+    d : Bool
+    d = ringsHaveRoom S w
+
+    e : Bool
+    e = countersFit S w
+
+    t₁ : T (b && (c && (d && e)))
+    t₁ = and-r (sizesInRange S) (b && (c && (d && e))) t
+
+    t₂ : T (c && (d && e))
+    t₂ = and-r b (c && (d && e)) t₁
+
+    t₃ : T (d && e)
+    t₃ = and-r c (d && e) t₂
+
+    t₄ : T e
+    t₄ = and-r d e t₃
+
+    x : Bool
+    x = leb (accepted w) mostAccepted
+
+    y : Bool
+    y = eqb (delivered w + packetsHeld S w) (accepted w)
+
+    z : Bool
+    z = leb (movesMade w + workLeft S w) (mostWork * accepted w)
+
+pub network-by : (S : Shape) (w : List ℕ) → Network S w → T (isNetwork S w)
+unfolding isNetwork queuesFit ringsHaveRoom countersFit
+network-by S w f =
+    and-i (sizesInRange S) (b && (c && (d && e))) (f .in-range)
+    (and-i b (c && (d && e)) (le→leb (need S) (length w) (f .long))
+    (and-i c (d && e)
+    (all-by (nodes S) (λ n. allBelow queues (λ q. queueFits S w n q)) (λ n hn. all-by queues (λ q. queueFits S w n q) (λ q hq. queue-by S w n q (f .queue n q hn hq))))
+    (and-i d e
+    (all-by directions (λ d′. allBelow (nodes S) (λ n. ringHasRoom S w d′ n)) (λ d′ hd. all-by (nodes S) (λ n. ringHasRoom S w d′ n) (λ n hn. f .ring d′ n hd hn)))
+    (and-i x (y && z) (le→leb (accepted w) mostAccepted (f .few-accepted))
+    (and-i y z (eq-T (delivered w + packetsHeld S w) (accepted w) (f .counted)) (le→leb (movesMade w + workLeft S w) (mostWork * accepted w) (f .bounded)))))))
+  where
+    b : Bool
+    b = leb (need S) (length w)
+
+    c : Bool
+    c = queuesFit S w
+
+    d : Bool
+    d = ringsHaveRoom S w
+
+    e : Bool
+    e = countersFit S w
+
+    x : Bool
+    x = leb (accepted w) mostAccepted
+
+    y : Bool
+    y = eqb (delivered w + packetsHeld S w) (accepted w)
+
+    z : Bool
+    z = leb (movesMade w + workLeft S w) (mostWork * accepted w)

@@ -1,0 +1,138 @@
+-- Refusals as facts: a chain of tests gives 0 exactly when none of them applies. Order: one test and two chains; words that are a network;
+-- a permitted move. Assumes nothing.
+use mathlib.Core.Path.{_≡_, refl, ap, sym, _∙_}
+use mathlib.Core.Logic.{_⊎_, inl, inr, _≢_}
+use mathlib.Core.Bool.{Bool, true, false, cond, not, _&&_}
+use mathlib.Core.List.{List}
+use Prim.Native.Nat.{ℕ, zero, suc, _+_, _-_, _*_, _<_, _≤_}
+use native.Mathlib.Nat.{le-trans, le-add-right}
+use native.Mathlib.Decide.{ℕ-discrete, decLt, decLe}
+use native.Mathlib.Omega.{arith}
+use borrow.Author.Tests.{eq-eqb, ne-eqb, le-leb, lt-leb, lt-ltb, le-ltb, ltb-false, leb-false, eqb-false}
+use lib.Dec.{T, leb, ltb, eqb, eqb→eq, eqb-refl}
+use lib.ListN.{length}
+use Rattle.base.specs.Tests.{elem, T-true, true-T, T-false, passed?}
+use Rattle.network.specs.Sizes.{Shape, sizesInRange, nodes, queues, isEscape}
+use Rattle.network.specs.Layout.{shape, headerWords, need, held}
+use Rattle.network.specs.Check.{isNetwork}
+use Rattle.network.specs.CheckLaws.{Network, network-of, network-by}
+use Rattle.network.specs.Routes.{routes, deliver, freeSlots, slotsNeeded}
+use Rattle.network.specs.Refusals.{refuse, elseBy, networkRefusal, head, flowRules, moveRules, moveRefusal, shortStore, wrongSize, noNetwork, noSuchNode, noSuchQueue, noSuchOutput, queueEmpty, noRoute, noSlot, noBubble}
+
+-- a test that would refuse by k + 1 did not apply, and the later ones say 0
+pub not-refused : (b : Bool) (k later : ℕ) → refuse b (suc k) later ≡ 0 → (b ≡ false) × (later ≡ 0)
+not-refused true k later e = absurd (native.Mathlib.Nat.suc-ne-zero k e)
+not-refused false k later e = (refl, e)
+
+pub passes : (b : Bool) (k later : ℕ) → b ≡ false → later ≡ 0 → refuse b k later ≡ 0
+passes b k later e z = ap (λ (t : Bool). refuse t k later) e ∙ z
+
+pub neither : (earlier later : ℕ) → elseBy earlier later ≡ 0 → (earlier ≡ 0) × (later ≡ 0)
+neither earlier later e = go (ℕ-discrete earlier 0)
+  where
+    go : Dec (earlier ≡ 0) → (earlier ≡ 0) × (later ≡ 0)
+    go (yes z) = (z, rw (eq-eqb earlier 0 z) at e)
+    go (no ne) = absurd (ne (rw (ne-eqb earlier 0 ne) at e))
+
+pub elseBy-zero : (earlier later : ℕ) → earlier ≡ 0 → elseBy earlier later ≡ later
+elseBy-zero earlier later z = rw (eq-eqb earlier 0 z)
+
+pub elseBy-first : (earlier later : ℕ) → earlier ≢ 0 → elseBy earlier later ≡ earlier
+elseBy-first earlier later ne = rw (ne-eqb earlier 0 ne)
+
+not-not : (b : Bool) → not b ≡ false → b ≡ true
+not-not true e = refl
+not-not false e = absurd (mathlib.Core.Bool.true≢false e)
+
+-- words that no test refuses are a network, and the other way round
+pub network-passed : (w : List ℕ) → networkRefusal w ≡ 0 → Network (shape w) w
+unfolding networkRefusal
+network-passed w e =
+    let (a, e₁) = not-refused (ltb (length w) headerWords) 0 _ e in
+    let (b, e₂) = not-refused (not (sizesInRange (shape w))) 1 _ e₁ in
+    let (c, e₃) = not-refused (ltb (length w) (need (shape w))) 0 _ e₂ in
+    let (d, e₄) = not-refused (not (isNetwork (shape w) w)) 2 _ e₃ in
+    network-of (shape w) w (true-T (isNetwork (shape w) w) (not-not (isNetwork (shape w) w) d))
+
+pub network-passes : (w : List ℕ) → Network (shape w) w → networkRefusal w ≡ 0
+unfolding networkRefusal need
+network-passes w f =
+    let l : need (shape w) ≤ length w = f .long in
+    passes (ltb (length w) headerWords) shortStore _ (le-ltb (length w) headerWords (le-trans (le-add-right headerWords _) l))
+    (passes (not (sizesInRange (shape w))) wrongSize _ (ap not (T-true (sizesInRange (shape w)) (f .in-range)))
+    (passes (ltb (length w) (need (shape w))) shortStore _ (le-ltb (length w) (need (shape w)) l)
+    (passes (not (isNetwork (shape w) w)) noNetwork 0 (ap not (T-true (isNetwork (shape w) w) (network-by (shape w) w f))) refl)))
+
+-- a move that no rule refuses
+pub record Permitted (S : Shape) (w : List ℕ) (n q o : ℕ) : Type 0 where
+  pub node : n < nodes S
+  pub queue : q < queues
+  pub output : o < queues
+  pub holds : length (held S w n q) ≢ 0
+  pub route : T (elem o (routes q (head (held S w n q))))
+  pub room : o ≢ deliver → slotsNeeded q o ≤ freeSlots S w n o
+
+-- the flow rules let an output pass exactly when it delivers or as many slots are free as it needs
+pub flow-of : (S : Shape) (w : List ℕ) (n q o : ℕ) → flowRules S w n q o ≡ 0 → o ≢ deliver → slotsNeeded q o ≤ freeSlots S w n o
+unfolding flowRules
+flow-of S w n q o e ne = go (rw (ne-eqb o deliver ne) at e)
+  where
+    go : refuse (eqb (freeSlots S w n o) 0) noSlot (refuse (ltb (freeSlots S w n o) (slotsNeeded q o)) noBubble 0) ≡ 0 → slotsNeeded q o ≤ freeSlots S w n o
+    go r =
+        let (a, r₁) = not-refused (eqb (freeSlots S w n o) 0) 10 _ r in
+        let (b, r₂) = not-refused (ltb (freeSlots S w n o) (slotsNeeded q o)) 11 _ r₁ in
+        ltb-false (freeSlots S w n o) (slotsNeeded q o) b
+
+needed-pos : (q o : ℕ) → 0 < slotsNeeded q o
+unfolding slotsNeeded
+needed-pos q o = go (isEscape o && not (eqb q o))
+  where
+    go : (b : Bool) → 0 < cond b 2 1
+    go true = omega arith
+    go false = omega arith
+
+pub flow-by : (S : Shape) (w : List ℕ) (n q o : ℕ) → (o ≢ deliver → slotsNeeded q o ≤ freeSlots S w n o) → flowRules S w n q o ≡ 0
+unfolding flowRules
+flow-by S w n q o h = go (ℕ-discrete o deliver)
+  where
+    free : ℕ
+    free = freeSlots S w n o
+
+    go : Dec (o ≡ deliver) → cond (eqb o deliver) 0 (refuse (eqb free 0) noSlot (refuse (ltb free (slotsNeeded q o)) noBubble 0)) ≡ 0
+    go (yes e) = rw (eq-eqb o deliver e)
+    go (no ne) =
+        let l : slotsNeeded q o ≤ free = h ne in
+        let p : 0 < slotsNeeded q o = needed-pos q o in
+        rw (ne-eqb o deliver ne)
+        (passes (eqb free 0) noSlot _ (ne-eqb free 0 (λ z. nonzero free (slotsNeeded q o) l p z))
+        (passes (ltb free (slotsNeeded q o)) noBubble 0 (le-ltb free (slotsNeeded q o) l) refl))
+      where
+        nonzero : (f s : ℕ) → s ≤ f → 0 < s → f ≡ 0 → ⊥
+        nonzero f s l p z = omega arith
+
+pub permitted-of : (S : Shape) (w : List ℕ) (n q o : ℕ) → moveRules S w n q o ≡ 0 → Permitted S w n q o
+unfolding moveRules
+permitted-of S w n q o e =
+    let (a, e₁) = not-refused (leb (nodes S) n) 3 _ e in
+    let (b, e₂) = not-refused (leb queues q) 4 _ e₁ in
+    let (c, e₃) = not-refused (leb queues o) 5 _ e₂ in
+    let (d, e₄) = not-refused (eqb (length (held S w n q)) 0) 8 _ e₃ in
+    let (r, e₅) = not-refused (not (elem o (routes q (head (held S w n q))))) 9 _ e₄ in
+    record {
+      node = leb-false (nodes S) n a;
+      queue = leb-false queues q b;
+      output = leb-false queues o c;
+      holds = eqb-false (length (held S w n q)) 0 d;
+      route = true-T (elem o (routes q (head (held S w n q)))) (not-not (elem o (routes q (head (held S w n q)))) r);
+      room = flow-of S w n q o e₅;
+    }
+
+pub permitted-by : (S : Shape) (w : List ℕ) (n q o : ℕ) → Permitted S w n q o → moveRules S w n q o ≡ 0
+unfolding moveRules
+permitted-by S w n q o p =
+    passes (leb (nodes S) n) noSuchNode _ (lt-leb (nodes S) n (p .node))
+    (passes (leb queues q) noSuchQueue _ (lt-leb queues q (p .queue))
+    (passes (leb queues o) noSuchOutput _ (lt-leb queues o (p .output))
+    (passes (eqb (length (held S w n q)) 0) queueEmpty _ (ne-eqb (length (held S w n q)) 0 (p .holds))
+    (passes (not (elem o (routes q (head (held S w n q))))) noRoute _ (ap not (T-true (elem o (routes q (head (held S w n q)))) (p .route)))
+    (flow-by S w n q o (p .room))))))
