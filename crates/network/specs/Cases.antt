@@ -16,7 +16,7 @@ use Rattle.network.specs.Sizes.{Shape, size, within, sizesInRange, nodes
 use Rattle.network.specs.Packet.{signed, byte, place, packetWord, tag, destination, offset, withOffset, distance, forward, backward, hops, heading, hopsLeft, work, shrunk, hop, shorterWay}
 use Rattle.network.specs.Torus.{coordinate, stride, along, neighbour, movedBelow, movedBy}
 use Rattle.network.specs.Layout.{shape, accepted, delivered, movesMade, raised, acceptedAt, queueLength, nodeWords, queueStart, queueEnd, need, queueWords, queuePart, countOf, packetsOf, unusedOf, held, putQueue, total}
-use Rattle.network.specs.Check.{rightPlace, isQueueOf, nearEnough, opposite, rightSign, lowerDone, packetFits, queueFits, queuesFit, hasRoom, ringHasRoom, ringsHaveRoom, packetsHeld, workLeft, countersFit, isNetwork}
+use Rattle.network.specs.Check.{rightPlace, isQueueOf, reach, nearEnough, opposite, rightSign, lowerDone, packetFits, queueFits, queuesFit, hasRoom, ringHasRoom, ringsHaveRoom, packetsHeld, workLeft, countersFit, isNetwork}
 use Rattle.network.specs.Routes.{inOrder, without, incoming, incomingFirst, headings, routes, target, freeSlots, slotsNeeded}
 use Rattle.network.specs.Refusals.{networkRefusal, makeRefusal, offerRules, offerRefusal, head, flowRules, moveRules, moveRefusal}
 use Rattle.network.specs.Calls.{shapeOf, emptyNetwork, makeWords, offered, afterOffer, offerWords, headLeaves, packetArrives, afterMove, firstOutput, firstInQueue, orElse, search, firstInNode, firstMove, firstAnswer, stopped, oneMore, deliverNext, moveNext, drainFrom, drained, drainAnswer}
@@ -98,7 +98,7 @@ pub record KeptCases : Type 0 where
       × ((room : ℕ) → drainAnswer (offerWords (empty 1 1 2 1 1) 0 0 0) 10 (suc room) ≡ Drained.Stopped 1 1 Stop.Emptied)
 
 pub keptCases : KeptCases
-unfolding allBelow someBelow allOf elem sumBelow sumOf product digit putDigit turn size within sizesInRange nodes capacity signed byte place packetWord tag destination offset withOffset distance forward backward hops heading hopsLeft work shrunk hop shorterWay coordinate stride along neighbour movedBelow movedBy shape accepted delivered movesMade raised queueLength nodeWords queueStart queueEnd need queueWords queuePart countOf packetsOf unusedOf held putQueue total rightPlace isQueueOf nearEnough opposite rightSign lowerDone packetFits queueFits queuesFit hasRoom ringHasRoom ringsHaveRoom packetsHeld workLeft countersFit isNetwork inOrder without incoming incomingFirst headings routes target freeSlots slotsNeeded networkRefusal makeRefusal offerRules offerRefusal head flowRules moveRules moveRefusal shapeOf emptyNetwork makeWords offered afterOffer offerWords headLeaves packetArrives afterMove firstOutput firstInQueue orElse search firstInNode firstMove firstAnswer stopped oneMore deliverNext moveNext drainFrom drained drainAnswer
+unfolding allBelow someBelow allOf elem sumBelow sumOf product digit putDigit turn size within sizesInRange nodes capacity signed byte place packetWord tag destination offset withOffset distance forward backward hops heading hopsLeft work shrunk hop shorterWay coordinate stride along neighbour movedBelow movedBy shape accepted delivered movesMade raised queueLength nodeWords queueStart queueEnd need queueWords queuePart countOf packetsOf unusedOf held putQueue total rightPlace isQueueOf reach nearEnough opposite rightSign lowerDone packetFits queueFits queuesFit hasRoom ringHasRoom ringsHaveRoom packetsHeld workLeft countersFit isNetwork inOrder without incoming incomingFirst headings routes target freeSlots slotsNeeded networkRefusal makeRefusal offerRules offerRefusal head flowRules moveRules moveRefusal shapeOf emptyNetwork makeWords offered afterOffer offerWords headLeaves packetArrives afterMove firstOutput firstInQueue orElse search firstInNode firstMove firstAnswer stopped oneMore deliverNext moveNext drainFrom drained drainAnswer
 keptCases =
     record {
       k1 = refl;

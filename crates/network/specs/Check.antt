@@ -20,9 +20,12 @@ rightPlace S n p = ltb (destination p) (nodes S) && eqb (movedBy S p n) (destina
 unfoldable pub isQueueOf : ℕ → ℕ → Bool
 isQueueOf i q = not (eqb q injectionQueue) && eqb (dimensionOf (directionOf q)) i
 
--- "|dx| is at most X/2 rounded down; in an x queue |dx| + 1 is too; the same for dy with Y."
+-- "|dx| is at most X/2 rounded down; in an x queue |dx| + 1 is too; the same for dy with Y.": what must not be more than half of the size
+unfoldable pub reach : ℕ → ℕ → ℕ → ℕ
+reach i q p = cond (isQueueOf i q) (distance i p + 1) (distance i p)
+
 unfoldable pub nearEnough : Shape → ℕ → ℕ → Bool
-nearEnough S q p = allBelow dimensions (λ i. leb (distance i p + cond (isQueueOf i q) 1 0) (size S i / 2))
+nearEnough S q p = allBelow dimensions (λ i. leb (reach i q p) (size S i / 2))
 
 -- "In plus queues the offset of that dimension is not negative, in minus queues not positive.": no hop is left the other way
 unfoldable pub opposite : ℕ → ℕ

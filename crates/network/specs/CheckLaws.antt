@@ -12,7 +12,7 @@ use Rattle.network.specs.Sizes.{Shape, size, sizesInRange, nodes, queues
 use Rattle.network.specs.Packet.{destination, distance, hops}
 use Rattle.network.specs.Torus.{movedBy}
 use Rattle.network.specs.Layout.{held, queuePart, countOf, unusedOf, need, accepted, delivered, movesMade}
-use Rattle.network.specs.Check.{rightPlace, isQueueOf, nearEnough, opposite, rightSign, lowerDone, packetFits, queueFits, queuesFit, ringHasRoom, ringsHaveRoom, packetsHeld, workLeft, mostAccepted, mostWork, countersFit, isNetwork}
+use Rattle.network.specs.Check.{rightPlace, reach, nearEnough, opposite, rightSign, lowerDone, packetFits, queueFits, queuesFit, ringHasRoom, ringsHaveRoom, packetsHeld, workLeft, mostAccepted, mostWork, countersFit, isNetwork}
 
 -- the test of an equation, as a fact and back
 pub eq-T : (a b : ℕ) → a ≡ b → T (eqb a b)
@@ -22,7 +22,7 @@ eq-T a b e = rw e (eqb-refl b)
 pub record PacketFits (S : Shape) (n q p : ℕ) : Type 0 where
   pub addressed : destination p < nodes S
   pub arrives : movedBy S p n ≡ destination p
-  pub near : (i : ℕ) → i < dimensions → distance i p + cond (isQueueOf i q) 1 0 ≤ size S i / 2
+  pub near : (i : ℕ) → i < dimensions → reach i q p ≤ size S i / 2
   pub sign : q ≢ injectionQueue → hops (opposite (directionOf q)) p ≡ 0
   pub lower : T (isEscape q) → (i : ℕ) → i < dimensionOf (directionOf q) → distance i p ≡ 0
 
@@ -34,8 +34,8 @@ packet-of S n q p t =
       arrives = eqb→eq (movedBy S p n) (destination p) (and-r (ltb (destination p) (nodes S)) (eqb (movedBy S p n) (destination p)) place);
       near =
           λ i h.
-          leb→le (distance i p + cond (isQueueOf i q) 1 0) (size S i / 2)
-          (all-at dimensions (λ j. leb (distance j p + cond (isQueueOf j q) 1 0) (size S j / 2)) (and-l (nearEnough S q p) (rightSign q p && lowerDone q p) rest) i h);
+          leb→le (reach i q p) (size S i / 2)
+          (all-at dimensions (λ j. leb (reach j q p) (size S j / 2)) (and-l (nearEnough S q p) (rightSign q p && lowerDone q p) rest) i h);
       sign = λ ne. signed ne (or-e (eqb q injectionQueue) (eqb (hops (opposite (directionOf q)) p) 0) (and-l (rightSign q p) (lowerDone q p) last));
       lower =
           λ e i h.
@@ -68,8 +68,8 @@ packet-by S n q p f =
     (lt→ltb (destination p) (nodes S) (f .addressed))
     (eq-T (movedBy S p n) (destination p) (f .arrives)))
     (and-i (nearEnough S q p) (rightSign q p && lowerDone q p)
-    (all-by dimensions (λ j. leb (distance j p + cond (isQueueOf j q) 1 0) (size S j / 2))
-    (λ i h. le→leb (distance i p + cond (isQueueOf i q) 1 0) (size S i / 2) (f .near i h)))
+    (all-by dimensions (λ j. leb (reach j q p) (size S j / 2))
+    (λ i h. le→leb (reach i q p) (size S i / 2) (f .near i h)))
     (and-i (rightSign q p) (lowerDone q p) (signed (passed? (eqb q injectionQueue))) (low (passed? (isEscape q)))))
   where
     signed : T (eqb q injectionQueue) ⊎ T (not (eqb q injectionQueue)) → T (rightSign q p)

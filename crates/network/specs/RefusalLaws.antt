@@ -75,13 +75,10 @@ pub record Permitted (S : Shape) (w : List ℕ) (n q o : ℕ) : Type 0 where
 -- the flow rules let an output pass exactly when it delivers or as many slots are free as it needs
 pub flow-of : (S : Shape) (w : List ℕ) (n q o : ℕ) → flowRules S w n q o ≡ 0 → o ≢ deliver → slotsNeeded q o ≤ freeSlots S w n o
 unfolding flowRules
-flow-of S w n q o e ne = go (rw (ne-eqb o deliver ne) at e)
-  where
-    go : refuse (eqb (freeSlots S w n o) 0) noSlot (refuse (ltb (freeSlots S w n o) (slotsNeeded q o)) noBubble 0) ≡ 0 → slotsNeeded q o ≤ freeSlots S w n o
-    go r =
-        let (a, r₁) = not-refused (eqb (freeSlots S w n o) 0) 10 _ r in
-        let (b, r₂) = not-refused (ltb (freeSlots S w n o) (slotsNeeded q o)) 11 _ r₁ in
-        ltb-false (freeSlots S w n o) (slotsNeeded q o) b
+flow-of S w n q o e ne =
+    let (a, r₁) = not-refused (eqb (freeSlots S w n o) 0) 10 _ (rw (ne-eqb o deliver ne) at e) in
+    let (b, r₂) = not-refused (ltb (freeSlots S w n o) (slotsNeeded q o)) 11 _ r₁ in
+    ltb-false (freeSlots S w n o) (slotsNeeded q o) b
 
 needed-pos : (q o : ℕ) → 0 < slotsNeeded q o
 unfolding slotsNeeded
