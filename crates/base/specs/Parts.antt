@@ -8,7 +8,7 @@ use native.Mathlib.Nat.{add-zero}
 use native.Mathlib.Decide.{decLt, decLe}
 use native.Mathlib.Omega.{arith}
 use lib.ListN.{length, getD, take, drop, set, length-append, length-take, length-drop, length-set, List·getD-append}
-use lib.Seq.{length-take-le, getD-take, getD-drop, getD-append-add, ext-getD, getD-set-other, getD-set-same, drop-set-lt, take-set-le}
+use lib.Seq.{length-take-le, getD-take, getD-drop, getD-append-add, ext-getD, getD-set-other, getD-set-same, drop-set-lt, take-set-le, take-at, drop-at}
 
 abbrev pub span : List ℕ → ℕ → ℕ → List ℕ
 span w a e = take (e - a) (drop a w)
@@ -112,3 +112,11 @@ splice-span w a e h k =
 -- one word set before a part, or behind it
 pub span-set-before : (w : List ℕ) (i v a e : ℕ) → i < a → span (set w i v) a e ≡ span w a e
 span-set-before w i v a e h = ap (take (e - a)) (drop-set-lt a w i v h)
+
+-- of two parts put in at one place the later stays
+pub splice-splice : (w : List ℕ) (a e : ℕ) (p r : List ℕ) → length p ≡ e - a → a ≤ length w → splice (splice w a e p) a e r ≡ splice w a e r
+splice-splice w a e p r l h =
+    let la : length (take a w) ≡ a = length-take-le a w h in
+    ap₂ (λ (x y : List ℕ). x ++ (r ++ y))
+    (take-at (take a w) (p ++ drop (e - a) (drop a w)) a la)
+    (ap (drop (e - a)) (drop-at (take a w) (p ++ drop (e - a) (drop a w)) a la) ∙ drop-at p (drop (e - a) (drop a w)) (e - a) l)

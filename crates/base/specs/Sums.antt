@@ -5,6 +5,7 @@ use mathlib.Core.Bool.{Bool, true, false, cond}
 use mathlib.Core.List.{List, [], _∷_, _++_}
 use mathlib.Core.Logic.{_⊎_, inl, inr, _≢_}
 use Prim.Native.Nat.{ℕ, zero, suc, _+_, _<_, _≤_}
+use native.Mathlib.Decide.{ℕ-discrete}
 use native.Mathlib.Nat.{eq-or-lt-of-le, le-of-suc-le-suc, not-suc-le-zero, le-step, lt-suc-self, ne-of-gt, lt-irrefl}
 use native.Mathlib.Omega.{arith}
 
@@ -64,3 +65,23 @@ sum-zero (suc n) f h =
     let low : sumBelow n f ≡ 0 = sum-zero n f (λ i k. h i (le-step k)) in
     let top : f n ≡ 0 = h n (lt-suc-self n) in
     omega arith
+
+-- a sum over fewer numbers is at most the sum over more
+pub sum-fewer : (m n : ℕ) (f : ℕ → ℕ) → m ≤ n → sumBelow m f ≤ sumBelow n f
+unfolding sumBelow
+sum-fewer m zero f h = let e : m ≡ 0 = omega arith in rw e (omega arith)
+sum-fewer m (suc n) f h = go (eq-or-lt-of-le h) (λ h′. sum-fewer m n f h′)
+  where
+    go : (m ≡ suc n) ⊎ (m < suc n) → (m ≤ n → sumBelow m f ≤ sumBelow n f) → sumBelow m f ≤ sumBelow n f + f n
+    go (inl e) r = rw e (omega arith)
+    go (inr h′) r = let l = r (le-of-suc-le-suc h′) in omega arith
+
+-- a sum that is not 0 has a term that is not 0
+pub some-term : (n : ℕ) (f : ℕ → ℕ) → sumBelow n f ≢ 0 → (i : ℕ) × (i < n) × (f i ≢ 0)
+unfolding sumBelow
+some-term zero f ne = absurd (ne refl)
+some-term (suc n) f ne = go (ℕ-discrete (f n) 0) (λ low. some-term n f low)
+  where
+    go : Dec (f n ≡ 0) → (sumBelow n f ≢ 0 → (i : ℕ) × (i < n) × (f i ≢ 0)) → (i : ℕ) × (i < suc n) × (f i ≢ 0)
+    go (yes e) r = let (i, h, k) = r (λ z. ne (let s : sumBelow n f ≡ 0 = z in omega arith)) in (i, le-step h, k)
+    go (no k) r = (n, lt-suc-self n, k)

@@ -3,6 +3,7 @@ pub mod Sizes
 pub mod Packet
 pub mod Torus
 pub mod Layout
+pub mod LayoutLaws
 pub mod Check
 pub mod CheckLaws
 pub mod Routes
