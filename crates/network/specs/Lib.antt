@@ -11,5 +11,6 @@ pub mod RoutesLaws
 pub mod Refusals
 pub mod RefusalLaws
 pub mod Calls
+pub mod FirstLaws
 pub mod Run
 pub mod Cases
