@@ -1,0 +1,453 @@
+-- Laws of the packet word (Packet.antt). Order: signed bytes; a word with one offset replaced; a hop; hops left by direction and in all; the
+-- label; the word that fields make; the shorter way round. `i` and `j` are dimensions, `d` a direction, `p` any number. Assumes nothing.
+use mathlib.Core.Path.{_≡_, refl, ap, ap₂, sym, _∙_}
+use mathlib.Core.Bool.{Bool, true, false, cond}
+use mathlib.Core.Logic.{_⊎_, inl, inr, _≢_}
+use Prim.Native.Nat.{ℕ, zero, suc, _+_, _*_, _-_, _/_, _%_, _^_, _<_, _≤_}
+use native.Mathlib.Nat.{mod-lt, add-mod-mod, add-mod-right, mod-eq-of-lt, add-mul-mod-self-right, suc-mul, mul-suc, div-div-eq-div-mul}
+use native.Mathlib.Omega.{arith}
+use native.Mathlib.Decide.{ℕ-discrete, decLt, decLe}
+use lib.Dec.{leb, ltb, eqb}
+use lib.IntN.{ℤ, pos, negsuc, natAbs}
+use borrow.Author.Tests.{lt-ltb, le-ltb, le-leb, lt-leb, eq-eqb, ne-eqb}
+use Rattle.base.specs.Sums.{sumBelow, sum-same, sum-change, term-le}
+use Rattle.network.specs.Sizes.{dimensions, directions, dimensionOf, isPlus, plus, minus}
+use Rattle.network.specs.Packet.{signed, byte, place, packetWord, tag, destination, offset, withOffset, distance, forward, backward, hops, heading, hopsLeft, work, shrunk, hop, label, shorterWay}
+
+-- a choice whose test is known
+chosen : {A : Type 0} (b : Bool) (x y : A) → b ≡ true → cond b x y ≡ x
+chosen b x y e = ap (λ c. cond c x y) e
+
+passed-over : {A : Type 0} (b : Bool) (x y : A) → b ≡ false → cond b x y ≡ y
+passed-over b x y e = ap (λ c. cond c x y) e
+
+-- Signed bytes ------------------------------------------------------------------------------------------------------------------------
+
+-- the numbers that a byte stands for: -128 to 127
+pub record ByteRange (z : ℤ) : Type 0 where
+  pub most : forward z < 128
+  pub least : backward z ≤ 128
+
+pub signed-small : (b : ℕ) → b < 128 → signed b ≡ pos b
+unfolding signed
+signed-small b h = chosen (ltb b 128) (pos b) (negsuc (255 - b)) (lt-ltb b 128 h)
+
+pub signed-large : (b : ℕ) → 128 ≤ b → signed b ≡ negsuc (255 - b)
+unfolding signed
+signed-large b h = passed-over (ltb b 128) (pos b) (negsuc (255 - b)) (le-ltb b 128 h)
+
+pub signed-byte : (b : ℕ) → b < 256 → byte (signed b) ≡ b
+unfolding byte
+signed-byte b h = go (decLt b 128)
+  where
+    go : Dec (b < 128) → byte (signed b) ≡ b
+    go (yes l) = ap byte (signed-small b l)
+    go (no g) = ap byte (signed-large b (omega arith)) ∙ omega arith
+
+pub byte-signed : (z : ℤ) → ByteRange z → signed (byte z) ≡ z
+unfolding byte forward backward
+byte-signed (pos n) r = signed-small n (r .most)
+byte-signed (negsuc n) r = let l : suc n ≤ 128 = r .least in signed-large (255 - n) (omega arith) ∙ ap negsuc (omega arith)
+
+pub byte-lt : {z : ℤ} → ByteRange z → byte z < 256
+unfolding byte forward backward
+byte-lt {z} r = go z r
+  where
+    go : (z : ℤ) → ByteRange z → byte z < 256
+    go (pos n) r = let l : n < 128 = r .most in omega arith
+    go (negsuc n) r = omega arith
+
+pub signed-range : (b : ℕ) → ByteRange (signed b)
+unfolding forward backward
+signed-range b = go (decLt b 128)
+  where
+    go : Dec (b < 128) → ByteRange (signed b)
+    go (yes l) = rw (signed-small b l) (record { most = l; least = omega arith })
+    go (no g) = rw (signed-large b (omega arith)) (record { most = omega arith; least = omega arith })
+
+pub offset-range : (i p : ℕ) → ByteRange (offset i p)
+unfolding offset
+offset-range i p = signed-range (p / place i % 256)
+
+pub shrunk-range : (z : ℤ) → ByteRange z → ByteRange (shrunk z)
+unfolding shrunk forward backward
+shrunk-range (pos n) r = let l : n < 128 = r .most in record { most = omega arith; least = omega arith }
+shrunk-range (negsuc zero) r = record { most = omega arith; least = omega arith }
+shrunk-range (negsuc (suc n)) r = let l : suc (suc n) ≤ 128 = r .least in record { most = omega arith; least = omega arith }
+
+-- A word with the offset of one dimension replaced -------------------------------------------------------------------------------------
+
+no-dimension : {A : Type 0} (i : ℕ) → suc (suc i) < dimensions → A
+no-dimension i h = absurd (no i h)
+  where
+    no : (i : ℕ) → suc (suc i) < dimensions → ⊥
+    no i h = omega arith
+
+byte-with-same : (i : ℕ) (z : ℤ) (p : ℕ) → i < dimensions → byte z < 256 → withOffset i z p / place i % 256 ≡ byte z
+unfolding withOffset place
+byte-with-same zero z p h b = omega arith
+byte-with-same (suc zero) z p h b = omega arith
+byte-with-same (suc (suc i)) z p h b = no-dimension i h
+
+byte-with-other : (i j : ℕ) (z : ℤ) (p : ℕ) → i < dimensions → j < dimensions → j ≢ i → byte z < 256
+    → withOffset i z p / place j % 256 ≡ p / place j % 256
+unfolding withOffset place
+byte-with-other zero zero z p h k ne b = absurd (ne refl)
+byte-with-other zero (suc zero) z p h k ne b = omega arith
+byte-with-other zero (suc (suc j)) z p h k ne b = no-dimension j k
+byte-with-other (suc zero) zero z p h k ne b = omega arith
+byte-with-other (suc zero) (suc zero) z p h k ne b = absurd (ne refl)
+byte-with-other (suc zero) (suc (suc j)) z p h k ne b = no-dimension j k
+byte-with-other (suc (suc i)) j z p h k ne b = no-dimension i h
+
+-- all that stands above the offsets is unchanged
+above-with : (i : ℕ) (z : ℤ) (p : ℕ) → i < dimensions → byte z < 256 → withOffset i z p / 2 ^ 16 ≡ p / 2 ^ 16
+unfolding withOffset place
+above-with zero z p h b = omega arith
+above-with (suc zero) z p h b = omega arith
+above-with (suc (suc i)) z p h b = no-dimension i h
+
+pub offset-with-same : (i : ℕ) (z : ℤ) (p : ℕ) → i < dimensions → ByteRange z → offset i (withOffset i z p) ≡ z
+unfolding offset
+offset-with-same i z p h r = ap signed (byte-with-same i z p h (byte-lt r)) ∙ byte-signed z r
+
+pub offset-with-other : (i j : ℕ) (z : ℤ) (p : ℕ) → i < dimensions → j < dimensions → j ≢ i → ByteRange z → offset j (withOffset i z p) ≡ offset j p
+unfolding offset
+offset-with-other i j z p h k ne r = ap signed (byte-with-other i j z p h k ne (byte-lt r))
+
+pub destination-with : (i : ℕ) (z : ℤ) (p : ℕ) → i < dimensions → ByteRange z → destination (withOffset i z p) ≡ destination p
+unfolding destination
+destination-with i z p h r = ap (λ (q : ℕ). q % 2 ^ 16) (above-with i z p h (byte-lt r))
+
+pub tag-with : (i : ℕ) (z : ℤ) (p : ℕ) → i < dimensions → ByteRange z → tag (withOffset i z p) ≡ tag p
+unfolding tag
+tag-with i z p h r = let e = above-with i z p h (byte-lt r) in omega arith
+
+pub label-with : (i : ℕ) (z : ℤ) (p : ℕ) → i < dimensions → ByteRange z → label (withOffset i z p) ≡ label p
+unfolding label
+label-with i z p h r = ap (λ (q : ℕ). q * 2 ^ 16) (above-with i z p h (byte-lt r))
+
+pub with-lt : (i : ℕ) (z : ℤ) (p : ℕ) → i < dimensions → ByteRange z → p < 2 ^ 64 → withOffset i z p < 2 ^ 64
+with-lt i z p h r l = let e = above-with i z p h (byte-lt r) in omega arith
+
+-- A hop -------------------------------------------------------------------------------------------------------------------------------
+
+hop-range : (i p : ℕ) → ByteRange (shrunk (offset i p))
+hop-range i p = shrunk-range (offset i p) (offset-range i p)
+
+pub destination-hop : (i p : ℕ) → i < dimensions → destination (hop i p) ≡ destination p
+unfolding hop
+destination-hop i p h = destination-with i (shrunk (offset i p)) p h (hop-range i p)
+
+pub tag-hop : (i p : ℕ) → i < dimensions → tag (hop i p) ≡ tag p
+unfolding hop
+tag-hop i p h = tag-with i (shrunk (offset i p)) p h (hop-range i p)
+
+pub label-hop : (i p : ℕ) → i < dimensions → label (hop i p) ≡ label p
+unfolding hop
+label-hop i p h = label-with i (shrunk (offset i p)) p h (hop-range i p)
+
+pub hop-lt : (i p : ℕ) → i < dimensions → p < 2 ^ 64 → hop i p < 2 ^ 64
+unfolding hop
+hop-lt i p h l = with-lt i (shrunk (offset i p)) p h (hop-range i p) l
+
+pub offset-hop-same : (i p : ℕ) → i < dimensions → offset i (hop i p) ≡ shrunk (offset i p)
+unfolding hop
+offset-hop-same i p h = offset-with-same i (shrunk (offset i p)) p h (hop-range i p)
+
+pub offset-hop-other : (i j p : ℕ) → i < dimensions → j < dimensions → j ≢ i → offset j (hop i p) ≡ offset j p
+unfolding hop
+offset-hop-other i j p h k ne = offset-with-other i j (shrunk (offset i p)) p h k ne (hop-range i p)
+
+natAbs-shrunk : (z : ℤ) → natAbs (shrunk z) ≡ natAbs z - 1
+unfolding shrunk
+natAbs-shrunk (pos n) = refl
+natAbs-shrunk (negsuc zero) = refl
+natAbs-shrunk (negsuc (suc n)) = omega arith
+
+pub distance-hop-same : (i p : ℕ) → i < dimensions → distance i (hop i p) ≡ distance i p - 1
+unfolding distance
+distance-hop-same i p h = ap natAbs (offset-hop-same i p h) ∙ natAbs-shrunk (offset i p)
+
+pub distance-hop-other : (i j p : ℕ) → i < dimensions → j < dimensions → j ≢ i → distance j (hop i p) ≡ distance j p
+unfolding distance
+distance-hop-other i j p h k ne = ap natAbs (offset-hop-other i j p h k ne)
+
+-- Hops left by direction --------------------------------------------------------------------------------------------------------------
+
+shrunk-part : (b : Bool) (z : ℤ) → cond b (forward (shrunk z)) (backward (shrunk z)) ≡ cond b (forward z) (backward z) - 1
+unfolding shrunk forward backward
+shrunk-part true (pos n) = refl
+shrunk-part true (negsuc zero) = refl
+shrunk-part true (negsuc (suc n)) = refl
+shrunk-part false (pos n) = refl
+shrunk-part false (negsuc zero) = refl
+shrunk-part false (negsuc (suc n)) = omega arith
+
+pub dimension-lt : (d : ℕ) → d < directions → dimensionOf d < dimensions
+dimension-lt d h = omega arith
+
+pub hops-hop-same : (d p : ℕ) → d < directions → hops d (hop (dimensionOf d) p) ≡ hops d p - 1
+unfolding hops
+hops-hop-same d p h =
+    ap (λ z. cond (isPlus d) (forward z) (backward z)) (offset-hop-same (dimensionOf d) p (dimension-lt d h))
+    ∙ shrunk-part (isPlus d) (offset (dimensionOf d) p)
+
+pub hops-hop-other : (i d p : ℕ) → i < dimensions → d < directions → dimensionOf d ≢ i → hops d (hop i p) ≡ hops d p
+unfolding hops
+hops-hop-other i d p h k ne =
+    ap (λ z. cond (isPlus d) (forward z) (backward z)) (offset-hop-other i (dimensionOf d) p h (dimension-lt d k) ne)
+
+-- of an even direction, and of an odd one
+even-hops : (d p : ℕ) → d % 2 ≡ 0 → hops d p ≡ forward (offset (dimensionOf d) p)
+unfolding hops
+even-hops d p e = chosen (isPlus d) (forward (offset (dimensionOf d) p)) (backward (offset (dimensionOf d) p)) (eq-eqb (d % 2) 0 e)
+
+odd-hops : (d p : ℕ) → d % 2 ≢ 0 → hops d p ≡ backward (offset (dimensionOf d) p)
+unfolding hops
+odd-hops d p ne = passed-over (isPlus d) (forward (offset (dimensionOf d) p)) (backward (offset (dimensionOf d) p)) (ne-eqb (d % 2) 0 ne)
+
+pub hops-plus : (i p : ℕ) → hops (plus i) p ≡ forward (offset i p)
+hops-plus i p = even-hops (plus i) p (omega arith) ∙ ap (λ (j : ℕ). forward (offset j p)) (omega arith)
+
+pub hops-minus : (i p : ℕ) → hops (minus i) p ≡ backward (offset i p)
+hops-minus i p = odd-hops (minus i) p (omega arith) ∙ ap (λ (j : ℕ). backward (offset j p)) (omega arith)
+
+natAbs-is : (z : ℤ) → natAbs z ≡ forward z + backward z
+unfolding forward backward
+natAbs-is (pos n) = omega arith
+natAbs-is (negsuc n) = omega arith
+
+pub distance-is : (i p : ℕ) → distance i p ≡ hops (plus i) p + hops (minus i) p
+unfolding distance
+distance-is i p = natAbs-is (offset i p) ∙ ap₂ (λ (a b : ℕ). a + b) (sym (hops-plus i p)) (sym (hops-minus i p))
+
+one-sign : (z : ℤ) → (forward z ≡ 0) ⊎ (backward z ≡ 0)
+unfolding forward backward
+one-sign (pos n) = inr refl
+one-sign (negsuc n) = inl refl
+
+pub one-way : (i p : ℕ) → (hops (plus i) p ≡ 0) ⊎ (hops (minus i) p ≡ 0)
+one-way i p = go (one-sign (offset i p))
+  where
+    go : (forward (offset i p) ≡ 0) ⊎ (backward (offset i p) ≡ 0) → (hops (plus i) p ≡ 0) ⊎ (hops (minus i) p ≡ 0)
+    go (inl e) = inl (hops-plus i p ∙ e)
+    go (inr e) = inr (hops-minus i p ∙ e)
+
+pub hops-le : (d p : ℕ) → hops d p ≤ distance (dimensionOf d) p
+unfolding distance
+hops-le d p = go (ℕ-discrete (d % 2) 0)
+  where
+    go : Dec (d % 2 ≡ 0) → hops d p ≤ natAbs (offset (dimensionOf d) p)
+    go (yes e) = let a = even-hops d p e in let b = natAbs-is (offset (dimensionOf d) p) in omega arith
+    go (no ne) = let a = odd-hops d p ne in let b = natAbs-is (offset (dimensionOf d) p) in omega arith
+
+-- The direction in which a packet goes on ---------------------------------------------------------------------------------------------
+
+heading-plus : (i p : ℕ) → backward (offset i p) ≡ 0 → heading i p ≡ plus i
+unfolding heading
+heading-plus i p e = chosen (eqb (backward (offset i p)) 0) (plus i) (minus i) (eq-eqb (backward (offset i p)) 0 e)
+
+heading-minus : (i p : ℕ) → backward (offset i p) ≢ 0 → heading i p ≡ minus i
+unfolding heading
+heading-minus i p ne = passed-over (eqb (backward (offset i p)) 0) (plus i) (minus i) (ne-eqb (backward (offset i p)) 0 ne)
+
+pub heading-dimension : (i p : ℕ) → dimensionOf (heading i p) ≡ i
+heading-dimension i p = go (ℕ-discrete (backward (offset i p)) 0)
+  where
+    go : Dec (backward (offset i p) ≡ 0) → dimensionOf (heading i p) ≡ i
+    go (yes e) = let h = heading-plus i p e in omega arith
+    go (no ne) = let h = heading-minus i p ne in omega arith
+
+pub heading-lt : (i p : ℕ) → i < dimensions → heading i p < directions
+heading-lt i p h = let e = heading-dimension i p in omega arith
+
+pub hops-heading : (i p : ℕ) → hops (heading i p) p ≡ distance i p
+unfolding distance
+hops-heading i p = go (ℕ-discrete (backward (offset i p)) 0) (one-sign (offset i p)) (natAbs-is (offset i p))
+  where
+    go : Dec (backward (offset i p) ≡ 0) → (forward (offset i p) ≡ 0) ⊎ (backward (offset i p) ≡ 0)
+        → natAbs (offset i p) ≡ forward (offset i p) + backward (offset i p) → hops (heading i p) p ≡ natAbs (offset i p)
+    go (yes e) o a = ap (λ (d : ℕ). hops d p) (heading-plus i p e) ∙ hops-plus i p ∙ omega arith
+    go (no ne) (inl f) a = ap (λ (d : ℕ). hops d p) (heading-minus i p ne) ∙ hops-minus i p ∙ omega arith
+    go (no ne) (inr e) a = absurd (ne e)
+
+pub heading-of : (d p : ℕ) → hops d p ≢ 0 → heading (dimensionOf d) p ≡ d
+heading-of d p some = go (ℕ-discrete (d % 2) 0) (one-sign (offset (dimensionOf d) p))
+  where
+    go : Dec (d % 2 ≡ 0) → (forward (offset (dimensionOf d) p) ≡ 0) ⊎ (backward (offset (dimensionOf d) p) ≡ 0) → heading (dimensionOf d) p ≡ d
+    go (yes e) (inl f) = absurd (some (even-hops d p e ∙ f))
+    go (yes e) (inr b) = heading-plus (dimensionOf d) p b ∙ omega arith
+    go (no ne) o = heading-minus (dimensionOf d) p (λ b. some (odd-hops d p ne ∙ b)) ∙ omega arith
+
+-- Hops left in all --------------------------------------------------------------------------------------------------------------------
+
+pub hopsLeft-hop : (i p : ℕ) → i < dimensions → distance i p ≢ 0 → suc (hopsLeft (hop i p)) ≡ hopsLeft p
+unfolding hopsLeft
+hopsLeft-hop i p h some =
+    let one : distance i (hop i p) ≡ distance i p - 1 = distance-hop-same i p h in
+    let sum : sumBelow dimensions (λ j. distance j (hop i p)) + distance i p ≡ sumBelow dimensions (λ j. distance j p) + distance i (hop i p) =
+    sum-change dimensions (λ j. distance j (hop i p)) (λ j. distance j p) i h (λ j k ne. distance-hop-other i j p h k ne) in
+    omega arith
+
+pub work-hop : (i p : ℕ) → i < dimensions → distance i p ≢ 0 → suc (work (hop i p)) ≡ work p
+unfolding work
+work-hop i p h some = let e = hopsLeft-hop i p h some in omega arith
+
+pub distance-le-hopsLeft : (i p : ℕ) → i < dimensions → distance i p ≤ hopsLeft p
+unfolding hopsLeft
+distance-le-hopsLeft i p h = term-le dimensions (λ j. distance j p) i h
+
+pub hopsLeft-zero : (p : ℕ) → ((i : ℕ) → i < dimensions → distance i p ≡ 0) → hopsLeft p ≡ 0
+unfolding hopsLeft sumBelow
+hopsLeft-zero p h = sum-same dimensions (λ i. distance i p) (λ i. 0) h
+
+-- The label ---------------------------------------------------------------------------------------------------------------------------
+
+signed-zero : (b : ℕ) → natAbs (signed b) ≡ 0 → b ≡ 0
+signed-zero b e = go (decLt b 128)
+  where
+    go : Dec (b < 128) → b ≡ 0
+    go (yes l) = ap natAbs (sym (signed-small b l)) ∙ e
+    go (no g) = let f : suc (255 - b) ≡ 0 = ap natAbs (sym (signed-large b (omega arith))) ∙ e in omega arith
+
+pub arrived-label : (p : ℕ) → hopsLeft p ≡ 0 → label p ≡ p
+unfolding label distance offset place
+arrived-label p e =
+    let l0 : natAbs (signed (p / 256 % 256)) ≤ hopsLeft p = distance-le-hopsLeft 0 p (omega arith) in
+    let l1 : natAbs (signed (p / 1 % 256)) ≤ hopsLeft p = distance-le-hopsLeft 1 p (omega arith) in
+    let x : p / 256 % 256 ≡ 0 = signed-zero (p / 256 % 256) (omega arith) in
+    let y : p / 1 % 256 ≡ 0 = signed-zero (p / 1 % 256) (omega arith) in
+    let e : p / 256 / 256 ≡ p / 2 ^ 16 = div-div-eq-div-mul p 256 256 in
+    omega arith
+
+pub destination-label : (p : ℕ) → destination (label p) ≡ destination p
+unfolding destination label
+destination-label p = omega arith
+
+pub tag-label : (p : ℕ) → tag (label p) ≡ tag p
+unfolding tag label
+tag-label p = omega arith
+
+-- The word that fields make -----------------------------------------------------------------------------------------------------------
+
+pub tag-packet : (t dest : ℕ) (offs : ℕ → ℤ) → dest < 2 ^ 16 → ((i : ℕ) → i < dimensions → ByteRange (offs i)) → tag (packetWord t dest offs) ≡ t
+unfolding tag packetWord sumBelow place
+tag-packet t dest offs h r =
+    let x = byte-lt (r 0 (omega arith)) in
+    let y = byte-lt (r 1 (omega arith)) in
+    omega arith
+
+pub destination-packet : (t dest : ℕ) (offs : ℕ → ℤ) → dest < 2 ^ 16 → ((i : ℕ) → i < dimensions → ByteRange (offs i))
+    → destination (packetWord t dest offs) ≡ dest
+unfolding destination packetWord sumBelow place
+destination-packet t dest offs h r =
+    let x = byte-lt (r 0 (omega arith)) in
+    let y = byte-lt (r 1 (omega arith)) in
+    omega arith
+
+byte-packet : (i t dest : ℕ) (offs : ℕ → ℤ) → i < dimensions → dest < 2 ^ 16 → ((i : ℕ) → i < dimensions → ByteRange (offs i))
+    → packetWord t dest offs / place i % 256 ≡ byte (offs i)
+unfolding packetWord sumBelow place
+byte-packet zero t dest offs k h r =
+    let x = byte-lt (r 0 (omega arith)) in
+    let y = byte-lt (r 1 (omega arith)) in
+    omega arith
+byte-packet (suc zero) t dest offs k h r = let y = byte-lt (r 1 (omega arith)) in omega arith
+byte-packet (suc (suc i)) t dest offs k h r = no-dimension i k
+
+pub offset-packet : (i t dest : ℕ) (offs : ℕ → ℤ) → i < dimensions → dest < 2 ^ 16 → ((i : ℕ) → i < dimensions → ByteRange (offs i))
+    → offset i (packetWord t dest offs) ≡ offs i
+unfolding offset
+offset-packet i t dest offs k h r = ap signed (byte-packet i t dest offs k h r) ∙ byte-signed (offs i) (r i k)
+
+pub packet-lt : (t dest : ℕ) (offs : ℕ → ℤ) → t < 2 ^ 32 → dest < 2 ^ 16 → ((i : ℕ) → i < dimensions → ByteRange (offs i))
+    → packetWord t dest offs < 2 ^ 64
+unfolding packetWord sumBelow place
+packet-lt t dest offs l h r =
+    let x = byte-lt (r 0 (omega arith)) in
+    let y = byte-lt (r 1 (omega arith)) in
+    omega arith
+
+-- The shorter way round ---------------------------------------------------------------------------------------------------------------
+
+-- by how many steps are ahead, from one coordinate to the other going plus
+pub shorterWay-plus : (size from to : ℕ) → 2 * ((to + (size - from)) % size) ≤ size → shorterWay size from to ≡ pos ((to + (size - from)) % size)
+unfolding shorterWay
+shorterWay-plus size from to h =
+    chosen (leb (2 * ((to + (size - from)) % size)) size)
+    (pos ((to + (size - from)) % size))
+    (negsuc (size - (to + (size - from)) % size - 1))
+    (le-leb (2 * ((to + (size - from)) % size)) size h)
+
+pub shorterWay-minus : (size from to : ℕ) → size < 2 * ((to + (size - from)) % size)
+    → shorterWay size from to ≡ negsuc (size - (to + (size - from)) % size - 1)
+unfolding shorterWay
+shorterWay-minus size from to h =
+    passed-over (leb (2 * ((to + (size - from)) % size)) size)
+    (pos ((to + (size - from)) % size))
+    (negsuc (size - (to + (size - from)) % size - 1))
+    (lt-leb (2 * ((to + (size - from)) % size)) size h)
+
+pub shorterWay-halfway : (size from to : ℕ) → 2 * ((to + (size - from)) % size) ≡ size → shorterWay size from to ≡ pos ((to + (size - from)) % size)
+shorterWay-halfway size from to e = shorterWay-plus size from to (omega arith)
+
+pub shorterWay-half : (size from to : ℕ) → from < size → to < size → natAbs (shorterWay size from to) ≤ size / 2
+shorterWay-half size from to h k = go ((to + (size - from)) % size) refl (mod-lt (to + (size - from)) (omega arith))
+  where
+    go : (a : ℕ) → (to + (size - from)) % size ≡ a → a < size → natAbs (shorterWay size from to) ≤ size / 2
+    go a e l = by (decLe (2 * a) size)
+      where
+        by : Dec (2 * a ≤ size) → natAbs (shorterWay size from to) ≤ size / 2
+        by (yes s) = rw (shorterWay-plus size from to (omega arith)) (omega arith)
+        by (no g) = rw (shorterWay-minus size from to (omega arith)) (omega arith)
+
+pub shorterWay-range : (size from to : ℕ) → from < size → to < size → size < 256 → ByteRange (shorterWay size from to)
+shorterWay-range size from to h k s =
+    let half = shorterWay-half size from to h k in
+    let parts = natAbs-is (shorterWay size from to) in
+    record { most = omega arith; least = omega arith }
+
+-- so many steps forward and so many back, each of these being all steps round but one, lead to the other coordinate
+ahead-reaches : (size from to : ℕ) → from < size → to < size → (from + (to + (size - from)) % size) % size ≡ to
+ahead-reaches size from to h k =
+    add-mod-mod from (to + (size - from)) size
+    ∙ ap (λ (n : ℕ). n % size) (omega arith)
+    ∙ add-mod-right to size
+    ∙ mod-eq-of-lt k
+
+-- b steps back are the rest of the round forward, and whole rounds
+back-is-ahead : (from size a : ℕ) → a < size → (from + suc (size - a - 1) * (size - 1)) % size ≡ (from + a) % size
+back-is-ahead from zero a h = absurd (native.Mathlib.Nat.not-suc-le-zero h)
+back-is-ahead from (suc k) a h = go (suc k - a - 1) refl
+  where
+    go : (c : ℕ) → suc k - a - 1 ≡ c → (from + suc c * (suc k - 1)) % suc k ≡ (from + a) % suc k
+    go c e =
+        let l : suc c * (suc k - 1) ≡ c * (suc k - 1) + (suc k - 1) = suc-mul c (suc k - 1) in
+        let m : c * suc k ≡ c * k + c = mul-suc c k in
+        let one : suc k - 1 ≡ k = omega arith in
+        let n : c * (suc k - 1) ≡ c * k = ap (λ (x : ℕ). c * x) one in
+        let total : from + suc c * (suc k - 1) ≡ from + a + c * suc k = omega arith in
+        ap (λ (x : ℕ). x % suc k) total ∙ add-mul-mod-self-right (from + a) c (suc k)
+
+pub shorterWay-reaches : (size from to : ℕ) → from < size → to < size
+    → (from + (forward (shorterWay size from to) * 1 + backward (shorterWay size from to) * (size - 1))) % size ≡ to
+unfolding forward backward
+shorterWay-reaches size from to h k = by (decLe (2 * ((to + (size - from)) % size)) size)
+  where
+    by : Dec (2 * ((to + (size - from)) % size) ≤ size)
+        → (from + (forward (shorterWay size from to) * 1 + backward (shorterWay size from to) * (size - 1))) % size ≡ to
+    by (yes s) =
+        rw (shorterWay-plus size from to s)
+        (ap (λ (n : ℕ). (from + n) % size) (plain ((to + (size - from)) % size) (size - 1)) ∙ ahead-reaches size from to h k)
+      where
+        plain : (a b : ℕ) → a * 1 + 0 * b ≡ a
+        plain a b = let z = native.Mathlib.Nat.zero-mul b in omega arith
+    by (no g) =
+        rw (shorterWay-minus size from to (omega arith))
+        (ap (λ (n : ℕ). (from + n) % size) (plain (suc (size - (to + (size - from)) % size - 1) * (size - 1)))
+        ∙ back-is-ahead from size ((to + (size - from)) % size) (mod-lt (to + (size - from)) (omega arith))
+        ∙ ahead-reaches size from to h k)
+      where
+        plain : (a : ℕ) → 0 * 1 + a ≡ a
+        plain a = omega arith

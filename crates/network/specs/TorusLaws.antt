@@ -1,0 +1,276 @@
+-- Laws of the torus (Torus.antt). Order: sizes that make a torus; going along a direction; coordinates; a node moved by a packet's offsets, and
+-- what a hop does to it; neighbours are apart. `i` is a dimension, `d` and `e` are directions, `p` is any number. Assumes nothing.
+use mathlib.Core.Path.{_≡_, refl, ap, ap₂, sym, _∙_}
+use mathlib.Core.Bool.{Bool, true, false, cond, _&&_}
+use mathlib.Core.List.{List, [], _∷_}
+use mathlib.Core.Logic.{_⊎_, inl, inr, _≢_}
+use Prim.Native.Nat.{ℕ, zero, suc, _+_, _*_, _-_, _%_, _^_, _<_, _≤_}
+use native.Mathlib.Nat.{add-mul, mul-right-comm, pow-succ', le-refl, zero-mul, one-mul, le-of-suc-le, le-of-suc-le-suc, not-suc-le-zero, eq-or-lt-of-le, mod-eq-of-lt, mod-eq-sub-mod, mul-le-mul}
+use native.Mathlib.Omega.{arith}
+use native.Mathlib.Decide.{ℕ-discrete, decLt}
+use lib.Dec.{T, leb, leb→le}
+use lib.ListN.{length, getD}
+use Rattle.base.specs.Tests.{and-l, and-r, allOf, allOf-head, allOf-tail}
+use Rattle.base.specs.Digits.{product, digit, turn, Positive, digit-lt, digits-eq, radix-pos, turn-lt, turn-turn, turn-comm, turn-rounds, digit-turn-same, digit-turn-other}
+use Rattle.network.specs.Sizes.{Shape, size, nodes, within, sizesInRange, dimensions, directions, dimensionOf, isPlus, plus, minus}
+use Rattle.network.specs.Packet.{hops, hopsLeft, hop}
+use Rattle.network.specs.PacketLaws.{dimension-lt, hops-hop-same, hops-hop-other, one-way, hops-le, distance-le-hopsLeft}
+use Rattle.network.specs.Torus.{coordinate, stride, along, neighbour, movedBelow, movedBy}
+
+-- Sizes that make a torus -------------------------------------------------------------------------------------------------------------
+
+pub record Torus (S : Shape) : Type 0 where
+  pub positive : Positive (S .sizes)
+  pub dims : length (S .sizes) ≡ dimensions
+
+-- a number that is within bounds
+pub within-least : (least most n : ℕ) → T (within least most n) → least ≤ n
+unfolding within
+within-least least most n t = leb→le least n (and-l (leb least n) (leb n most) t)
+
+pub within-most : (least most n : ℕ) → T (within least most n) → n ≤ most
+unfolding within
+within-most least most n t = leb→le n most (and-r (leb least n) (leb n most) t)
+
+-- what sizes of 1 to 16 come to, in any number of dimensions
+all-positive : (ks : List ℕ) → T (allOf (within 1 16) ks) → Positive ks
+unfolding Positive
+all-positive [] t = tt
+all-positive (k ∷ ks) t = (within-least 1 16 k (allOf-head (within 1 16) k ks t), all-positive ks (allOf-tail (within 1 16) k ks t))
+
+all-most : (ks : List ℕ) (i : ℕ) → T (allOf (within 1 16) ks) → getD ks i 0 ≤ 16
+all-most [] i t = omega arith
+all-most (k ∷ ks) zero t = within-most 1 16 k (allOf-head (within 1 16) k ks t)
+all-most (k ∷ ks) (suc i) t = all-most ks i (allOf-tail (within 1 16) k ks t)
+
+product-most : (ks : List ℕ) → T (allOf (within 1 16) ks) → product ks ≤ 16 ^ length ks
+unfolding product
+product-most [] t = omega arith
+product-most (k ∷ ks) t =
+    rw (pow-succ' 16 (length ks))
+    (mul-le-mul (within-most 1 16 k (allOf-head (within 1 16) k ks t)) (product-most ks (allOf-tail (within 1 16) k ks t)))
+
+inRange-sizes : (S : Shape) → T (sizesInRange S) → T (allOf (within 1 16) (S .sizes))
+unfolding sizesInRange
+inRange-sizes S t = and-l (allOf (within 1 16) (S .sizes)) (within 2 8 (S .escape) && (within 1 8 (S .adaptive) && within 1 8 (S .injection))) t
+
+pub inRange-torus : (S : Shape) → T (sizesInRange S) → length (S .sizes) ≡ dimensions → Torus S
+inRange-torus S t l = record { positive = all-positive (S .sizes) (inRange-sizes S t); dims = l }
+
+pub inRange-size : (S : Shape) (i : ℕ) → T (sizesInRange S) → size S i ≤ 16
+unfolding size
+inRange-size S i t = all-most (S .sizes) i (inRange-sizes S t)
+
+pub inRange-nodes : (S : Shape) → T (sizesInRange S) → length (S .sizes) ≡ dimensions → nodes S ≤ 256
+unfolding nodes
+inRange-nodes S t l = let m : product (S .sizes) ≤ 16 ^ length (S .sizes) = product-most (S .sizes) (inRange-sizes S t) in rw l at m
+
+pub size-pos : (S : Shape) (i : ℕ) → Torus S → i < dimensions → 0 < size S i
+unfolding size
+size-pos S i t h = let l = t .dims in radix-pos (S .sizes) i (t .positive) (omega arith)
+
+-- the dimension of a direction is one of the sizes
+on-list : (S : Shape) (d : ℕ) → Torus S → d < directions → dimensionOf d < length (S .sizes)
+on-list S d t h = let l = t .dims in omega arith
+
+-- Going along a direction -------------------------------------------------------------------------------------------------------------
+
+pub along-lt : (S : Shape) (d c n : ℕ) → Torus S → d < directions → n < nodes S → along S d c n < nodes S
+unfolding along nodes
+along-lt S d c n t h k = turn-lt (S .sizes) (dimensionOf d) (c * stride S d) n (t .positive) (on-list S d t h) k
+
+pub neighbour-lt : (S : Shape) (d n : ℕ) → Torus S → d < directions → n < nodes S → neighbour S d n < nodes S
+unfolding neighbour
+neighbour-lt S d n t h k = along-lt S d 1 n t h k
+
+pub along-add : (S : Shape) (d a b n : ℕ) → Torus S → d < directions → along S d a (along S d b n) ≡ along S d (b + a) n
+unfolding along
+along-add S d a b n t h =
+    turn-turn (S .sizes) (dimensionOf d) (b * stride S d) (a * stride S d) n (t .positive) (on-list S d t h)
+    ∙ ap (λ (c : ℕ). turn (S .sizes) (dimensionOf d) c n) (sym (add-mul b a (stride S d)))
+
+pub along-comm : (S : Shape) (d e a b n : ℕ) → Torus S → d < directions → e < directions
+    → along S d a (along S e b n) ≡ along S e b (along S d a n)
+unfolding along
+along-comm S d e a b n t h k =
+    turn-comm (S .sizes) (dimensionOf d) (dimensionOf e) (a * stride S d) (b * stride S e) n (t .positive) (on-list S d t h) (on-list S e t k)
+
+-- whole rounds: any number of them, one, none
+pub along-rounds : (S : Shape) (d m n : ℕ) → Torus S → d < directions → along S d (m * size S (dimensionOf d)) n ≡ n
+unfolding along size
+along-rounds S d m n t h =
+    ap (λ (c : ℕ). turn (S .sizes) (dimensionOf d) c n) (mul-right-comm m (getD (S .sizes) (dimensionOf d) 0) (stride S d))
+    ∙ turn-rounds (S .sizes) (dimensionOf d) (m * stride S d) n (t .positive) (on-list S d t h)
+
+pub along-round : (S : Shape) (d n : ℕ) → Torus S → d < directions → along S d (size S (dimensionOf d)) n ≡ n
+along-round S d n t h = ap (λ (c : ℕ). along S d c n) (sym (one-mul (size S (dimensionOf d)))) ∙ along-rounds S d 1 n t h
+
+pub along-zero : (S : Shape) (d n : ℕ) → Torus S → d < directions → along S d 0 n ≡ n
+along-zero S d n t h = ap (λ (c : ℕ). along S d c n) (sym (zero-mul (size S (dimensionOf d)))) ∙ along-rounds S d 0 n t h
+
+-- Coordinates -------------------------------------------------------------------------------------------------------------------------
+
+pub coordinate-lt : (S : Shape) (i n : ℕ) → Torus S → i < dimensions → coordinate S i n < size S i
+unfolding coordinate size
+coordinate-lt S i n t h = let l = t .dims in digit-lt (S .sizes) i n (t .positive) (omega arith)
+
+pub coordinate-along-same : (S : Shape) (d c n : ℕ) → Torus S → d < directions
+    → coordinate S (dimensionOf d) (along S d c n) ≡ (coordinate S (dimensionOf d) n + c * stride S d) % size S (dimensionOf d)
+unfolding coordinate along size
+coordinate-along-same S d c n t h = digit-turn-same (S .sizes) (dimensionOf d) (c * stride S d) n (t .positive) (on-list S d t h)
+
+pub coordinate-along-other : (S : Shape) (i d c n : ℕ) → Torus S → d < directions → i ≢ dimensionOf d
+    → coordinate S i (along S d c n) ≡ coordinate S i n
+unfolding coordinate along
+coordinate-along-other S i d c n t h ne =
+    digit-turn-other (S .sizes) (dimensionOf d) i (c * stride S d) n (t .positive) (on-list S d t h) ne
+
+-- nodes with the same coordinates are the same
+pub coordinates-eq : (S : Shape) (n m : ℕ) → Torus S → n < nodes S → m < nodes S
+    → ((i : ℕ) → i < dimensions → coordinate S i n ≡ coordinate S i m) → n ≡ m
+unfolding coordinate nodes
+coordinates-eq S n m t h k same =
+    digits-eq (S .sizes) n m (t .positive) h k (λ i l. let e = t .dims in same i (omega arith))
+
+-- A node moved by a packet's offsets --------------------------------------------------------------------------------------------------
+
+movedBelow-lt : (S : Shape) (p e n : ℕ) → Torus S → e ≤ directions → n < nodes S → movedBelow S p e n < nodes S
+unfolding movedBelow
+movedBelow-lt S p zero n t k h = h
+movedBelow-lt S p (suc e) n t k h = along-lt S e (hops e p) (movedBelow S p e n) t k (movedBelow-lt S p e n t (le-of-suc-le k) h)
+
+pub movedBy-lt : (S : Shape) (n p : ℕ) → Torus S → n < nodes S → movedBy S p n < nodes S
+unfolding movedBy
+movedBy-lt S n p t h = movedBelow-lt S p directions n t (le-refl directions) h
+
+-- with no hop left the node itself
+movedBelow-here : (S : Shape) (p e n : ℕ) → Torus S → e ≤ directions → hopsLeft p ≡ 0 → movedBelow S p e n ≡ n
+unfolding movedBelow
+movedBelow-here S p zero n t k z = refl
+movedBelow-here S p (suc e) n t k z =
+    let none : hops e p ≡ 0 =
+    let a = hops-le e p in let b = distance-le-hopsLeft (dimensionOf e) p (dimension-lt e k) in omega arith in
+    ap₂ (λ (c m : ℕ). along S e c m) none (movedBelow-here S p e n t (le-of-suc-le k) z) ∙ along-zero S e n t k
+
+pub movedBy-here : (S : Shape) (n p : ℕ) → Torus S → n < nodes S → hopsLeft p ≡ 0 → movedBy S p n ≡ n
+unfolding movedBy
+movedBy-here S n p t h z = movedBelow-here S p directions n t (le-refl directions) z
+
+-- a hop in direction d leaves the hops in every other direction: those the other way along its dimension are none
+hops-rest : (d e p : ℕ) → d < directions → e < directions → e ≢ d → hops d p ≢ 0 → hops e (hop (dimensionOf d) p) ≡ hops e p
+hops-rest d e p h k ne some = go (ℕ-discrete (dimensionOf e) (dimensionOf d))
+  where
+    none : dimensionOf e ≡ dimensionOf d → hops e p ≡ 0
+    none s = way (one-way (dimensionOf d) p) (ℕ-discrete e (plus (dimensionOf d)))
+      where
+        way : (hops (plus (dimensionOf d)) p ≡ 0) ⊎ (hops (minus (dimensionOf d)) p ≡ 0) → Dec (e ≡ plus (dimensionOf d)) → hops e p ≡ 0
+        way (inl z) (yes x) = ap (λ (f : ℕ). hops f p) x ∙ z
+        way (inl z) (no x) = absurd (some (ap (λ (f : ℕ). hops f p) (let y : d ≡ plus (dimensionOf d) = omega arith in y) ∙ z))
+        way (inr z) (yes x) = absurd (some (ap (λ (f : ℕ). hops f p) (let y : d ≡ minus (dimensionOf d) = omega arith in y) ∙ z))
+        way (inr z) (no x) = ap (λ (f : ℕ). hops f p) (let y : e ≡ minus (dimensionOf d) = omega arith in y) ∙ z
+
+    go : Dec (dimensionOf e ≡ dimensionOf d) → hops e (hop (dimensionOf d) p) ≡ hops e p
+    go (no x) = hops-hop-other (dimensionOf d) e p (dimension-lt d h) k x
+    go (yes s) =
+        let z = none s in
+        let a : hops e (hop (dimensionOf e) p) ≡ hops e p - 1 = hops-hop-same e p k in
+        ap (λ (i : ℕ). hops e (hop i p)) (sym s) ∙ a ∙ omega arith
+
+-- the directions up to d, then d, then those above it
+hop-under : (S : Shape) (d n p e : ℕ) → Torus S → d < directions → e ≤ d → hops d p ≢ 0
+    → movedBelow S (hop (dimensionOf d) p) e (along S d 1 n) ≡ along S d 1 (movedBelow S p e n)
+unfolding movedBelow
+hop-under S d n p zero t h k some = refl
+hop-under S d n p (suc e) t h k some =
+    ap₂ (λ (c m : ℕ). along S e c m)
+    (hops-rest d e p h (omega arith) (omega arith) some)
+    (hop-under S d n p e t h (le-of-suc-le k) some)
+    ∙ along-comm S e d (hops e p) 1 (movedBelow S p e n) t (omega arith) h
+
+hop-at : (S : Shape) (d n p : ℕ) → Torus S → d < directions → hops d p ≢ 0
+    → movedBelow S (hop (dimensionOf d) p) (suc d) (along S d 1 n) ≡ movedBelow S p (suc d) n
+unfolding movedBelow
+hop-at S d n p t h some =
+    ap₂ (λ (c m : ℕ). along S d c m) (hops-hop-same d p h) (hop-under S d n p d t h (le-refl d) some)
+    ∙ along-add S d (hops d p - 1) 1 (movedBelow S p d n) t h
+    ∙ ap (λ (c : ℕ). along S d c (movedBelow S p d n)) (omega arith)
+
+hop-over : (S : Shape) (d n p e : ℕ) → Torus S → d < directions → e ≤ directions → d < e → hops d p ≢ 0
+    → movedBelow S (hop (dimensionOf d) p) e (along S d 1 n) ≡ movedBelow S p e n
+unfolding movedBelow
+hop-over S d n p zero t h k l some = absurd (not-suc-le-zero l)
+hop-over S d n p (suc e) t h k l some = go (eq-or-lt-of-le (le-of-suc-le-suc l)) (λ l′. hop-over S d n p e t h (le-of-suc-le k) l′ some)
+  where
+    go : (d ≡ e) ⊎ (d < e) → (d < e → movedBelow S (hop (dimensionOf d) p) e (along S d 1 n) ≡ movedBelow S p e n)
+        → along S e (hops e (hop (dimensionOf d) p)) (movedBelow S (hop (dimensionOf d) p) e (along S d 1 n)) ≡ along S e (hops e p) (movedBelow S p e n)
+    go (inl q) r = rw (← q) (hop-at S d n p t h some)
+    go (inr l′) r = ap₂ (λ (c m : ℕ). along S e c m) (hops-rest d e p h k (omega arith) some) (r l′)
+
+-- a packet hops to the neighbour, and what is left of its offsets leads to where it was to go
+pub movedBy-hop : (S : Shape) (d n p : ℕ) → Torus S → d < directions → n < nodes S → hops d p ≢ 0
+    → movedBy S (hop (dimensionOf d) p) (neighbour S d n) ≡ movedBy S p n
+unfolding movedBy neighbour
+movedBy-hop S d n p t h k some = hop-over S d n p directions t h (le-refl directions) h some
+
+-- the coordinates of a node moved: each by the hops of its own dimension
+pub coordinate-movedBy : (S : Shape) (i n p : ℕ) → Torus S → i < dimensions
+    → coordinate S i (movedBy S p n) ≡ (coordinate S i n + (hops (plus i) p * 1 + hops (minus i) p * (size S i - 1))) % size S i
+unfolding movedBy movedBelow along stride coordinate size
+coordinate-movedBy S i n p t h = go i h
+  where
+    ks : List ℕ
+    ks = S .sizes
+
+    -- both ways along one dimension, and along the other
+    both : (i a b m : ℕ) → i < length ks → digit ks i (turn ks i b (turn ks i a m)) ≡ (digit ks i m + (a + b)) % getD ks i 0
+    both i a b m l = ap (digit ks i) (turn-turn ks i a b m (t .positive) l) ∙ digit-turn-same ks i (a + b) m (t .positive) l
+
+    neither : (i j a b m : ℕ) → i < length ks → j ≢ i → digit ks j (turn ks i b (turn ks i a m)) ≡ digit ks j m
+    neither i j a b m l ne = digit-turn-other ks i j b (turn ks i a m) (t .positive) l ne ∙ digit-turn-other ks i j a m (t .positive) l ne
+
+    x : 0 < length ks
+    x = let e = t .dims in omega arith
+
+    y : 1 < length ks
+    y = let e = t .dims in omega arith
+
+    go : (i : ℕ) → i < dimensions
+        → coordinate S i (movedBy S p n) ≡ (coordinate S i n + (hops (plus i) p * 1 + hops (minus i) p * (size S i - 1))) % size S i
+    go zero k = neither 1 0 _ _ _ y (omega arith) ∙ both 0 _ _ n x
+    go (suc zero) k =
+        both 1 _ _ _ y ∙ ap (λ (c : ℕ). (c + (hops 2 p * 1 + hops 3 p * (getD ks 1 0 - 1))) % getD ks 1 0) (neither 0 1 _ _ n x (omega arith))
+    go (suc (suc i)) k = absurd (no-dimension i k)
+      where
+        no-dimension : (i : ℕ) → suc (suc i) < dimensions → ⊥
+        no-dimension i k = omega arith
+
+-- Neighbours are apart ----------------------------------------------------------------------------------------------------------------
+
+-- fewer steps than a round lead elsewhere
+turned-apart : (c s k : ℕ) → c < k → 0 < s → s < k → (c + s) % k ≢ c
+turned-apart c s k h l m e = go (decLt (c + s) k)
+  where
+    go : Dec (c + s < k) → ⊥
+    go (yes f) = let q = mod-eq-of-lt f in omega arith
+    go (no g) =
+        let q : (c + s) % k ≡ (c + s - k) % k = mod-eq-sub-mod (omega arith) in
+        let r : (c + s - k) % k ≡ c + s - k = mod-eq-of-lt (omega arith) in
+        omega arith
+
+stride-within : (S : Shape) (d : ℕ) → 1 < size S (dimensionOf d) → (0 < stride S d) × (stride S d < size S (dimensionOf d))
+unfolding stride
+stride-within S d h = go (isPlus d)
+  where
+    go : (b : Bool) → (0 < cond b 1 (size S (dimensionOf d) - 1)) × (cond b 1 (size S (dimensionOf d) - 1) < size S (dimensionOf d))
+    go true = (omega arith, h)
+    go false = (omega arith, omega arith)
+
+pub neighbour-apart : (S : Shape) (d n : ℕ) → Torus S → d < directions → n < nodes S → 1 < size S (dimensionOf d) → neighbour S d n ≢ n
+unfolding neighbour
+neighbour-apart S d n t h k l e =
+    turned-apart (coordinate S (dimensionOf d) n) (stride S d) (size S (dimensionOf d))
+    (coordinate-lt S (dimensionOf d) n t (dimension-lt d h))
+    (stride-within S d l .0) (stride-within S d l .1)
+    (ap (λ (s : ℕ). (coordinate S (dimensionOf d) n + s) % size S (dimensionOf d)) (sym (one-mul (stride S d)))
+    ∙ sym (coordinate-along-same S d 1 n t h)
+    ∙ ap (coordinate S (dimensionOf d)) e)
