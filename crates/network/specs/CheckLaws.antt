@@ -4,19 +4,76 @@ use mathlib.Core.Path.{_≡_, refl, ap, sym, _∙_}
 use mathlib.Core.Logic.{_⊎_, inl, inr, _≢_}
 use mathlib.Core.Bool.{Bool, true, false, cond, not, _&&_, _||_}
 use mathlib.Core.List.{List, []}
-use Prim.Native.Nat.{ℕ, zero, suc, _+_, _*_, _/_, _<_, _≤_}
+use Prim.Native.Nat.{ℕ, zero, suc, _+_, _*_, _/_, _%_, _<_, _≤_}
+use native.Mathlib.Decide.{ℕ-discrete}
+use native.Mathlib.Omega.{arith}
+use borrow.Author.Tests.{eq-eqb, ne-eqb}
 use lib.Dec.{T, leb, ltb, eqb, leb→le, le→leb, ltb→lt, lt→ltb, eqb→eq, eqb-refl, T-not}
 use lib.ListN.{length}
 use Rattle.base.specs.Tests.{allBelow, allOf, and-l, and-r, and-i, or-l, or-r, or-e, all-at, all-by, passed?}
-use Rattle.network.specs.Sizes.{Shape, size, sizesInRange, nodes, queues, directions, dimensions, dimensionOf, directionOf, isEscape, injectionQueue, capacity}
+use Rattle.network.specs.Sizes.{Shape, size, sizesInRange, nodes, queues, directions, dimensions, dimensionOf, directionOf, isPlus, plus, minus, isEscape, injectionQueue, capacity}
 use Rattle.network.specs.Packet.{destination, distance, hops}
+use Rattle.network.specs.PacketLaws.{one-way}
 use Rattle.network.specs.Torus.{movedBy}
 use Rattle.network.specs.Layout.{held, queuePart, countOf, unusedOf, need, accepted, delivered, movesMade}
-use Rattle.network.specs.Check.{rightPlace, reach, nearEnough, opposite, rightSign, lowerDone, packetFits, queueFits, queuesFit, ringHasRoom, ringsHaveRoom, packetsHeld, workLeft, mostAccepted, mostWork, countersFit, isNetwork}
+use Rattle.network.specs.Check.{rightPlace, isQueueOf, reach, nearEnough, opposite, rightSign, lowerDone, packetFits, queueFits, queuesFit, ringHasRoom, ringsHaveRoom, packetsHeld, workLeft, mostAccepted, mostWork, countersFit, isNetwork}
 
 -- the test of an equation, as a fact and back
 pub eq-T : (a b : ℕ) → a ≡ b → T (eqb a b)
 eq-T a b e = rw e (eqb-refl b)
+
+-- what is bounded by half of the size: the distance, and one more in a queue of that dimension
+pub reach-least : (i q p : ℕ) → distance i p ≤ reach i q p
+unfolding reach
+reach-least i q p = go (isQueueOf i q)
+  where
+    go : (b : Bool) → distance i p ≤ cond b (distance i p + 1) (distance i p)
+    go true = omega arith
+    go false = omega arith
+
+pub reach-most : (i q p : ℕ) → reach i q p ≤ distance i p + 1
+unfolding reach
+reach-most i q p = go (isQueueOf i q)
+  where
+    go : (b : Bool) → cond b (distance i p + 1) (distance i p) ≤ distance i p + 1
+    go true = omega arith
+    go false = omega arith
+
+pub reach-other : (i q p : ℕ) → dimensionOf (directionOf q) ≢ i → reach i q p ≡ distance i p
+unfolding reach isQueueOf
+reach-other i q p ne = go (eqb q injectionQueue) (eqb (dimensionOf (directionOf q)) i) (ne-eqb (dimensionOf (directionOf q)) i ne)
+  where
+    go : (a b : Bool) → b ≡ false → cond (not a && b) (distance i p + 1) (distance i p) ≡ distance i p
+    go true b e = refl
+    go false b e = rw e
+
+-- the opposite of a direction is in the same dimension, and no packet has hops left both ways
+pub opposite-dimension : (d : ℕ) → dimensionOf (opposite d) ≡ dimensionOf d
+unfolding opposite
+opposite-dimension d = go (isPlus d)
+  where
+    go : (b : Bool) → dimensionOf (cond b (minus (dimensionOf d)) (plus (dimensionOf d))) ≡ dimensionOf d
+    go true = omega arith
+    go false = omega arith
+
+pub opposite-lt : (d : ℕ) → d < directions → opposite d < directions
+unfolding opposite
+opposite-lt d h = go (isPlus d)
+  where
+    go : (b : Bool) → cond b (minus (dimensionOf d)) (plus (dimensionOf d)) < directions
+    go true = omega arith
+    go false = omega arith
+
+pub only-way : (d p : ℕ) → hops d p ≢ 0 → hops (opposite d) p ≡ 0
+unfolding opposite
+only-way d p ne = go (ℕ-discrete (d % 2) 0) (one-way (dimensionOf d) p)
+  where
+    go : Dec (d % 2 ≡ 0) → (hops (plus (dimensionOf d)) p ≡ 0) ⊎ (hops (minus (dimensionOf d)) p ≡ 0)
+        → hops (cond (isPlus d) (minus (dimensionOf d)) (plus (dimensionOf d))) p ≡ 0
+    go (yes e) (inl z) = absurd (ne (let way : d ≡ plus (dimensionOf d) = omega arith in ap (λ (x : ℕ). hops x p) way ∙ z))
+    go (yes e) (inr z) = rw (eq-eqb (d % 2) 0 e) z
+    go (no e) (inl z) = rw (ne-eqb (d % 2) 0 e) z
+    go (no e) (inr z) = absurd (ne (let way : d ≡ minus (dimensionOf d) = omega arith in ap (λ (x : ℕ). hops x p) way ∙ z))
 
 -- the clauses for a packet p in queue q of node n
 pub record PacketFits (S : Shape) (n q p : ℕ) : Type 0 where

@@ -80,7 +80,7 @@ flow-of S w n q o e ne =
     let (b, r₂) = not-refused (ltb (freeSlots S w n o) (slotsNeeded q o)) 11 _ r₁ in
     ltb-false (freeSlots S w n o) (slotsNeeded q o) b
 
-needed-pos : (q o : ℕ) → 0 < slotsNeeded q o
+pub needed-pos : (q o : ℕ) → 0 < slotsNeeded q o
 unfolding slotsNeeded
 needed-pos q o = go (isEscape o && not (eqb q o))
   where

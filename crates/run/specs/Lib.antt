@@ -1,0 +1,7 @@
+-- Demand 3, proved: Theorem.antt has the theorem, Corollaries.antt what follows from it in a line or two. What it is built from, in order: what a
+-- permitted move does to each queue, that it keeps the rings' free slots, that it keeps the check, that one is always permitted while anything is
+-- held, and what a Drain does.
+pub mod Queues
+pub mod Rings
+pub mod Hop
+pub mod Step

@@ -1,0 +1,128 @@
+-- The ring clause of the check: a free slot somewhere round an escape ring. Order: the clause as a fact; words in which no queue grew but the target
+-- of a move. Assumes nothing.
+use mathlib.Core.Path.{_≡_, refl, ap, sym, _∙_}
+use mathlib.Core.Logic.{_⊎_, inl, inr, _≢_}
+use mathlib.Core.Bool.{Bool, true, false, cond, not, _&&_}
+use mathlib.Core.List.{List}
+use Prim.Native.Nat.{ℕ, zero, suc, _+_, _-_, _*_, _/_, _%_, _<_, _≤_}
+use native.Mathlib.Nat.{mod-lt, mod-add-div', lt-of-le-of-lt, add-comm}
+use native.Mathlib.Decide.{ℕ-discrete}
+use native.Mathlib.Omega.{arith}
+use borrow.Author.Tests.{ne-eqb}
+use lib.Dec.{T, ltb, ltb→lt, lt→ltb, eqb}
+use lib.ListN.{length}
+use Rattle.base.specs.Tests.{someBelow, some-at, some-by}
+use Rattle.network.specs.Sizes.{Shape, size, nodes, queues, directions, dimensions, dimensionOf, directionOf, isEscape, escapeQueue, capacity}
+use Rattle.network.specs.PacketLaws.{dimension-lt}
+use Rattle.network.specs.Torus.{along, neighbour}
+use Rattle.network.specs.TorusLaws.{Torus, along-lt, along-add, along-rounds, along-round, size-pos}
+use Rattle.network.specs.Layout.{held}
+use Rattle.network.specs.Check.{hasRoom, ringHasRoom}
+use Rattle.network.specs.Routes.{slotsNeeded, freeSlots, target}
+use Rattle.run.specs.Queues.{same?}
+
+-- a free slot in one queue
+unfoldable pub Room : Shape → List ℕ → ℕ → ℕ → Type 0
+Room S w n q = length (held S w n q) < capacity S q
+
+pub record RingRoom (S : Shape) (w : List ℕ) (d n : ℕ) : Type 0 where
+  pub steps : ℕ
+  pub within : steps < size S (dimensionOf d)
+  pub room : Room S w (along S d steps n) (escapeQueue d)
+
+pub ring-of : (S : Shape) (w : List ℕ) (d n : ℕ) → T (ringHasRoom S w d n) → RingRoom S w d n
+unfolding ringHasRoom hasRoom Room
+ring-of S w d n t =
+    let (j, h, u) = some-at (size S (dimensionOf d)) (λ j. ltb (length (held S w (along S d j n) (escapeQueue d))) (capacity S (escapeQueue d))) t in
+    record { steps = j; within = h; room = ltb→lt (length (held S w (along S d j n) (escapeQueue d))) (capacity S (escapeQueue d)) u }
+
+-- however far round the free slot is
+pub ring-by : (S : Shape) (w : List ℕ) (d n c : ℕ) → Torus S → d < directions → Room S w (along S d c n) (escapeQueue d) → T (ringHasRoom S w d n)
+unfolding ringHasRoom hasRoom Room
+ring-by S w d n c tor hd r =
+    some-by k (λ j. ltb (length (held S w (along S d j n) (escapeQueue d))) (capacity S (escapeQueue d))) (c % k) (mod-lt c pos)
+    (lt→ltb (length (held S w (along S d (c % k) n) (escapeQueue d))) (capacity S (escapeQueue d)) (rw around r))
+  where
+    k : ℕ
+    k = size S (dimensionOf d)
+
+    pos : 0 < k
+    pos = size-pos S (dimensionOf d) tor (dimension-lt d hd)
+
+    around : along S d (c % k) n ≡ along S d c n
+    around =
+        sym (along-rounds S d (c / k) (along S d (c % k) n) tor hd)
+        ∙ along-add S d (c / k * k) (c % k) n tor hd
+        ∙ ap (λ (x : ℕ). along S d x n) (mod-add-div' c k)
+
+-- the node before one on its ring
+pub back-to : (S : Shape) (d n : ℕ) → Torus S → d < directions → along S d (size S (dimensionOf d) - 1) (neighbour S d n) ≡ n
+unfolding neighbour
+back-to S d n tor hd =
+    let pos : 0 < size S (dimensionOf d) = size-pos S (dimensionOf d) tor (dimension-lt d hd) in
+    let whole : 1 + (size S (dimensionOf d) - 1) ≡ size S (dimensionOf d) = omega arith in
+    along-add S d (size S (dimensionOf d) - 1) 1 n tor hd ∙ ap (λ (x : ℕ). along S d x n) whole ∙ along-round S d n tor hd
+
+-- how a move changes how much the queues hold: its target t, o by one packet more, its source n, q by one less, every other queue not
+pub record Shifted (S : Shape) (w v : List ℕ) (n q o : ℕ) : Type 0 where
+  pub others : (m r : ℕ) → m < nodes S → r < queues → ((target S n o ≡ m) × (o ≡ r) → ⊥) → length (held S v m r) ≤ length (held S w m r)
+  pub newest : length (held S v (target S n o) o) ≡ suc (length (held S w (target S n o) o))
+  pub source : length (held S v n q) < length (held S w n q)
+
+-- the direction and the kind of an escape queue
+pub escape-direction : (d : ℕ) → d < directions → directionOf (escapeQueue d) ≡ d
+escape-direction d h = omega arith
+
+pub escape-is : (d : ℕ) → T (isEscape (escapeQueue d))
+escape-is d = lt→ltb directions (escapeQueue d) (omega arith)
+
+pub escape-lt : (d : ℕ) → d < directions → escapeQueue d < queues
+escape-lt d h = omega arith
+
+-- "An escape target needs .. two in every other case."
+needs-two : (q d : ℕ) → q ≢ escapeQueue d → slotsNeeded q (escapeQueue d) ≡ 2
+unfolding slotsNeeded
+needs-two q d ne = go (isEscape (escapeQueue d)) (escape-is d) (eqb q (escapeQueue d)) (ne-eqb q (escapeQueue d) ne)
+  where
+    go : (a : Bool) → T a → (b : Bool) → b ≡ false → _≡_ {A = ℕ} (cond (a && not b) 2 1) 2
+    go true t b e = rw e
+    go false t b e = absurd t
+
+-- a ring keeps a free slot: where the move enters it, one of two stays free at the target; where it travels along it, it frees one at the source
+pub ring-kept : (S : Shape) (w v : List ℕ) (n q o : ℕ) → Torus S → n < nodes S → (length (held S w n q) ≤ capacity S q)
+    → slotsNeeded q o ≤ freeSlots S w n o → Shifted S w v n q o
+    → (d m : ℕ) → d < directions → m < nodes S → T (ringHasRoom S w d m) → T (ringHasRoom S v d m)
+unfolding Room freeSlots target
+ring-kept S w v n q o tor hn few flow sh d m hd hm t = go (same? (target S n o) o a (escapeQueue d))
+  where
+    old : RingRoom S w d m
+    old = ring-of S w d m t
+
+    a : ℕ
+    a = along S d (old .steps) m
+
+    ha : a < nodes S
+    ha = along-lt S d (old .steps) m tor hd hm
+
+    -- the free slot is at the target
+    travels : (o ≡ escapeQueue d) → (target S n o ≡ a) → Dec (q ≡ escapeQueue d) → T (ringHasRoom S v d m)
+    travels eo et (yes eq) =
+        let next : neighbour S d n ≡ a = ap (λ (e : ℕ). neighbour S e n) (sym (ap directionOf eo ∙ escape-direction d hd)) ∙ et in
+        let before : along S d (old .steps + (size S (dimensionOf d) - 1)) m ≡ n =
+        sym (along-add S d (size S (dimensionOf d) - 1) (old .steps) m tor hd)
+        ∙ ap (λ (x : ℕ). along S d (size S (dimensionOf d) - 1) x) (sym next)
+        ∙ back-to S d n tor hd in
+        let freed : Room S v n q = native.Mathlib.Nat.lt-of-lt-of-le (sh .source) few in
+        ring-by S v d m (old .steps + (size S (dimensionOf d) - 1)) tor hd (rw (before, ← eq) freed)
+    travels eo et (no ne) =
+        let two : 2 ≤ capacity S o - length (held S w (target S n o) o) = rw (ap (slotsNeeded q) eo ∙ needs-two q d ne) at flow in
+        let one : length (held S v (target S n o) o) ≡ suc (length (held S w (target S n o) o)) = sh .newest in
+        let still : Room S v (target S n o) o = roomy (capacity S o) (length (held S w (target S n o) o)) (length (held S v (target S n o) o)) two one in
+        ring-by S v d m (old .steps) tor hd (rw (← et, ← eo) still)
+      where
+        roomy : (c x y : ℕ) → 2 ≤ c - x → y ≡ suc x → y < c
+        roomy c x y h e = omega arith
+
+    go : Dec ((target S n o ≡ a) × (o ≡ escapeQueue d)) → T (ringHasRoom S v d m)
+    go (yes e) = travels (e .1) (e .0) (ℕ-discrete q (escapeQueue d))
+    go (no ne) = ring-by S v d m (old .steps) tor hd (lt-of-le-of-lt (sh .others a (escapeQueue d) ha (escape-lt d hd) ne) (old .room))
