@@ -13,7 +13,7 @@ use lib.ListN.{length}
 use Rattle.base.specs.Tests.{allBelow, allOf, and-l, and-r, and-i, or-l, or-r, or-e, all-at, all-by, passed?}
 use Rattle.network.specs.Sizes.{Shape, size, sizesInRange, nodes, queues, directions, dimensions, dimensionOf, directionOf, isPlus, plus, minus, isEscape, injectionQueue, capacity}
 use Rattle.network.specs.Packet.{destination, distance, hops}
-use Rattle.network.specs.PacketLaws.{one-way}
+use Rattle.network.specs.PacketLaws.{one-way, distance-is}
 use Rattle.network.specs.Torus.{movedBy}
 use Rattle.network.specs.Layout.{held, queuePart, countOf, unusedOf, need, accepted, delivered, movesMade}
 use Rattle.network.specs.Check.{rightPlace, isQueueOf, reach, nearEnough, opposite, rightSign, lowerDone, packetFits, queueFits, queuesFit, ringHasRoom, ringsHaveRoom, packetsHeld, workLeft, mostAccepted, mostWork, countersFit, isNetwork}
@@ -74,6 +74,25 @@ only-way d p ne = go (ℕ-discrete (d % 2) 0) (one-way (dimensionOf d) p)
     go (yes e) (inr z) = rw (eq-eqb (d % 2) 0 e) z
     go (no e) (inl z) = rw (ne-eqb (d % 2) 0 e) z
     go (no e) (inr z) = absurd (ne (let way : d ≡ minus (dimensionOf d) = omega arith in ap (λ (x : ℕ). hops x p) way ∙ z))
+
+-- no hop left either way
+pub both-zero : (d p : ℕ) → hops d p ≡ 0 → hops (opposite d) p ≡ 0 → distance (dimensionOf d) p ≡ 0
+unfolding opposite
+both-zero d p a b = go (ℕ-discrete (d % 2) 0) b
+  where
+    go : Dec (d % 2 ≡ 0) → hops (cond (isPlus d) (minus (dimensionOf d)) (plus (dimensionOf d))) p ≡ 0 → distance (dimensionOf d) p ≡ 0
+    go (yes e) c =
+        let way : d ≡ plus (dimensionOf d) = omega arith in
+        let x : hops (plus (dimensionOf d)) p ≡ 0 = ap (λ (y : ℕ). hops y p) (sym way) ∙ a in
+        let z : hops (minus (dimensionOf d)) p ≡ 0 = rw (eq-eqb (d % 2) 0 e) at c in
+        let t = distance-is (dimensionOf d) p in
+        omega arith
+    go (no e) c =
+        let way : d ≡ minus (dimensionOf d) = omega arith in
+        let x : hops (minus (dimensionOf d)) p ≡ 0 = ap (λ (y : ℕ). hops y p) (sym way) ∙ a in
+        let z : hops (plus (dimensionOf d)) p ≡ 0 = rw (ne-eqb (d % 2) 0 e) at c in
+        let t = distance-is (dimensionOf d) p in
+        omega arith
 
 -- the clauses for a packet p in queue q of node n
 pub record PacketFits (S : Shape) (n q p : ℕ) : Type 0 where

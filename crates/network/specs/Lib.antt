@@ -1,5 +1,6 @@
 -- Document 01 as definitions, in its order; the laws of each stand in the file beside it. `document 01` below is shared/docs/01-scope.md.
 pub mod Sizes
+pub mod SizesLaws
 pub mod Packet
 pub mod PacketLaws
 pub mod Torus

@@ -5,3 +5,4 @@ pub mod Queues
 pub mod Rings
 pub mod Hop
 pub mod Step
+pub mod Alive

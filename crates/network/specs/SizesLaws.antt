@@ -1,0 +1,82 @@
+-- Sizes in range as facts: the capacities of the queues and their bounds. Assumes nothing.
+use mathlib.Core.Path.{_≡_, refl, ap, sym, _∙_}
+use mathlib.Core.Bool.{Bool, true, false, cond, _&&_}
+use Prim.Native.Nat.{ℕ, zero, suc, _+_, _<_, _≤_}
+use native.Mathlib.Omega.{arith}
+use borrow.Author.Tests.{ne-eqb, lt-ltb}
+use lib.Dec.{T, leb, ltb, eqb, leb→le, le→leb}
+use Rattle.base.specs.Tests.{allOf, and-l, and-r, and-i}
+use Rattle.network.specs.Sizes.{Shape, within, sizesInRange, injectionQueue, escapeQueue, isEscape, directions, capacity}
+
+pub record Between (least most n : ℕ) : Type 0 where
+  pub low : least ≤ n
+  pub high : n ≤ most
+
+pub between-of : (least most n : ℕ) → T (within least most n) → Between least most n
+unfolding within
+between-of least most n t = record { low = leb→le least n (and-l (leb least n) (leb n most) t); high = leb→le n most (and-r (leb least n) (leb n most) t) }
+
+pub between-by : (least most n : ℕ) → Between least most n → T (within least most n)
+unfolding within
+between-by least most n b = and-i (leb least n) (leb n most) (le→leb least n (b .low)) (le→leb n most (b .high))
+
+pub record InRange (S : Shape) : Type 0 where
+  pub sizes : T (allOf (within 1 16) (S .sizes))
+  pub escape : Between 2 8 (S .escape)
+  pub adaptive : Between 1 8 (S .adaptive)
+  pub injection : Between 1 8 (S .injection)
+
+pub range-of : (S : Shape) → T (sizesInRange S) → InRange S
+unfolding sizesInRange
+range-of S t =
+    record {
+      sizes = and-l a (b && (c && d)) t;
+      escape = between-of 2 8 (S .escape) (and-l b (c && d) (and-r a (b && (c && d)) t));
+      adaptive = between-of 1 8 (S .adaptive) (and-l c d (and-r b (c && d) (and-r a (b && (c && d)) t)));
+      injection = between-of 1 8 (S .injection) (and-r c d (and-r b (c && d) (and-r a (b && (c && d)) t)));
+    }
+  where
+    a : Bool
+    a = allOf (within 1 16) (S .sizes)
+
+    b : Bool
+    b = within 2 8 (S .escape)
+
+    c : Bool
+    c = within 1 8 (S .adaptive)
+
+    d : Bool
+    d = within 1 8 (S .injection)
+
+pub range-by : (S : Shape) → InRange S → T (sizesInRange S)
+unfolding sizesInRange
+range-by S r =
+    and-i (allOf (within 1 16) (S .sizes)) (within 2 8 (S .escape) && (within 1 8 (S .adaptive) && within 1 8 (S .injection))) (r .sizes)
+    (and-i (within 2 8 (S .escape)) (within 1 8 (S .adaptive) && within 1 8 (S .injection)) (between-by 2 8 (S .escape) (r .escape))
+    (and-i (within 1 8 (S .adaptive)) (within 1 8 (S .injection)) (between-by 1 8 (S .adaptive) (r .adaptive)) (between-by 1 8 (S .injection) (r .injection))))
+
+-- every queue has a slot, an escape queue two, and none more than eight
+pub capacity-most : (S : Shape) (q : ℕ) → InRange S → capacity S q ≤ 8
+unfolding capacity
+capacity-most S q r = go (eqb q injectionQueue) (isEscape q)
+  where
+    go : (a b : Bool) → cond a (S .injection) (cond b (S .escape) (S .adaptive)) ≤ 8
+    go true b = r .injection .high
+    go false true = r .escape .high
+    go false false = r .adaptive .high
+
+pub capacity-pos : (S : Shape) (q : ℕ) → InRange S → 0 < capacity S q
+unfolding capacity
+capacity-pos S q r = go (eqb q injectionQueue) (isEscape q)
+  where
+    go : (a b : Bool) → 0 < cond a (S .injection) (cond b (S .escape) (S .adaptive))
+    go true b = r .injection .low
+    go false true = let e : 2 ≤ S .escape = r .escape .low in omega arith
+    go false false = r .adaptive .low
+
+pub escape-capacity : (S : Shape) (d : ℕ) → capacity S (escapeQueue d) ≡ S .escape
+unfolding capacity
+escape-capacity S d = rw (ne-eqb (escapeQueue d) injectionQueue (λ e. nonzero d e), lt-ltb directions (escapeQueue d) (omega arith))
+  where
+    nonzero : (d : ℕ) → escapeQueue d ≡ 0 → ⊥
+    nonzero d e = omega arith
