@@ -6,3 +6,5 @@ pub mod Rings
 pub mod Hop
 pub mod Step
 pub mod Alive
+pub mod Drains
+pub mod Theorem

@@ -1,0 +1,166 @@
+-- Demand 3. In plain words: start from any words that pass the check of a network, and make any list of Moves and Drains, with any arguments,
+-- refused ones included. Then every packet held at the start is still held or has been handed out once, at the node that it was addressed to, and
+-- nothing else has been handed out; the number of moves made plus the work left is the work left at the start; the words still pass the check, so
+-- each escape ring has a free slot; and while anything is held, some move is permitted. `Demand3` of network/specs/Run.antt says this in full, of the
+-- very definitions that the contracts of Move and Drain cite; here is its proof.
+-- Order: nothing is held exactly when no work is left; one call; a list of calls; the theorem. Assumes nothing.
+use mathlib.Core.Path.{_≡_, refl, ap, sym, _∙_, subst}
+use mathlib.Core.Logic.{_↔_, _≢_}
+use mathlib.Core.Bool.{Bool, true, false, cond}
+use mathlib.Core.List.{List, [], _∷_, _++_, map}
+use Prim.Native.Nat.{ℕ, zero, suc, _+_, _<_, _≤_}
+use native.Mathlib.Decide.{ℕ-discrete}
+use native.Mathlib.Omega.{arith}
+use borrow.Author.Tests.{eq-eqb, ne-eqb}
+use lib.Dec.{T, eqb}
+use lib.ListN.{length}
+use Rattle.base.specs.Sums.{sumOf, sumBelow, sum-zero}
+use Rattle.network.specs.declared.Moved.{Moved}
+use Rattle.network.specs.Sizes.{Shape, nodes, queues}
+use Rattle.network.specs.Packet.{work, hopsLeft}
+use Rattle.network.specs.TorusLaws.{Torus, inRange-torus}
+use Rattle.network.specs.Layout.{shape, held, total}
+use Rattle.network.specs.LayoutLaws.{total-zero, some-held, total-part}
+use Rattle.network.specs.Check.{packetsHeld, workLeft}
+use Rattle.network.specs.CheckLaws.{Network}
+use Rattle.network.specs.Routes.{deliver}
+use Rattle.network.specs.Refusals.{networkRefusal, moveRules, moveRefusal, elseBy, head}
+use Rattle.network.specs.RefusalLaws.{network-passed, network-passes, neither, elseBy-zero, Permitted, permitted-of, permitted-by}
+use Rattle.network.specs.Calls.{Delivery, afterMove, moveWords, moveAnswer, movedPackets, drained, drainWords, drainAnswer, drainedMoves}
+use Rattle.network.specs.Run.{Call, move, drain, Outcome, outcome, run, SomeMove, AfterRun, Demand3}
+use Rattle.run.specs.Step.{Ran, ran-none, ran-then, handsOut, step}
+use Rattle.run.specs.Alive.{Some, alive}
+use Rattle.run.specs.Drains.{drain-ran}
+
+-- every packet held is some work
+some-work : (ps : List ℕ) → length ps ≤ sumOf work ps
+unfolding sumOf work
+some-work [] = omega arith
+some-work (p ∷ ps) = let a : length ps ≤ sumOf work ps = some-work ps in omega arith
+
+work-somewhere : (S : Shape) (w : List ℕ) → packetsHeld S w ≢ 0 → workLeft S w ≡ 0 → ⊥
+unfolding packetsHeld workLeft
+work-somewhere S w ne z =
+    let (n, q, hn, hq, holds) = some-held S w ne in
+    let a : length (held S w n q) ≤ sumOf work (held S w n q) = some-work (held S w n q) in
+    let b : sumOf work (held S w n q) ≤ total S w (sumOf work) = total-part S w n q (sumOf work) hn hq in
+    holds (omega arith)
+
+pub no-work : (S : Shape) (w : List ℕ) → workLeft S w ≡ 0 → packetsHeld S w ≡ 0
+no-work S w z = go (ℕ-discrete (packetsHeld S w) 0)
+  where
+    go : Dec (packetsHeld S w ≡ 0) → packetsHeld S w ≡ 0
+    go (yes e) = e
+    go (no ne) = absurd (work-somewhere S w ne z)
+
+pub no-packets : (S : Shape) (w : List ℕ) → packetsHeld S w ≡ 0 → workLeft S w ≡ 0
+unfolding packetsHeld workLeft total sumOf
+no-packets S w z =
+    sum-zero (nodes S) (λ n. sumBelow queues (λ q. sumOf work (held S w n q)))
+    (λ n hn. sum-zero queues (λ q. sumOf work (held S w n q)) (λ q hq. none (held S w n q) (total-zero S w n q z hn hq)))
+  where
+    none : (ps : List ℕ) → ps ≡ [] → sumOf work ps ≡ 0
+    none ps e = ap (sumOf work) e
+
+-- the sizes of a network are those of a torus
+pub torus : (w : List ℕ) → Network (shape w) w → Torus (shape w)
+unfolding shape
+torus w N = inRange-torus (shape w) (N .in-range) refl
+
+-- one call: its outcome is that of moves made one after the other
+abbrev pub Made : List ℕ → Outcome → Type 0
+Made w r = Ran (shape w) w (r .words) (r .handedOut) (r .moves)
+
+made-move : (w : List ℕ) (n q o : ℕ) → moveRefusal w n q o ≡ 0
+    → outcome (move n q o) w ≡ record { words = afterMove (shape w) w n q o; handedOut = handsOut (shape w) w n q o; moves = 1 }
+unfolding outcome moveWords moveAnswer handsOut movedPackets
+made-move w n q o e = rw (eq-eqb (moveRefusal w n q o) 0 e) (ap {B = Outcome} (λ (ds : List Delivery). record { words = afterMove (shape w) w n q o; handedOut = ds; moves = 1 }) (by (eqb o deliver)))
+  where
+    p : ℕ
+    p = head (held (shape w) w n q)
+
+    by : (t : Bool) → map {B = Delivery} (λ (x : ℕ). record { node = n; packet = x }) (movedPackets (cond t (Moved.Delivered p) Moved.Passed)) ≡ cond t (record { node = n; packet = p } ∷ []) []
+    by true = refl
+    by false = refl
+
+refused-move : (w : List ℕ) (n q o : ℕ) → moveRefusal w n q o ≢ 0 → outcome (move n q o) w ≡ record { words = w; handedOut = []; moves = 0 }
+unfolding outcome moveWords moveAnswer movedPackets
+refused-move w n q o ne = rw (ne-eqb (moveRefusal w n q o) 0 ne)
+
+made-drain : (w : List ℕ) (budget : ℕ) (ledger : List ℕ) → networkRefusal w ≡ 0
+    → outcome (drain budget ledger) w
+    ≡ record {
+      words = drained w budget (length ledger) .words;
+      handedOut = drained w budget (length ledger) .deliveries;
+      moves = drained w budget (length ledger) .moves;
+    }
+unfolding outcome drainWords drainAnswer drainedMoves
+made-drain w budget ledger e = rw (eq-eqb (networkRefusal w) 0 e)
+
+pub call-made : (c : Call) (w : List ℕ) → Network (shape w) w → Made w (outcome c w)
+unfolding moveRefusal drained
+call-made (move n q o) w N = go (ℕ-discrete (moveRefusal w n q o) 0)
+  where
+    go : Dec (moveRefusal w n q o ≡ 0) → Made w (outcome (move n q o) w)
+    go (yes z) =
+        rw (made-move w n q o z)
+        (step (shape w) w n q o (torus w N) N (permitted-of (shape w) w n q o (neither (networkRefusal w) (moveRules (shape w) w n q o) z .1)))
+    go (no ne) = rw (refused-move w n q o ne) (ran-none (shape w) w N)
+call-made (drain budget ledger) w N = rw (made-drain w budget ledger (network-passes w N)) (drain-ran (shape w) (torus w N) budget (length ledger) w N)
+
+-- a list of calls
+pub run-made : (calls : List Call) (w : List ℕ) → Network (shape w) w → Made w (run calls w)
+unfolding run
+run-made [] w N = ran-none (shape w) w N
+run-made (c ∷ calls) w N = join (call-made c w N) (λ M. run-made calls (outcome c w .words) M)
+  where
+    v : List ℕ
+    v = outcome c w .words
+
+    join : Made w (outcome c w) → (Network (shape v) v → Made v (run calls v))
+        → Ran (shape w) w (run calls v .words) (outcome c w .handedOut ++ run calls v .handedOut) (outcome c w .moves + run calls v .moves)
+    join a later =
+        let N′ : Network (shape v) v = subst (λ (S : Shape). Network S v) (sym (a .same-shape)) (a .network) in
+        let b : Ran (shape w) v (run calls v .words) (run calls v .handedOut) (run calls v .moves) =
+        subst (λ (S : Shape). Ran S v (run calls v .words) (run calls v .handedOut) (run calls v .moves)) (a .same-shape) (later N′) in
+        ran-then (shape w) w v (run calls v .words) (outcome c w .handedOut) (run calls v .handedOut) (outcome c w .moves) (run calls v .moves) a b
+
+-- the theorem
+some-move : (w : List ℕ) → Network (shape w) w → packetsHeld (shape w) w ≢ 0 → SomeMove w
+unfolding moveRefusal
+some-move w N ne =
+    let s : Some (shape w) w = alive (shape w) w (torus w N) N ne in
+    record {
+      node = s .node;
+      queue = s .queue;
+      output = s .output;
+      permitted =
+          elseBy-zero (networkRefusal w) (moveRules (shape w) w (s .node) (s .queue) (s .output)) (network-passes w N)
+          ∙ permitted-by (shape w) w (s .node) (s .queue) (s .output) (s .permitted);
+    }
+
+pub demand3 : Demand3
+unfolding Demand3
+demand3 w calls e = after (run-made calls w (network-passed w e))
+  where
+    after : Made w (run calls w) → AfterRun w (run calls w)
+    after r =
+        let N : Network (shape (run calls w .words)) (run calls w .words) =
+        subst (λ (S : Shape). Network S (run calls w .words)) (sym (r .same-shape)) (r .network) in
+        record {
+          handed-out-at-home = r .home;
+          none-lost-or-doubled = r .labels;
+          moves-and-work = r .work-done;
+          moves-made = r .moves;
+          deliveries-made = r .deliveries;
+          still-a-network = network-passes (run calls w .words) N;
+          goes-on = λ ne. some-move (run calls w .words) N (λ z. ne (subst (λ (S : Shape). packetsHeld S (run calls w .words) ≡ 0) (r .same-shape) z));
+          rings-have-room = λ d n hd hn. r .network .ring d n hd hn;
+          emptied-exactly = (
+            (λ z. let a = r .work-done in let b = no-packets (shape w) (run calls w .words) z in omega arith),
+            (λ m. no-work (shape w) (run calls w .words) (let a = r .work-done in omega arith)),
+          );
+          same-shape = r .same-shape;
+          same-length = r .same-length;
+          rest-untouched = r .rest;
+        }
