@@ -8,3 +8,4 @@ pub mod Step
 pub mod Alive
 pub mod Drains
 pub mod Theorem
+pub mod Corollaries

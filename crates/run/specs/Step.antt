@@ -38,6 +38,7 @@ pub record Ran (S : Shape) (w v : List ℕ) (ds : List Delivery) (m : ℕ) : Typ
   pub same-shape : shape v ≡ shape w
   pub home : T (allOf atHome ds)
   pub labels : (l : ℕ) → handedWith l ds + heldWith l S v ≡ heldWith l S w
+  pub packets : length ds + packetsHeld S v ≡ packetsHeld S w
   pub work-done : m + workLeft S v ≡ workLeft S w
   pub moves : movesMade v ≡ movesMade w + m
   pub deliveries : delivered v ≡ delivered w + length ds
@@ -53,6 +54,7 @@ ran-none S w N =
       same-shape = refl;
       home = tt;
       labels = λ l. zero-add (heldWith l S w);
+      packets = zero-add (packetsHeld S w);
       work-done = zero-add (workLeft S w);
       moves = sym (add-zero (movesMade w));
       deliveries = sym (add-zero (delivered w));
@@ -74,6 +76,11 @@ ran-then S u w v ds es m k a b =
           let y : sumOf (λ d. isLabelled l (d .packet)) es + heldWith l S v ≡ heldWith l S w = b .labels l in
           let z : sumOf (λ d. isLabelled l (d .packet)) (ds ++ es) ≡ sumOf (λ d. isLabelled l (d .packet)) ds + sumOf (λ d. isLabelled l (d .packet)) es =
           sumOf-append (λ d. isLabelled l (d .packet)) ds es in
+          omega arith;
+      packets =
+          let x : length ds + packetsHeld S w ≡ packetsHeld S u = a .packets in
+          let y : length es + packetsHeld S v ≡ packetsHeld S w = b .packets in
+          let z : length (ds ++ es) ≡ length ds + length es = length-append ds es in
           omega arith;
       work-done =
           let x : m + workLeft S w ≡ workLeft S u = a .work-done in
@@ -343,6 +350,7 @@ module _ (S : Shape) (w : List ℕ) (n q : ℕ) (tor : Torus S) (N : Network S w
               let b : sumOf (λ (d : Delivery). isLabelled l (d .packet)) (record { node = n; packet = head (held S w n q) } ∷ []) ≡ isLabelled l (head (held S w n q)) =
               sum-single (λ (d : Delivery). isLabelled l (d .packet)) (record { node = n; packet = head (held S w n q) }) in
               omega arith;
+          packets = let a = handed-packets in omega arith;
           work-done = let a = handed-work in omega arith;
           moves = handed-moves;
           deliveries = handed-delivered;
@@ -573,6 +581,7 @@ module _ (S : Shape) (w : List ℕ) (n q : ℕ) (tor : Torus S) (N : Network S w
               moved-sum (isLabelled l) in
               let b : isLabelled l hopped ≡ isLabelled l (head (held S w n q)) = same-label l in
               omega arith;
+          packets = zero-add (packetsHeld S moved) ∙ moved-packets;
           work-done = let a = moved-work in omega arith;
           moves = moved-moves;
           deliveries = moved-delivered ∙ sym (add-zero (delivered w));
