@@ -26,7 +26,9 @@ same-length : tie.Need-same-length
 same-length c = search needs
 
 returns : tie.Need-returns
-returns c = ap (λ (part : List ℕ). splice (c .before .before .before .before .before .args .words .now) (c .before .before .before .before .before .args .start) (c .before .before .before .before .before .args .end) part) (c .before .before .append .ensures)
+returns c =
+    let a = c .before .before .before .before .before .args in
+    ap (λ (part : List ℕ). splice (a .words .now) (a .start) (a .end) part) (c .before .before .append .ensures)
 
 pub append-at-spec : {M : Type 1} → statement M
 append-at-spec =
