@@ -5,6 +5,7 @@ pub mod Queues
 pub mod Rings
 pub mod Hop
 pub mod Step
+pub mod Ready
 pub mod Alive
 pub mod Drains
 pub mod Theorem
