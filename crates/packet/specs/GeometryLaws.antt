@@ -81,7 +81,8 @@ coordinate-y s i n r h e = rw e (sym (mod-eq-of-lt (row s n r h)))
     row s n r h = div-lt-iff-lt-mul (r .x-least) .1 (let e = nodes-is s in let f = mul-comm (s .x) (s .y) in omega arith)
 
 -- a coordinate c is on its ring of k nodes
-pub on-ring : {s : Sizes} {c k : ℕ} (i n : ℕ) → RingsFit s → i < dimensions → c ≡ coordinate (shapeOfSizes s) i n → k ≡ size (shapeOfSizes s) i → (c < k) × (k ≤ 16)
+pub on-ring : {s : Sizes} {c k : ℕ} (i n : ℕ) → RingsFit s → i < dimensions → c ≡ coordinate (shapeOfSizes s) i n → k ≡ size (shapeOfSizes s) i
+    → (c < k) × (k ≤ 16)
 on-ring {s} i n r h ec ek =
     let l = coordinate-lt (shapeOfSizes s) i n (rings-torus s r) h in
     let m = size-most s i r h in
@@ -197,8 +198,8 @@ module _ {S : Shape} {d n c k w : ℕ} (r : Ring S d n c k w) where
 
 -- A node by its coordinates -----------------------------------------------------------------------------------------------------------
 
-pub node-is : {s : Sizes} {x y : ℕ} (n : ℕ) → RingsFit s → n < nodes (shapeOfSizes s) → x ≡ coordinate (shapeOfSizes s) 0 n → y ≡ coordinate (shapeOfSizes s) 1 n
-    → y * s .x + x ≡ n
+pub node-is : {s : Sizes} {x y : ℕ} (n : ℕ) → RingsFit s → n < nodes (shapeOfSizes s) → x ≡ coordinate (shapeOfSizes s) 0 n
+    → y ≡ coordinate (shapeOfSizes s) 1 n → y * s .x + x ≡ n
 node-is {s} n r h ex ey =
     ap₂ (λ (b a : ℕ). b * s .x + a) (ey ∙ sym (coordinate-y s 1 n r h refl)) (ex ∙ sym (coordinate-x s 0 n refl))
     ∙ div-add-mod' n (s .x)

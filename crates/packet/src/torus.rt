@@ -14,7 +14,7 @@ ghost use Rattle.network.specs.Calls.{offered};
 ghost use Rattle.network.specs.OfferLaws.{offeredWay};
 ghost use Rattle.packet.specs.Geometry.{shapeOfSizes, RingsFit, weight};
 
-// Columns and rows, and the capacities of a node's queues.
+// Columns and rows, and the capacities of a node's queues: the sizes of a network, in the order of its first words.
 pub struct Sizes {
     pub x: u64,
     pub y: u64,

@@ -38,7 +38,8 @@ backward-is c =
     let a = start c .args in
     c .backward .ensures ∙ ap backward (back (c .before .before .offset .ensures) (offset-range (a .i) (a .p)))
 
-on : (c : tie.After-backward) → (c .before .before .before .coordinate .result < c .before .before .before .before .size .result) × (c .before .before .before .before .size .result ≤ 16)
+on : (c : tie.After-backward)
+    → (c .before .before .before .coordinate .result < c .before .before .before .before .size .result) × (c .before .before .before .before .size .result ≤ 16)
 on c =
     let a = start c .args in
     let p = start c .pre in

@@ -15,7 +15,8 @@ start c = c .before .before .before
 
 -- what is known after the three calls
 ring : (c : tie.After-weight)
-    → Ring (shapeOfSizes (start c .args .s)) (start c .args .d) (start c .args .n) (c .before .before .coordinate .result) (c .before .size .result) (c .weight .result)
+    → Ring (shapeOfSizes (start c .args .s)) (start c .args .d) (start c .args .n)
+    (c .before .before .coordinate .result) (c .before .size .result) (c .weight .result)
 ring c =
     let a = start c .args in
     let p = start c .pre in
