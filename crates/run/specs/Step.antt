@@ -634,6 +634,26 @@ module _ (S : Shape) (w : List ℕ) (n q : ℕ) (tor : Torus S) (N : Network S w
         resting : drop (need S) moved ≡ drop (need S) w
         resting = rest-raised S movesAt gone (omega arith) ∙ rest-put S (headLeaves S w n q) there o joined there-place joined-few ∙ left-rest
 
+-- where a permitted move leads that does not deliver: a node whose queue has a free slot once the head has left its own
+pub record Ahead (S : Shape) (w : List ℕ) (n q o : ℕ) : Type 0 where
+  pub node : target S n o < nodes S
+  pub room : length (held S (headLeaves S w n q) (target S n o) o) < capacity S o
+
+pub ahead : (S : Shape) (w : List ℕ) (n q o : ℕ) → Torus S → Network S w → Permitted S w n q o → o ≢ deliver → Ahead S w n q o
+unfolding there joined hopped
+ahead S w n q o tor N P away = go (route-of q (head (held S w n q)) o (P .route))
+  where
+    go : ((o ≡ deliver) × (hopsLeft (head (held S w n q)) ≡ 0)) ⊎ Onward (head (held S w n q)) o → Ahead S w n q o
+    go (inl e) = absurd (away (e .0))
+    go (inr r) =
+        let d : ℕ = heading (r .dimension) (head (held S w n q)) in
+        let g : Going (head (held S w n q)) o d = going (head (held S w n q)) o r in
+        let new : ℕ = hop (dimensionOf (directionOf o)) (head (held S w n q)) in
+        let here : List ℕ = held S (headLeaves S w n q) (target S n o) o in
+        let a : length (here ++ (new ∷ [])) ≤ capacity S o = joined-few S w n q tor N (P .node) (P .queue) (P .holds) o d (P .output) g (P .room away) in
+        let b : length (here ++ (new ∷ [])) ≡ length here + 1 = length-append here (new ∷ []) in
+        record { node = there-lt S w n q tor N (P .node) (P .queue) (P .holds) o d (P .output) g (P .room away); room = omega arith }
+
 -- what a move hands out
 unfoldable pub handsOut : Shape → List ℕ → ℕ → ℕ → ℕ → List Delivery
 handsOut S w n q o = cond (eqb o deliver) (record { node = n; packet = head (held S w n q) } ∷ []) []

@@ -1,0 +1,46 @@
+-- `changes::accept` meets its contract. Assumes nothing.
+use borrow.Author.Needs.{needs}
+use native.Mathlib.Omega.{arith}
+use Rattle.packet.specs.Geometry.{shapeOfSizes}
+use Rattle.packet.specs.GeometryLaws.{inRange-rings}
+use Rattle.queue.specs.QueueLaws.{checked-fits}
+use Rattle.network.specs.Sizes.{injectionQueue}
+use Rattle.network.specs.Layout.{acceptedAt}
+use Rattle.changes.proofs.Laws.{network-checked, accepted-may, arrives-may, offered-words}
+use Rattle.changes.proofs.accept.Statement.{statement}
+use Rattle.changes.proofs.accept.Tie as tie
+
+offered-requires : tie.Need-offered-requires
+offered-requires c κs =
+    let s = c .before in
+    (inRange-rings (s .args .s) (s .pre .0 .in-range), s .pre .1 .0, s .pre .1 .1 .0)
+
+push-requires : tie.Need-push-requires
+push-requires c κs =
+    let s = c .before .before .before in
+    let a = s .args in
+    (network-checked (shapeOfSizes (a .s)) (a .words .now) (a .n) injectionQueue (s .pre .0) (s .pre .1 .0) (omega arith), s .pre .1 .1 .1)
+
+raise-requires : tie.Need-raise-requires
+raise-requires c κs =
+    let u = c .before .before .before in
+    let s = u .before .before .before .before in
+    let a = s .args in
+    let S = shapeOfSizes (a .s) in
+    arrives-may S (a .words .now) (u .push .last .0) (a .n) injectionQueue (u .before .before .offered .result) acceptedAt (u .push .ensures)
+    (checked-fits S (a .words .now) (a .n) injectionQueue (network-checked S (a .words .now) (a .n) injectionQueue (s .pre .0) (s .pre .1 .0) (omega arith)))
+    (s .pre .1 .1 .1) (omega arith) (accepted-may (s .pre .0))
+
+same-length : tie.Need-same-length
+same-length c = search needs
+
+returns : tie.Need-returns
+returns c =
+    let x = c .before .before .raise in
+    let u = c .before .before .before .before .before .before in
+    let p = u .before .before .offered in
+    let a = u .before .before .before .before .args in
+    offered-words (shapeOfSizes (a .s)) (a .words .now) (u .push .last .0) (x .last .0) (a .n) (a .destination) (a .tag) (p .result) (p .ensures) (u .push .ensures) (x .ensures)
+
+pub accept-spec : {M : Type 1} → statement M
+accept-spec = tie.close (tie.spec offered-requires push-requires raise-requires same-length returns)
