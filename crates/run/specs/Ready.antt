@@ -5,7 +5,8 @@ use mathlib.Core.Path.{_≡_, refl, ap, sym, _∙_, subst}
 use mathlib.Core.Logic.{_⊎_, inl, inr, _≢_}
 use mathlib.Core.Bool.{Bool, true, false, cond}
 use mathlib.Core.List.{List, [], _∷_}
-use Prim.Native.Nat.{ℕ, _-_, _<_, _≤_}
+use Prim.Native.Nat.{ℕ, zero, suc, _+_, _-_, _<_, _≤_}
+use native.Mathlib.Nat.{zero-add, add-zero}
 use native.Mathlib.Omega.{arith}
 use lib.Dec.{T, eqb}
 use lib.ListN.{length}
@@ -20,8 +21,8 @@ use Rattle.network.specs.CheckLaws.{Network, neighbour-back}
 use Rattle.network.specs.Routes.{routes, deliver, target, freeSlots, slotsNeeded}
 use Rattle.network.specs.Refusals.{head}
 use Rattle.network.specs.RefusalLaws.{Permitted}
-use Rattle.network.specs.FirstLaws.{Finds, nothing, named, Here, node-finds, node-nothing}
-use Rattle.network.specs.Calls.{afterMove, firstInNode}
+use Rattle.network.specs.FirstLaws.{Finds, nothing, named, Here, node-finds, node-nothing, search-from}
+use Rattle.network.specs.Calls.{afterMove, firstInNode, firstMove, search, orElse}
 use Rattle.run.specs.Step.{Elsewhere, step-elsewhere}
 
 -- the node whose output q leads into queue q of node n
@@ -87,3 +88,37 @@ still-nothing S w n q o tor N P k u e = go (firstInNode S (afterMove S w n q o) 
         absurd
         (node-nothing S w k e r t
         (permitted-before S w n q o tor N P k r t u (subst (λ (x : ℕ). Permitted S (afterMove S w n q o) x r t) (h .0) (h .1))))
+
+-- the first place of a search decides if it has anything
+found-first : (f : ℕ → Found) (i count : ℕ) (r : Found) → f i ≡ r → r ≢ Found.Nothing → search f i (suc count) ≡ r
+unfolding search orElse
+found-first f i count r e ne = ap (λ (a : Found). orElse a (search f (suc i) count)) e ∙ kept r ne
+  where
+    kept : (r : Found) → r ≢ Found.Nothing → orElse r (search f (suc i) count) ≡ r
+    kept (Found.Refused x) ne = refl
+    kept Found.Nothing ne = absurd (ne refl)
+    kept (Found.Move n q o) ne = refl
+
+found-nowhere : (f : ℕ → Found) (i : ℕ) → search f i 0 ≡ Found.Nothing
+unfolding search
+found-nowhere f i = refl
+
+-- First's move where no node before n has one, and none where no node has
+pub first-at : (S : Shape) (w : List ℕ) (n : ℕ) (f : Found) → n < nodes S → ((k : ℕ) → k < n → firstInNode S w k ≡ Found.Nothing)
+    → firstInNode S w n ≡ f → f ≢ Found.Nothing → firstMove S w ≡ f
+unfolding firstMove
+first-at S w n f h none e ne =
+    ap (λ (c : ℕ). search (λ m. firstInNode S w m) 0 c) (count n (nodes S) h)
+    ∙ search-from (λ m. firstInNode S w m) 0 n (suc (nodes S - suc n)) (λ j a b. none j (omega arith))
+    ∙ ap (λ (c : ℕ). search (λ m. firstInNode S w m) c (suc (nodes S - suc n))) (zero-add n)
+    ∙ found-first (λ m. firstInNode S w m) n (nodes S - suc n) f e ne
+  where
+    count : (n t : ℕ) → n < t → t ≡ n + suc (t - suc n)
+    count n t h = omega arith
+
+pub first-nowhere : (S : Shape) (w : List ℕ) → ((k : ℕ) → k < nodes S → firstInNode S w k ≡ Found.Nothing) → firstMove S w ≡ Found.Nothing
+unfolding firstMove
+first-nowhere S w none =
+    ap (λ (c : ℕ). search (λ m. firstInNode S w m) 0 c) (sym (add-zero (nodes S)))
+    ∙ search-from (λ m. firstInNode S w m) 0 (nodes S) 0 (λ j a b. none j (omega arith))
+    ∙ found-nowhere (λ m. firstInNode S w m) (0 + nodes S)
