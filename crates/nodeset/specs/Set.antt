@@ -1,5 +1,5 @@
 -- A set of nodes, numbers below 256, as the bits of four words: node n is bit n % 64 of word n / 64. Order: the members; what the functions of
--- the crate leave or find. The statements are over every number m: from 256 on there is no member. Assumes nothing.
+-- the crate leave or find. The statements are over every number m: from 256 on there is no member (SetLaws.antt). Assumes nothing.
 use mathlib.Core.Path.{_≡_}
 use mathlib.Core.Bool.{Bool, true, false, not, _&&_, _||_}
 use mathlib.Core.List.{List}
