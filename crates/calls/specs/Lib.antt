@@ -1,0 +1,4 @@
+-- How Drain's loop goes: one turn after the other.
+pub mod Turns
+pub mod Ready
+pub mod Drains

@@ -1,0 +1,66 @@
+// One turn of a Drain: its stops, tested in document 01's order, or one move. A turn does not search the nodes from the first: a set
+// of nodes goes along that holds every node which may have a permitted move (specs/Ready.antt), so that what a move costs does not
+// grow with the network. The move is First's all the same, and that is what the contracts say.
+use network::Found;
+use network::Stop;
+use packet::torus::Sizes;
+ghost use mathlib.Core.Path.{_≡_};
+ghost use mathlib.Core.Bool.{false};
+ghost use Prim.Native.Nat.{ℕ, _<_};
+ghost use Rattle.network.specs.Sizes.{nodes, queues};
+ghost use Rattle.network.specs.CheckLaws.{Network};
+ghost use Rattle.network.specs.RefusalLaws.{Permitted};
+ghost use Rattle.network.specs.Calls.{firstMove};
+ghost use Rattle.packet.specs.Geometry.{shapeOfSizes, RingsFit};
+ghost use Rattle.nodeset.specs.Set.{IsSet};
+ghost use Rattle.calls.specs.Ready.{Covered, Marked, ArrivalMarked, FeederMarked};
+ghost use Rattle.calls.specs.Turns.{turnAnswer, turnWords};
+
+// What a turn came to: a stop, a move to a neighbour, or a delivery with the packet word that it hands out.
+pub enum Turn {
+    Stopped(Stop),
+    Passed,
+    Delivered(u64),
+}
+
+// The node at which a packet that left node n by output o has arrived becomes a member.
+fn mark_arrival(ready: &mut [u64], s: Sizes, n: u64, o: u64)
+    requires { ⌜ IsSet (now ready) ⌝ }
+    requires { ⌜ RingsFit s ⌝ }
+    requires { ⌜ n < nodes (shapeOfSizes s) ⌝ }
+    ensures { λ _. ⌜ ArrivalMarked (shapeOfSizes s) n o (now (ready .entry)) (now (ready .exit)) ⌝ }
+{
+    if o == 0 {
+        return;
+    }
+    let there = packet::torus::neighbour(s, (o - 1) % 4, n);
+    nodeset::insert(ready, there);
+}
+
+// The node whose output leads into queue q of node n, where a slot is free now, becomes a member.
+fn mark_feeder(ready: &mut [u64], s: Sizes, n: u64, q: u64)
+    requires { ⌜ IsSet (now ready) ⌝ }
+    requires { ⌜ RingsFit s ⌝ }
+    requires { ⌜ n < nodes (shapeOfSizes s) ⌝ }
+    ensures { λ _. ⌜ FeederMarked (shapeOfSizes s) n q (now (ready .entry)) (now (ready .exit)) ⌝ }
+{
+    if q == 0 {
+        return;
+    }
+    let d = (q - 1) % 4;
+    let back = d / 2 * 2 + (1 - d % 2);
+    let there = packet::torus::neighbour(s, back, n);
+    nodeset::insert(ready, there);
+}
+
+// The nodes that a move may have given a permitted move become members.
+fn mark(ready: &mut [u64], s: Sizes, n: u64, q: u64, o: u64)
+    requires { ⌜ IsSet (now ready) ⌝ }
+    requires { ⌜ RingsFit s ⌝ }
+    requires { ⌜ n < nodes (shapeOfSizes s) ⌝ }
+    ensures { λ _. ⌜ Marked (shapeOfSizes s) n q o (now (ready .entry)) (now (ready .exit)) ⌝ }
+{
+    nodeset::insert(ready, n);
+    mark_arrival(ready, s, n, o);
+    mark_feeder(ready, s, n, q);
+}
