@@ -1,13 +1,11 @@
 -- Laws that the proofs of this crate cite, over plain variables. Order: the header of an empty network; a counter that may rise; a packet that
 -- joins a queue; a move. Assumes nothing.
-use mathlib.Core.Path.{_≡_, refl, ap, ap₂, sym, subst, _∙_}
+use mathlib.Core.Path.{_≡_, ap, ap₂, sym, subst, _∙_}
 use mathlib.Core.Logic.{_≢_}
-use mathlib.Core.Bool.{cond}
 use mathlib.Core.List.{List, [], _∷_, _++_}
 use Prim.Native.Nat.{ℕ, _+_, _*_, _-_, _^_, _<_, _≤_}
 use native.Mathlib.Omega.{arith}
 use borrow.Author.Tests.{eq-eqb, ne-eqb}
-use lib.Dec.{eqb}
 use lib.ListN.{length, getD, set, drop, replicate, length-append, replicate-append-replicate}
 use Rattle.network.specs.Sizes.{Shape, nodes, queues, capacity, injectionQueue, directionOf, dimensionOf}
 use Rattle.network.specs.Packet.{hop}

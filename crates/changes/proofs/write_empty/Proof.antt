@@ -1,4 +1,4 @@
--- `changes::write_empty` meets its contract. Assumes nothing.
+-- `changes::write_empty` meets its contract: five words written over cleared ones are the empty network. Assumes nothing.
 use borrow.Author.Needs.{needs}
 use Prim.Native.Nat.{_≤_}
 use native.Mathlib.Omega.{arith}
