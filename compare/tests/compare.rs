@@ -22,7 +22,7 @@ fn main() {
     let start = Instant::now();
     let mut lab = Lab::new();
     println!("compared: {}", lab.names().join("; "));
-    let parts: [Part; 12] = [
+    let parts: [Part; 11] = [
         ("kept cases and listing", kept::all),
         ("stores of 0 to 7 words", tiny_stores),
         ("stores too short and too long", short_and_long),
