@@ -2,3 +2,4 @@
 pub mod Turns
 pub mod Ready
 pub mod Drains
+pub mod Answers
