@@ -78,3 +78,10 @@ module _ (s : Sizes) (w : List ℕ) (n q : ℕ) (k : QueueOf s w n q) where
 
   pub held-few : length (held (shapeOfSizes s) w n q) ≤ capacity (shapeOfSizes s) q
   held-few = let e = checked-count (shapeOfSizes s) w n q queue-checked in let f = queue-checked .count in omega arith
+
+  pub end-at : (start slots : ℕ) → start ≡ queueStart (shapeOfSizes s) n q → slots ≡ capacity (shapeOfSizes s) q → start + (1 + slots) ≤ length w
+  unfolding queueEnd queueLength
+  end-at start slots e f =
+      let l : queueStart (shapeOfSizes s) n q + (1 + capacity (shapeOfSizes s) q) ≤ length w =
+      end-length (shapeOfSizes s) w n q (checked-fits (shapeOfSizes s) w n q queue-checked) in
+      omega arith

@@ -1,6 +1,7 @@
 // What may move, in code, on words that have passed the check: the routes of a head, the flow rule, each call's tests after the
 // check, and the search of First. Every function equals the definition of its name in the crate `network` (specs/Routes.antt,
 // Refusals.antt, Calls.antt).
+pub mod first;
 pub mod flow;
 pub mod refusals;
 pub mod routes;
