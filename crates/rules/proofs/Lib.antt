@@ -1,0 +1,4 @@
+-- Laws that several proofs of this crate cite.
+pub mod Places
+pub mod Cases
+pub mod Searching
