@@ -64,3 +64,37 @@ fn mark(ready: &mut [u64], s: Sizes, n: u64, q: u64, o: u64)
     mark_arrival(ready, s, n, o);
     mark_feeder(ready, s, n, q);
 }
+
+// First's move, found from the lowest node of the set on. Nodes of the set that have none are taken out of it.
+fn next_move(words: &[u64], s: Sizes, ready: &mut [u64]) -> Found
+    requires { ⌜ Network (shapeOfSizes s) (now words) ⌝ }
+    requires { ⌜ Covered (shapeOfSizes s) (now words) (now ready) ⌝ }
+    ensures answer { λ r. ⌜ r ≡ firstMove (shapeOfSizes s) (now (words .entry)) ⌝ }
+    ensures set { λ _. ⌜ Covered (shapeOfSizes s) (now (words .entry)) (now (ready .exit)) ⌝ }
+{
+    let count = packet::torus::nodes(s);
+    let mut from: u64 = 0;
+    while from < count {
+        let node = nodeset::lowest(ready);
+        if count <= node {
+            return Found::Nothing;
+        }
+        let found = rules::first::first_in_node(words, s, node);
+        match found {
+            Found::Refused(_) => {
+                return found;
+            }
+            Found::Nothing => {}
+            Found::Move {
+                node: _,
+                queue: _,
+                output: _,
+            } => {
+                return found;
+            }
+        }
+        nodeset::remove(ready, node);
+        from = node + 1;
+    }
+    Found::Nothing
+}
