@@ -132,3 +132,38 @@ target-is S n o r e = e
 pub before-is : (S : Shape) (n q r : ℕ) → r ≡ neighbour S ((q - 1) % 4 / 2 * 2 + (1 - (q - 1) % 4 % 2)) n → r ≡ before S n q
 unfolding before
 before-is S n q r e = e ∙ ap (λ (d : ℕ). neighbour S d n) (direction-back ((q - 1) % 4))
+
+-- the search through the set: no node before `from` is left in it
+pub record Searched (S : Shape) (w set : List ℕ) (from : ℕ) : Type 0 where
+  pub covers : Covered S w set
+  pub below : (m : ℕ) → m < from → member set m ≡ false
+
+pub searched-start : (S : Shape) (w set : List ℕ) → Covered S w set → Searched S w set 0
+searched-start S w set c = record { covers = c; below = λ m h. absurd (native.Mathlib.Nat.not-suc-le-zero h) }
+
+pub searched-next : (S : Shape) (w set after : List ℕ) (from n : ℕ) → Searched S w set from → Lowest set n → firstInNode S w n ≡ Found.Nothing → Removed set after n
+    → Searched S w after (n + 1)
+searched-next S w set after from n s l none r =
+    record { covers = covered-removed S w set after n (s .covers) none r; below = λ m h. r .members m ∙ gone m h (ℕ-discrete m n) }
+  where
+    gone : (m : ℕ) → m < n + 1 → Dec (m ≡ n) → (not (eqb m n) && member set m) ≡ false
+    gone m h (yes e) = rw (eq-eqb m n e)
+    gone m h (no ne) = rw (ne-eqb m n ne) (l .below m (omega arith))
+
+-- it goes on upwards
+pub searched-up : (S : Shape) (w set : List ℕ) (from n : ℕ) → Searched S w set from → Lowest set n → n < 256 → from ≤ n
+searched-up S w set from n s l h = go (native.Mathlib.Decide.decLt n from)
+  where
+    go : Dec (n < from) → from ≤ n
+    go (yes b) = absurd (mathlib.Core.Bool.true≢false (sym (l .found h) ∙ s .below n b))
+    go (no b) = omega arith
+
+pub searched-all : (S : Shape) (w set : List ℕ) (from : ℕ) → Searched S w set from → nodes S ≤ from → firstMove S w ≡ Found.Nothing
+searched-all S w set from s h = first-nowhere S w (λ k hk. s .covers .others k hk (s .below k (lt-of-lt-of-le hk h)))
+
+-- what is named is not nothing
+pub refused-some : (f : Found) (r : ℕ) → f ≡ Found.Refused r → f ≢ Found.Nothing
+refused-some f r e z = let y : _≡_ {A = ℕ} 0 1 = cc in native.Mathlib.Nat.suc-ne-zero 0 (sym y)
+
+pub move-some : (f : Found) (n q o : ℕ) → f ≡ Found.Move n q o → f ≢ Found.Nothing
+move-some f n q o e z = let y : _≡_ {A = ℕ} 0 1 = cc in native.Mathlib.Nat.suc-ne-zero 0 (sym y)
