@@ -15,7 +15,7 @@ use Rattle.network.specs.declared.Found.{Found}
 use Rattle.network.specs.declared.Stop.{Stop}
 use Rattle.network.specs.Sizes.{Shape}
 use Rattle.network.specs.TorusLaws.{Torus}
-use Rattle.network.specs.Layout.{held}
+use Rattle.network.specs.Layout.{held, accepted, delivered}
 use Rattle.network.specs.Check.{packetsHeld}
 use Rattle.network.specs.CheckLaws.{Network}
 use Rattle.network.specs.Routes.{deliver}
@@ -47,6 +47,9 @@ unfoldable pub madeBy : Shape → List ℕ → Found → List ℕ
 madeBy S w (Found.Refused r) = w
 madeBy S w Found.Nothing = w
 madeBy S w (Found.Move n q o) = afterMove S w n q o
+
+unfoldable pub byWords : Shape → List ℕ → ℕ → Found → List ℕ
+byWords S w room f = unlessStopped (turnBy S w room f) (madeBy S w f) w
 
 unfoldable pub turnWords : Shape → List ℕ → ℕ → ℕ → List ℕ
 turnWords S w budget room = unlessStopped (turnAnswer S w budget room) (madeBy S w (firstMove S w)) w
@@ -142,3 +145,60 @@ after-more m ds es r =
   where
     more : (a b : ℕ) → a + suc b ≡ a + 1 + b
     more a b = omega arith
+
+-- the turn by a move, at each place where the code returns
+pub by-passed : (S : Shape) (w : List ℕ) (room n q o : ℕ) → o ≢ 0 → turnBy S w room (Found.Move n q o) ≡ Turn.Passed
+unfolding turnBy
+by-passed S w room n q o ne = rw (ne-eqb o deliver ne)
+
+pub by-full : (S : Shape) (w : List ℕ) (room n q o : ℕ) → o ≡ 0 → room ≡ 0 → turnBy S w room (Found.Move n q o) ≡ Turn.Stopped Stop.Full
+unfolding turnBy
+by-full S w room n q o e z = rw (eq-eqb o deliver e, eq-eqb room 0 z)
+
+pub by-delivered : (S : Shape) (w : List ℕ) (room n q o p : ℕ) → o ≡ 0 → room ≢ 0 → p ≡ head (held S w n q) → turnBy S w room (Found.Move n q o) ≡ Turn.Delivered p
+unfolding turnBy
+by-delivered S w room n q o p e ne h = rw (eq-eqb o deliver e, ne-eqb room 0 ne) (ap Turn.Delivered (sym h))
+
+pub words-moved : (S : Shape) (w : List ℕ) (room n q o : ℕ) (t : Turn) → turnBy S w room (Found.Move n q o) ≡ t → unlessStopped t (afterMove S w n q o) w ≡ byWords S w room (Found.Move n q o)
+unfolding byWords madeBy
+words-moved S w room n q o t e = ap (λ (x : Turn). unlessStopped x (afterMove S w n q o) w) (sym e)
+
+-- the whole turn
+pub turn-emptied : (S : Shape) (w : List ℕ) (budget room : ℕ) → packetsHeld S w ≡ 0 → turnAnswer S w budget room ≡ Turn.Stopped Stop.Emptied
+unfolding turnAnswer
+turn-emptied S w budget room z = rw (eq-eqb (packetsHeld S w) 0 z)
+
+pub turn-spent : (S : Shape) (w : List ℕ) (budget room : ℕ) → packetsHeld S w ≢ 0 → budget ≡ 0 → turnAnswer S w budget room ≡ Turn.Stopped Stop.Spent
+unfolding turnAnswer
+turn-spent S w budget room ne z = rw (ne-eqb (packetsHeld S w) 0 ne, eq-eqb budget 0 z)
+
+pub turn-by : (S : Shape) (w : List ℕ) (budget room : ℕ) (f : Found) → packetsHeld S w ≢ 0 → budget ≢ 0 → f ≡ firstMove S w → turnBy S w room f ≡ turnAnswer S w budget room
+unfolding turnAnswer
+turn-by S w budget room f ne nb e = rw (ne-eqb (packetsHeld S w) 0 ne, ne-eqb budget 0 nb) (ap (turnBy S w room) e)
+
+pub turn-by-words : (S : Shape) (w : List ℕ) (budget room : ℕ) (f : Found) → packetsHeld S w ≢ 0 → budget ≢ 0 → f ≡ firstMove S w → byWords S w room f ≡ turnWords S w budget room
+unfolding byWords turnWords
+turn-by-words S w budget room f ne nb e = ap₂ (λ (t : Turn) (g : Found). unlessStopped t (madeBy S w g) w) (turn-by S w budget room f ne nb e) e
+
+pub stopped-words : (S : Shape) (w : List ℕ) (budget room : ℕ) (why : Stop) → turnAnswer S w budget room ≡ Turn.Stopped why → w ≡ turnWords S w budget room
+unfolding turnWords unlessStopped
+stopped-words S w budget room why e = sym (ap (λ (t : Turn). unlessStopped t (madeBy S w (firstMove S w)) w) e)
+
+-- First's move is permitted
+pub first-permitted : (S : Shape) (w : List ℕ) (n q o : ℕ) → Found.Move n q o ≡ firstMove S w → Permitted S w n q o
+first-permitted S w n q o e = go (firstMove S w) (first-finds S w) e
+  where
+    go : (f : Found) → Finds (Permitted S w) f → Found.Move n q o ≡ f → Permitted S w n q o
+    go f nothing x = absurd (let z : _≡_ {A = ℕ} 0 1 = cc in native.Mathlib.Nat.suc-ne-zero 0 (sym z))
+    go f (named {n = m} {q = r} {o = t} P) x =
+        let a : m ≡ n = cc in
+        let b : r ≡ q = cc in
+        let c : t ≡ o = cc in
+        subst (λ (k : ℕ). Permitted S w k q o) a (subst (λ (k : ℕ). Permitted S w m k o) b (subst (λ (k : ℕ). Permitted S w m r k) c P))
+
+-- nothing is held exactly when as many were delivered as accepted
+pub none-held : (S : Shape) (w : List ℕ) → Network S w → accepted w ≡ delivered w → packetsHeld S w ≡ 0
+none-held S w N e = let c : delivered w + packetsHeld S w ≡ accepted w = N .counted in omega arith
+
+pub some-held : (S : Shape) (w : List ℕ) → Network S w → (accepted w ≡ delivered w → ⊥) → packetsHeld S w ≢ 0
+some-held S w N ne z = ne (let c : delivered w + packetsHeld S w ≡ accepted w = N .counted in omega arith)

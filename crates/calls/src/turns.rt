@@ -7,14 +7,15 @@ use packet::torus::Sizes;
 ghost use mathlib.Core.Path.{_≡_};
 ghost use mathlib.Core.Bool.{false};
 ghost use Prim.Native.Nat.{ℕ, _<_};
-ghost use Rattle.network.specs.Sizes.{nodes, queues};
+ghost use Rattle.network.specs.declared.Found.{Found};
+ghost use Rattle.network.specs.Sizes.{nodes};
 ghost use Rattle.network.specs.CheckLaws.{Network};
 ghost use Rattle.network.specs.RefusalLaws.{Permitted};
 ghost use Rattle.network.specs.Calls.{firstMove};
 ghost use Rattle.packet.specs.Geometry.{shapeOfSizes, RingsFit};
 ghost use Rattle.nodeset.specs.Set.{IsSet};
 ghost use Rattle.calls.specs.Ready.{Covered, Marked, ArrivalMarked, FeederMarked};
-ghost use Rattle.calls.specs.Turns.{turnAnswer, turnWords};
+ghost use Rattle.calls.specs.Turns.{turnBy, byWords, turnAnswer, turnWords};
 
 // What a turn came to: a stop, a move to a neighbour, or a delivery with the packet word that it hands out.
 pub enum Turn {
@@ -97,4 +98,60 @@ fn next_move(words: &[u64], s: Sizes, ready: &mut [u64]) -> Found
         from = node + 1;
     }
     Found::Nothing
+}
+
+// The turn by the move that First names: it is made unless it delivers and no ledger word is left.
+fn turn_by_move(
+    words: &mut [u64],
+    s: Sizes,
+    ready: &mut [u64],
+    room: u64,
+    n: u64,
+    q: u64,
+    o: u64,
+) -> Turn
+    requires { ⌜ Network (shapeOfSizes s) (now words) ⌝ }
+    requires { ⌜ Covered (shapeOfSizes s) (now words) (now ready) ⌝ }
+    requires { ⌜ Permitted (shapeOfSizes s) (now words) n q o ⌝ }
+    ensures answer { λ r. ⌜ r ≡ turnBy (shapeOfSizes s) (now (words .entry)) room (Found.Move n q o) ⌝ }
+    ensures words { λ _. ⌜ now (words .exit) ≡ byWords (shapeOfSizes s) (now (words .entry)) room (Found.Move n q o) ⌝ }
+    ensures set { λ _. ⌜ Covered (shapeOfSizes s) (byWords (shapeOfSizes s) (now (words .entry)) room (Found.Move n q o)) (now (ready .exit)) ⌝ }
+{
+    if o != 0 {
+        changes::make_move(words, s, n, q, o);
+        mark(ready, s, n, q, o);
+        return Turn::Passed;
+    }
+    if room == 0 {
+        return Turn::Stopped(Stop::Full);
+    }
+    let p = changes::make_move(words, s, n, q, o);
+    mark(ready, s, n, q, o);
+    Turn::Delivered(p)
+}
+
+// One turn. Nothing is held exactly when as many packets were delivered as accepted.
+fn take_turn(words: &mut [u64], s: Sizes, ready: &mut [u64], budget: u64, room: u64) -> Turn
+    requires { ⌜ Network (shapeOfSizes s) (now words) ⌝ }
+    requires { ⌜ Covered (shapeOfSizes s) (now words) (now ready) ⌝ }
+    ensures answer { λ r. ⌜ r ≡ turnAnswer (shapeOfSizes s) (now (words .entry)) budget room ⌝ }
+    ensures words { λ _. ⌜ now (words .exit) ≡ turnWords (shapeOfSizes s) (now (words .entry)) budget room ⌝ }
+    ensures set { λ _. ⌜ Covered (shapeOfSizes s) (turnWords (shapeOfSizes s) (now (words .entry)) budget room) (now (ready .exit)) ⌝ }
+{
+    if words[5] == words[6] {
+        return Turn::Stopped(Stop::Emptied);
+    }
+    if budget == 0 {
+        return Turn::Stopped(Stop::Spent);
+    }
+    let found = next_move(words, s, ready);
+    match found {
+        Found::Refused(_) => Turn::Stopped(Stop::Emptied),
+        Found::Nothing => Turn::Stopped(Stop::Emptied),
+        Found::Move {
+            node,
+            queue,
+            output,
+        } => turn_by_move(words, s, ready, room, node, queue, output),
+    }
 }
