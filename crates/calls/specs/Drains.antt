@@ -19,9 +19,9 @@ use Rattle.network.specs.TorusLaws.{Torus}
 use Rattle.network.specs.CheckLaws.{Network}
 use Rattle.network.specs.Calls.{Delivery, Progress, stopped, oneMore, drainFrom}
 use Rattle.calls.specs.declared.turns.Turn.{Turn}
-use Rattle.calls.specs.Turns.{turnAnswer, turnWords, afterTurns, after-none, after-more, ByTurn, stops, passes, delivers, by-turn}
+use Rattle.calls.specs.Turns.{turnAnswer, turnWords, afterTurns, after-none, after-more, ByTurn, stops, passes, delivers, by-turn, stopped-words}
 
-abbrev packets : List Delivery → List ℕ
+abbrev pub packets : List Delivery → List ℕ
 packets ds = map (λ (d : Delivery). d .packet) ds
 
 -- from the words w₀ and the ledger l₀, m moves have led to w and l, and d packets were delivered
@@ -33,6 +33,15 @@ pub record SoFar (S : Shape) (w₀ : List ℕ) (budget : ℕ) (l₀ w l : List �
   pub within : m ≤ budget
   pub room : d ≤ length l₀
   pub written : l ≡ packets handed ++ drop d l₀
+
+-- the end of the loop: the answer, the words and the ledger of the whole Drain
+pub record DrainedTo (S : Shape) (w : List ℕ) (budget : ℕ) (ledger : List ℕ) (said : Drained) (v written : List ℕ) : Type 0 where
+  pub handed : List Delivery
+  pub moves : ℕ
+  pub why : Stop
+  pub whole : drainFrom S budget (length ledger) w ≡ record { words = v; deliveries = handed; moves = moves; stop = why }
+  pub says : said ≡ Drained.Stopped moves (length handed) why
+  pub writes : written ≡ packets handed ++ drop (length handed) ledger
 
 pub so-far-start : (S : Shape) (w : List ℕ) (budget : ℕ) (l : List ℕ) → Network S w → SoFar S w budget l w l 0 0
 so-far-start S w budget l N =
@@ -157,3 +166,52 @@ module _ (S : Shape) (tor : Torus S) (w₀ : List ℕ) (budget : ℕ) (l₀ : Li
       f .whole
       ∙ ap (afterTurns m (f .handed)) (ended S w (budget - m) (length l₀ - d) why _ _ (by-turn S tor w (f .network) (budget - m) (length l₀ - d)) e)
       ∙ at-the-end m (f .handed) w why
+
+  pub so-far-end : (w l : List ℕ) (m d : ℕ) (why : Stop) → SoFar S w₀ budget l₀ w l m d → turnAnswer S w (budget - m) (length l₀ - d) ≡ Turn.Stopped why
+      → DrainedTo S w₀ budget l₀ (Drained.Stopped m d why) w l
+  so-far-end w l m d why f e =
+      record {
+        handed = f .handed;
+        moves = m;
+        why = why;
+        whole = so-far-stopped w l m d why f e;
+        says = ap (λ (x : ℕ). Drained.Stopped m x why) (sym (f .counted));
+        writes = f .written ∙ ap (λ (x : ℕ). packets (f .handed) ++ drop x l₀) (sym (f .counted));
+      }
+
+  -- while a turn does not stop, some budget is left, and a ledger word where it delivered
+  pub passed-budget : (w l : List ℕ) (m d : ℕ) → SoFar S w₀ budget l₀ w l m d → turnAnswer S w (budget - m) (length l₀ - d) ≡ Turn.Passed → m < budget
+  passed-budget w l m d f e =
+      let (b, eb, M, y) = passed S w (budget - m) (length l₀ - d) _ _ (by-turn S tor w (f .network) (budget - m) (length l₀ - d)) e in
+      omega arith
+
+  pub delivered-budget : (w l : List ℕ) (m d p : ℕ) → SoFar S w₀ budget l₀ w l m d → turnAnswer S w (budget - m) (length l₀ - d) ≡ Turn.Delivered p
+      → (m < budget) × (d < length l₀)
+  delivered-budget w l m d p f e =
+      let h = delivered S w (budget - m) (length l₀ - d) p _ _ (by-turn S tor w (f .network) (budget - m) (length l₀ - d)) e in
+      let eb : budget - m ≡ suc (h .budget) = h .one-less in
+      let er : length l₀ - d ≡ suc (h .room) = h .one-word in
+      (omega arith, omega arith)
+
+  -- what the loop's body shows of the next round, by what the turn t came to: the words v, the ledger l′ and the number delivered d′ as they are then
+  pub next-passed : (w l : List ℕ) (m d : ℕ) (t : Turn) (v l′ : List ℕ) (d′ : ℕ) → SoFar S w₀ budget l₀ w l m d → t ≡ turnAnswer S w (budget - m) (length l₀ - d)
+      → v ≡ turnWords S w (budget - m) (length l₀ - d) → t ≡ Turn.Passed → l′ ≡ l → d′ ≡ d → SoFar S w₀ budget l₀ v l′ (m + 1) d′
+  next-passed w l m d t v l′ d′ f et ev e el ed =
+      let g : SoFar S w₀ budget l₀ (turnWords S w (budget - m) (length l₀ - d)) l (m + 1) d = so-far-passed w l m d f (sym et ∙ e) in
+      subst (λ (x : List ℕ). SoFar S w₀ budget l₀ x l′ (m + 1) d′) (sym ev)
+      (subst (λ (x : List ℕ). SoFar S w₀ budget l₀ (turnWords S w (budget - m) (length l₀ - d)) x (m + 1) d′) (sym el)
+      (subst (λ (x : ℕ). SoFar S w₀ budget l₀ (turnWords S w (budget - m) (length l₀ - d)) l (m + 1) x) (sym ed) g))
+
+  pub next-delivered : (w l : List ℕ) (m d p : ℕ) (t : Turn) (v l′ : List ℕ) (d′ : ℕ) → SoFar S w₀ budget l₀ w l m d → t ≡ turnAnswer S w (budget - m) (length l₀ - d)
+      → v ≡ turnWords S w (budget - m) (length l₀ - d) → t ≡ Turn.Delivered p → l′ ≡ set l d p → d′ ≡ d + 1 → SoFar S w₀ budget l₀ v l′ (m + 1) d′
+  next-delivered w l m d p t v l′ d′ f et ev e el ed =
+      let g : SoFar S w₀ budget l₀ (turnWords S w (budget - m) (length l₀ - d)) (set l d p) (m + 1) (d + 1) = so-far-delivered w l m d p f (sym et ∙ e) in
+      subst (λ (x : List ℕ). SoFar S w₀ budget l₀ x l′ (m + 1) d′) (sym ev)
+      (subst (λ (x : List ℕ). SoFar S w₀ budget l₀ (turnWords S w (budget - m) (length l₀ - d)) x (m + 1) d′) (sym el)
+      (subst (λ (x : ℕ). SoFar S w₀ budget l₀ (turnWords S w (budget - m) (length l₀ - d)) (set l d p) (m + 1) x) (sym ed) g))
+
+  pub end-of-it : (w l : List ℕ) (m d : ℕ) (why : Stop) (t : Turn) (v : List ℕ) → SoFar S w₀ budget l₀ w l m d → t ≡ turnAnswer S w (budget - m) (length l₀ - d)
+      → v ≡ turnWords S w (budget - m) (length l₀ - d) → t ≡ Turn.Stopped why → DrainedTo S w₀ budget l₀ (Drained.Stopped m d why) v l
+  end-of-it w l m d why t v f et ev e =
+      let g : DrainedTo S w₀ budget l₀ (Drained.Stopped m d why) w l = so-far-end w l m d why f (sym et ∙ e) in
+      subst (λ (x : List ℕ). DrainedTo S w₀ budget l₀ (Drained.Stopped m d why) x l) (stopped-words S w (budget - m) (length l₀ - d) why (sym et ∙ e) ∙ sym ev) g

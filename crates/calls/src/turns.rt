@@ -1,6 +1,7 @@
 // One turn of a Drain: its stops, tested in document 01's order, or one move. A turn does not search the nodes from the first: a set
 // of nodes goes along that holds every node which may have a permitted move (specs/Ready.antt), so that what a move costs does not
 // grow with the network. The move is First's all the same, and that is what the contracts say.
+use network::Drained;
 use network::Found;
 use network::Stop;
 use packet::torus::Sizes;
@@ -15,6 +16,7 @@ ghost use Rattle.network.specs.Calls.{firstMove};
 ghost use Rattle.packet.specs.Geometry.{shapeOfSizes, RingsFit};
 ghost use Rattle.nodeset.specs.Set.{IsSet};
 ghost use Rattle.calls.specs.Ready.{Covered, Marked, ArrivalMarked, FeederMarked};
+ghost use Rattle.calls.specs.Drains.{DrainedTo};
 ghost use Rattle.calls.specs.Turns.{turnBy, byWords, turnAnswer, turnWords};
 
 // What a turn came to: a stop, a move to a neighbour, or a delivery with the packet word that it hands out.
@@ -153,5 +155,37 @@ fn take_turn(words: &mut [u64], s: Sizes, ready: &mut [u64], budget: u64, room: 
             queue,
             output,
         } => turn_by_move(words, s, ready, room, node, queue, output),
+    }
+}
+
+// A Drain of a network: turn after turn until one stops. The set of nodes that may have a permitted move starts with all of them.
+pub fn drain_network(words: &mut [u64], s: Sizes, budget: u32, ledger: &mut [u64]) -> Drained
+    requires { ⌜ Network (shapeOfSizes s) (now words) ⌝ }
+    ensures { λ r. ⌜ DrainedTo (shapeOfSizes s) (now (words .entry)) budget (now (ledger .entry)) r (now (words .exit)) (now (ledger .exit)) ⌝ }
+{
+    let limit = budget as u64;
+    let total = ledger.len();
+    let mut ready = [0u64; 4];
+    nodeset::fill(&mut ready, packet::torus::nodes(s));
+    let mut moves: u64 = 0;
+    let mut delivered: usize = 0;
+    loop {
+        let room = (total - delivered) as u64;
+        let turn = take_turn(words, s, &mut ready, limit - moves, room);
+        match turn {
+            Turn::Stopped(why) => {
+                return Drained::Stopped {
+                    moves,
+                    delivered: delivered as u64,
+                    stop: why,
+                };
+            }
+            Turn::Passed => {}
+            Turn::Delivered(p) => {
+                ledger[delivered] = p;
+                delivered += 1;
+            }
+        }
+        moves += 1;
     }
 }
