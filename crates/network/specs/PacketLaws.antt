@@ -199,11 +199,11 @@ hops-hop-other i d p h k ne =
     ap (λ z. cond (isPlus d) (forward z) (backward z)) (offset-hop-other i (dimensionOf d) p h (dimension-lt d k) ne)
 
 -- of an even direction, and of an odd one
-even-hops : (d p : ℕ) → d % 2 ≡ 0 → hops d p ≡ forward (offset (dimensionOf d) p)
+pub even-hops : (d p : ℕ) → d % 2 ≡ 0 → hops d p ≡ forward (offset (dimensionOf d) p)
 unfolding hops
 even-hops d p e = chosen (isPlus d) (forward (offset (dimensionOf d) p)) (backward (offset (dimensionOf d) p)) (eq-eqb (d % 2) 0 e)
 
-odd-hops : (d p : ℕ) → d % 2 ≢ 0 → hops d p ≡ backward (offset (dimensionOf d) p)
+pub odd-hops : (d p : ℕ) → d % 2 ≢ 0 → hops d p ≡ backward (offset (dimensionOf d) p)
 unfolding hops
 odd-hops d p ne = passed-over (isPlus d) (forward (offset (dimensionOf d) p)) (backward (offset (dimensionOf d) p)) (ne-eqb (d % 2) 0 ne)
 
@@ -244,11 +244,11 @@ hops-le d p = go (ℕ-discrete (d % 2) 0)
 
 -- The direction in which a packet goes on ---------------------------------------------------------------------------------------------
 
-heading-plus : (i p : ℕ) → backward (offset i p) ≡ 0 → heading i p ≡ plus i
+pub heading-plus : (i p : ℕ) → backward (offset i p) ≡ 0 → heading i p ≡ plus i
 unfolding heading
 heading-plus i p e = chosen (eqb (backward (offset i p)) 0) (plus i) (minus i) (eq-eqb (backward (offset i p)) 0 e)
 
-heading-minus : (i p : ℕ) → backward (offset i p) ≢ 0 → heading i p ≡ minus i
+pub heading-minus : (i p : ℕ) → backward (offset i p) ≢ 0 → heading i p ≡ minus i
 unfolding heading
 heading-minus i p ne = passed-over (eqb (backward (offset i p)) 0) (plus i) (minus i) (ne-eqb (backward (offset i p)) 0 ne)
 
@@ -297,6 +297,20 @@ work-hop i p h some = let e = hopsLeft-hop i p h some in omega arith
 pub distance-le-hopsLeft : (i p : ℕ) → i < dimensions → distance i p ≤ hopsLeft p
 unfolding hopsLeft
 distance-le-hopsLeft i p h = term-le dimensions (λ j. distance j p) i h
+
+-- a byte's sign and value bound them
+pub distance-most : (i p : ℕ) → distance i p ≤ 128
+unfolding distance
+distance-most i p = let r = offset-range i p in go (one-sign (offset i p)) (r .most) (r .least) (natAbs-is (offset i p))
+  where
+    go : (forward (offset i p) ≡ 0) ⊎ (backward (offset i p) ≡ 0) → forward (offset i p) < 128 → backward (offset i p) ≤ 128
+        → natAbs (offset i p) ≡ forward (offset i p) + backward (offset i p) → natAbs (offset i p) ≤ 128
+    go (inl e) m l a = omega arith
+    go (inr e) m l a = omega arith
+
+pub hopsLeft-most : (p : ℕ) → hopsLeft p ≤ 128 * dimensions
+unfolding hopsLeft sumBelow
+hopsLeft-most p = let x = distance-most 0 p in let y = distance-most 1 p in omega arith
 
 pub hopsLeft-zero : (p : ℕ) → ((i : ℕ) → i < dimensions → distance i p ≡ 0) → hopsLeft p ≡ 0
 unfolding hopsLeft sumBelow

@@ -1,0 +1,3 @@
+-- Laws that several proofs of this crate cite.
+pub mod Numbers
+pub mod Words

@@ -1,0 +1,21 @@
+-- `packet::torus::coordinate` meets its contract. Assumes nothing.
+use borrow.Author.Needs.{needs}
+use Rattle.packet.specs.GeometryLaws.{coordinate-x, coordinate-y}
+use Rattle.packet.proofs.Words.{other-dimension}
+use Rattle.packet.proofs.torus.coordinate.Statement.{statement}
+use Rattle.packet.proofs.torus.coordinate.Tie as tie
+
+rem-result : tie.Need-rem-result
+rem-result c = search needs
+
+div-result : tie.Need-div-result
+div-result c = search needs
+
+returns : tie.Need-returns
+returns c = coordinate-x (c .before .before .args .s) (c .before .before .args .i) (c .before .before .args .n) (c .before .if1 .taken)
+
+returns-2 : tie.Need-returns-2
+returns-2 c = coordinate-y (c .before .before .args .s) (c .before .before .args .i) (c .before .before .args .n) (c .before .before .pre .0) (c .before .before .pre .2) (other-dimension (c .before .before .args .i) (c .before .before .pre .1) (c .before .if1 .left))
+
+pub coordinate-spec : {M : Type 1} → statement M
+coordinate-spec = tie.close (tie.spec rem-result div-result returns returns-2)

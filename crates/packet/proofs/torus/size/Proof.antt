@@ -1,0 +1,14 @@
+-- `packet::torus::size` meets its contract. Assumes nothing.
+use Rattle.packet.specs.GeometryLaws.{size-x, size-y}
+use Rattle.packet.proofs.Words.{other-dimension}
+use Rattle.packet.proofs.torus.size.Statement.{statement}
+use Rattle.packet.proofs.torus.size.Tie as tie
+
+returns : tie.Need-returns
+returns c = size-x (c .before .args .s) (c .before .args .i) (c .if1 .taken)
+
+returns-2 : tie.Need-returns-2
+returns-2 c = size-y (c .before .args .s) (c .before .args .i) (other-dimension (c .before .args .i) (c .before .pre) (c .if1 .left))
+
+pub size-spec : {M : Type 1} → statement M
+size-spec = tie.close (tie.spec returns returns-2)

@@ -1,0 +1,21 @@
+-- `packet::work` meets its contract. Assumes nothing.
+use borrow.Author.Needs.{needs}
+use mathlib.Core.Path.{_≡_}
+use native.Mathlib.Omega.{arith}
+use Rattle.network.specs.Packet.{hopsLeft, work}
+use Rattle.network.specs.PacketLaws.{hopsLeft-most}
+use Rattle.packet.proofs.work.Statement.{statement}
+use Rattle.packet.proofs.work.Tie as tie
+
+hops-left-requires : tie.Need-hops-left-requires
+hops-left-requires c κs = search needs
+
+add-result : tie.Need-add-result
+add-result c = let e : c .hops-left .result ≡ hopsLeft (c .before .args .p) = c .hops-left .ensures in let l = hopsLeft-most (c .before .args .p) in omega arith
+
+returns : tie.Need-returns
+unfolding work
+returns c = let e : c .hops-left .result ≡ hopsLeft (c .before .args .p) = c .hops-left .ensures in omega arith
+
+pub work-spec : {M : Type 1} → statement M
+work-spec = tie.close (tie.spec hops-left-requires add-result returns)

@@ -1,0 +1,22 @@
+-- The code's sizes as the definitions read them, and what the functions on them ask. Assumes nothing.
+use mathlib.Core.List.{List, [], _∷_}
+use Prim.Native.Nat.{ℕ, zero, suc, _*_, _≤_}
+use Rattle.network.specs.Sizes.{Shape}
+use Rattle.network.specs.Calls.{shapeOf}
+use Rattle.packet.specs.declared.torus.Sizes.{Sizes}
+
+abbrev pub shapeOfSizes : Sizes → Shape
+shapeOfSizes s = shapeOf (s .x) (s .y) (s .escape) (s .adaptive) (s .injection)
+
+-- "X and Y are 1 to 16."
+pub record RingsFit (s : Sizes) : Type 0 where
+  pub x-least : 1 ≤ s .x
+  pub x-most : s .x ≤ 16
+  pub y-least : 1 ≤ s .y
+  pub y-most : s .y ≤ 16
+
+-- by how much a number differs whose digit i is one more
+unfoldable pub weight : List ℕ → ℕ → ℕ
+weight [] i = 1
+weight (k ∷ ks) zero = 1
+weight (k ∷ ks) (suc i) = k * weight ks i

@@ -1,0 +1,193 @@
+-- Laws of the code's sizes. Order: they make a torus; the two dimensions one by one; a digit put in, by its weight; the neighbour by the weight;
+-- a node by its coordinates. `s` are the code's sizes, `n` is a node. Assumes nothing.
+use mathlib.Core.Path.{_≡_, refl, ap, ap₂, sym, _∙_}
+use mathlib.Core.Bool.{cond}
+use mathlib.Core.List.{List, [], _∷_}
+use mathlib.Core.Logic.{_≢_}
+use Prim.Native.Nat.{ℕ, zero, suc, _+_, _*_, _-_, _/_, _%_, _<_, _≤_}
+use native.Mathlib.Nat.{mul-one, one-mul, mul-le-mul, mul-comm, mul-assoc, mul-add, add-mul, mod-eq-of-lt, mod-self, mod-add-div, div-add-mod', div-lt-iff-lt-mul, not-suc-le-zero, le-of-suc-le-suc}
+use native.Mathlib.Omega.{arith}
+use lib.Dec.{T}
+use lib.ListN.{length}
+use borrow.Author.Tests.{eq-eqb, ne-eqb}
+use Rattle.base.specs.Digits.{product, digit, putDigit, turn, Positive}
+use Rattle.network.specs.Sizes.{Shape, size, nodes, dimensions, directions, dimensionOf, isPlus, sizesInRange}
+use Rattle.network.specs.PacketLaws.{dimension-lt}
+use Rattle.network.specs.Torus.{coordinate, stride, along, neighbour}
+use Rattle.network.specs.TorusLaws.{Torus, inRange-torus, inRange-size, size-pos, coordinate-lt}
+use Rattle.network.specs.Calls.{shapeOf}
+use Rattle.packet.specs.declared.torus.Sizes.{Sizes}
+use Rattle.packet.specs.Geometry.{shapeOfSizes, RingsFit, weight}
+
+-- They make a torus -------------------------------------------------------------------------------------------------------------------
+
+pub rings-torus : (s : Sizes) → RingsFit s → Torus (shapeOfSizes s)
+unfolding shapeOf Positive
+rings-torus s r = record { positive = (r .x-least, (r .y-least, tt)); dims = refl }
+
+-- sizes in range are such sizes
+pub inRange-rings : (s : Sizes) → T (sizesInRange (shapeOfSizes s)) → RingsFit s
+unfolding shapeOf size
+inRange-rings s t =
+    let torus : Torus (shapeOfSizes s) = inRange-torus (shapeOfSizes s) t refl in
+    record {
+      x-least = size-pos (shapeOfSizes s) 0 torus (omega arith);
+      x-most = inRange-size (shapeOfSizes s) 0 t;
+      y-least = size-pos (shapeOfSizes s) 1 torus (omega arith);
+      y-most = inRange-size (shapeOfSizes s) 1 t;
+    }
+
+pub nodes-is : (s : Sizes) → s .x * s .y ≡ nodes (shapeOfSizes s)
+unfolding nodes shapeOf product
+nodes-is s = ap (λ (y : ℕ). s .x * y) (sym (mul-one (s .y)))
+
+pub rings-nodes : (s : Sizes) → RingsFit s → nodes (shapeOfSizes s) ≤ 256
+rings-nodes s r = let e = nodes-is s in let l : s .x * s .y ≤ 16 * 16 = mul-le-mul (r .x-most) (r .y-most) in omega arith
+
+-- The two dimensions one by one -------------------------------------------------------------------------------------------------------
+
+pub size-x : (s : Sizes) (i : ℕ) → i ≡ 0 → s .x ≡ size (shapeOfSizes s) i
+unfolding size shapeOf
+size-x s i e = rw e refl
+
+pub size-y : (s : Sizes) (i : ℕ) → i ≡ 1 → s .y ≡ size (shapeOfSizes s) i
+unfolding size shapeOf
+size-y s i e = rw e refl
+
+pub size-most : (s : Sizes) (i : ℕ) → RingsFit s → i < dimensions → size (shapeOfSizes s) i ≤ 16
+unfolding size shapeOf
+size-most s zero r h = r .x-most
+size-most s (suc zero) r h = r .y-most
+size-most s (suc (suc i)) r h = absurd (not-suc-le-zero (le-of-suc-le-suc (le-of-suc-le-suc h)))
+
+pub weight-x : (s : Sizes) (i : ℕ) → i ≡ 0 → 1 ≡ weight (shapeOfSizes s .sizes) i
+unfolding weight shapeOf
+weight-x s i e = rw e refl
+
+pub weight-y : (s : Sizes) (i : ℕ) → i ≡ 1 → s .x ≡ weight (shapeOfSizes s .sizes) i
+unfolding weight shapeOf
+weight-y s i e = rw e (sym (mul-one (s .x)))
+
+pub coordinate-x : (s : Sizes) (i n : ℕ) → i ≡ 0 → n % s .x ≡ coordinate (shapeOfSizes s) i n
+unfolding coordinate digit shapeOf
+coordinate-x s i n e = rw e refl
+
+pub coordinate-y : (s : Sizes) (i n : ℕ) → RingsFit s → n < nodes (shapeOfSizes s) → i ≡ 1 → n / s .x ≡ coordinate (shapeOfSizes s) i n
+unfolding coordinate digit shapeOf
+coordinate-y s i n r h e = rw e (sym (mod-eq-of-lt (row s n r h)))
+  where
+    row : (s : Sizes) (n : ℕ) → RingsFit s → n < nodes (shapeOfSizes s) → n / s .x < s .y
+    row s n r h = div-lt-iff-lt-mul (r .x-least) .1 (let e = nodes-is s in let f = mul-comm (s .x) (s .y) in omega arith)
+
+-- a coordinate is on its ring, whose size is c's bound
+pub on-ring : (s : Sizes) (i n c k : ℕ) → RingsFit s → i < dimensions → c ≡ coordinate (shapeOfSizes s) i n → k ≡ size (shapeOfSizes s) i → (c < k) × (k ≤ 16)
+on-ring s i n c k r h ec ek =
+    let l = coordinate-lt (shapeOfSizes s) i n (rings-torus s r) h in
+    let m = size-most s i r h in
+    (omega arith, omega arith)
+
+-- A digit put in, by its weight -------------------------------------------------------------------------------------------------------
+
+pub put-weight : (ks : List ℕ) (i b n : ℕ) → i < length ks → putDigit ks i b n + digit ks i n * weight ks i ≡ n + b * weight ks i
+unfolding putDigit digit weight
+put-weight [] i b n h = absurd (not-suc-le-zero h)
+put-weight (k ∷ ks) zero b n h = let e = mod-add-div n k in let f = mul-one (n % k) in let g = mul-one b in omega arith
+put-weight (k ∷ ks) (suc i) b n h =
+    let e : n % k + k * (n / k) ≡ n = mod-add-div n k in
+    let f : k * (putDigit ks i b (n / k) + digit ks i (n / k) * weight ks i) ≡ k * (n / k + b * weight ks i) =
+    ap (λ (m : ℕ). k * m) (put-weight ks i b (n / k) (le-of-suc-le-suc h)) in
+    let l = mul-add k (putDigit ks i b (n / k)) (digit ks i (n / k) * weight ks i) in
+    let m = mul-add k (n / k) (b * weight ks i) in
+    let o = native.Mathlib.Nat.mul-left-comm k (digit ks i (n / k)) (weight ks i) in
+    let p = native.Mathlib.Nat.mul-left-comm k b (weight ks i) in
+    omega arith
+
+-- The neighbour by the weight ---------------------------------------------------------------------------------------------------------
+
+-- what the code knows of a node n and a direction d: the coordinate c, the size k of the ring and the weight w
+pub record Ring (S : Shape) (d n c k w : ℕ) : Type 0 where
+  pub at : c ≡ coordinate S (dimensionOf d) n
+  pub round : k ≡ size S (dimensionOf d)
+  pub step : w ≡ weight (S .sizes) (dimensionOf d)
+
+module _ (S : Shape) (d n c k w : ℕ) (t : Torus S) (h : d < directions) (r : Ring S d n c k w) where
+  within-ring : c < k
+  within-ring = let l = coordinate-lt S (dimensionOf d) n t (dimension-lt d h) in let a = r .at in let b = r .round in omega arith
+
+  pub ring-pos : 1 ≤ k
+  ring-pos = let l = within-ring in omega arith
+
+  -- where the neighbour has the coordinate b
+  lands : (b : ℕ) → (c + stride S d) % k ≡ b → neighbour S d n + c * w ≡ n + b * w
+  unfolding neighbour along turn coordinate size
+  lands b e =
+      let l = t .dims in
+      let at : (digit (S .sizes) (dimensionOf d) n + 1 * stride S d) % size S (dimensionOf d) ≡ b =
+      ap₂ (λ (a q : ℕ). (a + 1 * stride S d) % q) (sym (r .at)) (sym (r .round))
+      ∙ ap (λ (q : ℕ). (c + q) % k) (one-mul (stride S d))
+      ∙ e in
+      ap₂ (λ (a q : ℕ). putDigit (S .sizes) (dimensionOf d) ((digit (S .sizes) (dimensionOf d) n + 1 * stride S d) % size S (dimensionOf d)) n + a * q)
+      (r .at) (r .step)
+      ∙ put-weight (S .sizes) (dimensionOf d) ((digit (S .sizes) (dimensionOf d) n + 1 * stride S d) % size S (dimensionOf d)) n (omega arith)
+      ∙ ap₂ (λ (a q : ℕ). n + a * q) at (sym (r .step))
+
+  stride-plus : d % 2 ≡ 0 → stride S d ≡ 1
+  unfolding stride
+  stride-plus e = ap (λ b. cond b 1 (size S (dimensionOf d) - 1)) (eq-eqb (d % 2) 0 e)
+
+  stride-minus : d % 2 ≢ 0 → stride S d ≡ k - 1
+  unfolding stride
+  stride-minus ne = ap (λ b. cond b 1 (size S (dimensionOf d) - 1)) (ne-eqb (d % 2) 0 ne) ∙ ap (λ (q : ℕ). q - 1) (sym (r .round))
+
+  pub step-on : d % 2 ≡ 0 → c + 1 < k → n + w ≡ neighbour S d n
+  step-on e l =
+      let f : neighbour S d n + c * w ≡ n + (c + 1) * w =
+      lands (c + 1) (ap (λ (q : ℕ). (c + q) % k) (stride-plus e) ∙ mod-eq-of-lt l) in
+      let g = add-mul c 1 w in
+      let o = one-mul w in
+      omega arith
+
+  pub step-round : d % 2 ≡ 0 → k ≤ c + 1 → neighbour S d n + c * w ≡ n
+  step-round e l =
+      let i = within-ring in
+      let q : c + 1 ≡ k = omega arith in
+      let f : neighbour S d n + c * w ≡ n + 0 * w =
+      lands 0 (ap (λ (q : ℕ). (c + q) % k) (stride-plus e) ∙ ap (λ (m : ℕ). m % k) q ∙ mod-self k) in
+      let z = native.Mathlib.Nat.zero-mul w in
+      omega arith
+
+  pub step-back : d % 2 ≢ 0 → 0 < c → neighbour S d n + w ≡ n
+  step-back ne l =
+      let i = within-ring in
+      let q : c + (k - 1) ≡ c - 1 + k = omega arith in
+      let f : neighbour S d n + c * w ≡ n + (c - 1) * w =
+      lands (c - 1)
+      (ap (λ (q : ℕ). (c + q) % k) (stride-minus ne)
+      ∙ ap (λ (m : ℕ). m % k) q
+      ∙ native.Mathlib.Nat.add-mod-right (c - 1) k
+      ∙ mod-eq-of-lt (let j : c - 1 < k = omega arith in j)) in
+      let g = add-mul (c - 1) 1 w in
+      let o = one-mul w in
+      let p : (c - 1 + 1) * w ≡ c * w = ap (λ (m : ℕ). m * w) (let j : c - 1 + 1 ≡ c = omega arith in j) in
+      omega arith
+
+  pub step-back-round : d % 2 ≢ 0 → c ≤ 0 → n + (k - 1) * w ≡ neighbour S d n
+  step-back-round ne l =
+      let i = within-ring in
+      let q : c + (k - 1) ≡ k - 1 = omega arith in
+      let f : neighbour S d n + c * w ≡ n + (k - 1) * w =
+      lands (k - 1)
+      (ap (λ (q : ℕ). (c + q) % k) (stride-minus ne)
+      ∙ ap (λ (m : ℕ). m % k) q
+      ∙ mod-eq-of-lt (let j : k - 1 < k = omega arith in j)) in
+      let z : c * w ≡ 0 * w = ap (λ (m : ℕ). m * w) (let j : c ≡ 0 = omega arith in j) in
+      let y = native.Mathlib.Nat.zero-mul w in
+      omega arith
+
+-- A node by its coordinates -----------------------------------------------------------------------------------------------------------
+
+pub node-is : (s : Sizes) (n x y : ℕ) → RingsFit s → n < nodes (shapeOfSizes s) → x ≡ coordinate (shapeOfSizes s) 0 n → y ≡ coordinate (shapeOfSizes s) 1 n
+    → y * s .x + x ≡ n
+node-is s n x y r h ex ey =
+    ap₂ (λ (b a : ℕ). b * s .x + a) (ey ∙ sym (coordinate-y s 1 n r h refl)) (ex ∙ sym (coordinate-x s 0 n refl))
+    ∙ div-add-mod' n (s .x)

@@ -1,0 +1,175 @@
+// The packet word in code: its offsets as signed numbers, its fields, and a hop. Every function equals the definition of its
+// name in the crate `network` (specs/Packet.antt). The torus that packets cross is in the module `torus`.
+pub mod torus;
+
+ghost use mathlib.Core.Path.{_≡_};
+ghost use Prim.Native.Nat.{_<_, _≤_, _^_};
+ghost use lib.IntN.{natAbs};
+ghost use Rattle.network.specs.Sizes.{dimensions, directions};
+ghost use Rattle.network.specs.Packet.{signed, byte, offset, withOffset, distance, forward, backward, hops, heading, shrunk, hop, hopsLeft, work, destination, label, tag, shorterWay};
+ghost use Rattle.network.specs.PacketLaws.{ByteRange};
+
+// Signed bytes --------------------------------------------------------------------------------------------------------------
+
+// The number that a byte stands for, two's complement.
+pub fn signed(b: u64) -> i64
+    requires { ⌜ b < 256 ⌝ }
+    ensures { λ r. ⌜ r ≡ signed b ⌝ }
+{
+    if b < 128 {
+        b as i64
+    } else {
+        -((256 - b) as i64)
+    }
+}
+
+// The number without its sign. The least that a byte stands for, -128, is no exception: it is negated at the full width.
+pub fn nat_abs(z: i64) -> u64
+    requires { ⌜ ByteRange z ⌝ }
+    ensures { λ r. ⌜ r ≡ natAbs z ⌝ }
+{
+    if z < 0 { (-z) as u64 } else { z as u64 }
+}
+
+// The byte of a number from -128 to 127.
+pub fn byte(z: i64) -> u64
+    requires { ⌜ ByteRange z ⌝ }
+    ensures { λ r. ⌜ r ≡ byte z ⌝ }
+{
+    if z < 0 { 256 - nat_abs(z) } else { nat_abs(z) }
+}
+
+// The hops forward that an offset stands for, and those back.
+pub fn forward(z: i64) -> u64
+    requires { ⌜ ByteRange z ⌝ }
+    ensures { λ r. ⌜ r ≡ forward z ⌝ }
+{
+    if z < 0 { 0 } else { nat_abs(z) }
+}
+
+pub fn backward(z: i64) -> u64
+    requires { ⌜ ByteRange z ⌝ }
+    ensures { λ r. ⌜ r ≡ backward z ⌝ }
+{
+    if z < 0 { nat_abs(z) } else { 0 }
+}
+
+// One hop towards zero, whatever the sign: an offset that leads half way round keeps the way that it was given.
+pub fn shrunk(z: i64) -> i64
+    requires { ⌜ ByteRange z ⌝ }
+    ensures { λ r. ⌜ r ≡ shrunk z ⌝ }
+{
+    if z < 0 {
+        z + 1
+    } else if 0 < z {
+        z - 1
+    } else {
+        0
+    }
+}
+
+// The fields of a word ------------------------------------------------------------------------------------------------------
+
+pub fn tag(p: u64) -> u64
+    ensures { λ r. ⌜ r ≡ tag p ⌝ }
+{
+    p / 4294967296
+}
+
+pub fn destination(p: u64) -> u64
+    ensures { λ r. ⌜ r ≡ destination p ⌝ }
+{
+    p / 65536 % 65536
+}
+
+pub fn label(p: u64) -> u64
+    ensures { λ r. ⌜ r ≡ label p ⌝ }
+{
+    p / 65536 * 65536
+}
+
+// The byte of dimension i is divided out by a literal in each arm, so that no division by a variable is left.
+pub fn offset(i: u64, p: u64) -> i64
+    requires { ⌜ i < dimensions ⌝ }
+    ensures { λ r. ⌜ r ≡ offset i p ⌝ }
+{
+    if i == 0 {
+        signed(p / 256 % 256)
+    } else {
+        signed(p % 256)
+    }
+}
+
+pub fn with_offset(i: u64, z: i64, p: u64) -> u64
+    requires { ⌜ (i < dimensions) × ByteRange z ⌝ }
+    ensures { λ r. ⌜ r ≡ withOffset i z p ⌝ }
+{
+    if i == 0 {
+        p / 65536 * 65536 + byte(z) * 256 + p % 256
+    } else {
+        p / 256 * 256 + byte(z)
+    }
+}
+
+// Hops left -----------------------------------------------------------------------------------------------------------------
+
+pub fn distance(i: u64, p: u64) -> u64
+    requires { ⌜ i < dimensions ⌝ }
+    ensures { λ r. ⌜ r ≡ distance i p ⌝ }
+{
+    nat_abs(offset(i, p))
+}
+
+// Those in direction d.
+pub fn hops(d: u64, p: u64) -> u64
+    requires { ⌜ d < directions ⌝ }
+    ensures { λ r. ⌜ r ≡ hops d p ⌝ }
+{
+    let z = offset(d / 2, p);
+    if d % 2 == 0 { forward(z) } else { backward(z) }
+}
+
+// The direction in which a packet goes on along dimension i.
+pub fn heading(i: u64, p: u64) -> u64
+    requires { ⌜ i < dimensions ⌝ }
+    ensures { λ r. ⌜ r ≡ heading i p ⌝ }
+{
+    if offset(i, p) < 0 { 2 * i + 1 } else { 2 * i }
+}
+
+pub fn hops_left(p: u64) -> u64
+    ensures { λ r. ⌜ r ≡ hopsLeft p ⌝ }
+{
+    distance(0, p) + distance(1, p)
+}
+
+// A packet's part of the work left.
+pub fn work(p: u64) -> u64
+    ensures { λ r. ⌜ r ≡ work p ⌝ }
+{
+    hops_left(p) + 1
+}
+
+// A hop ---------------------------------------------------------------------------------------------------------------------
+
+pub fn hop(i: u64, p: u64) -> u64
+    requires { ⌜ i < dimensions ⌝ }
+    ensures { λ r. ⌜ r ≡ hop i p ⌝ }
+{
+    with_offset(i, shrunk(offset(i, p)), p)
+}
+
+// The shorter way round -----------------------------------------------------------------------------------------------------
+
+// From one coordinate to another; where both ways are equal, the positive one.
+pub fn shorter_way(size: u64, from: u64, to: u64) -> i64
+    requires { ⌜ (from < size) × (to < size) × (size ≤ 16) ⌝ }
+    ensures { λ r. ⌜ r ≡ shorterWay size from to ⌝ }
+{
+    let ahead = (to + (size - from)) % size;
+    if 2 * ahead <= size {
+        ahead as i64
+    } else {
+        -((size - ahead) as i64)
+    }
+}

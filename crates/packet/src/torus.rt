@@ -1,0 +1,115 @@
+// The torus in code, for sizes in range and nodes that exist: coordinates, neighbours, where a packet's offsets lead, and the
+// packet of an offer. Every function equals the definition of its name in the crate `network` (specs/Torus.antt, Calls.antt).
+use super::backward;
+use super::byte;
+use super::forward;
+use super::offset;
+use super::shorter_way;
+ghost use mathlib.Core.Path.{_≡_};
+ghost use Prim.Native.Nat.{_+_, _*_, _-_, _%_, _<_, _≤_};
+ghost use Rattle.network.specs.Sizes.{dimensions, directions, nodes, size};
+ghost use Rattle.network.specs.Packet.{forward, backward, shorterWay};
+ghost use Rattle.network.specs.PacketLaws.{ByteRange};
+ghost use Rattle.network.specs.Torus.{coordinate, neighbour, movedBy};
+ghost use Rattle.network.specs.Calls.{offered};
+ghost use Rattle.packet.specs.Geometry.{shapeOfSizes, RingsFit, weight};
+
+// Columns and rows, and the capacities of a node's queues.
+pub struct Sizes {
+    pub x: u64,
+    pub y: u64,
+    pub escape: u64,
+    pub adaptive: u64,
+    pub injection: u64,
+}
+
+pub fn nodes(s: Sizes) -> u64
+    requires { ⌜ RingsFit s ⌝ }
+    ensures { λ r. ⌜ r ≡ nodes (shapeOfSizes s) ⌝ }
+{
+    s.x * s.y
+}
+
+pub fn size(s: Sizes, i: u64) -> u64
+    requires { ⌜ i < dimensions ⌝ }
+    ensures { λ r. ⌜ r ≡ size (shapeOfSizes s) i ⌝ }
+{
+    if i == 0 { s.x } else { s.y }
+}
+
+// By how much the numbers of two nodes differ that are one step apart in dimension i.
+fn weight(s: Sizes, i: u64) -> u64
+    requires { ⌜ i < dimensions ⌝ }
+    ensures { λ r. ⌜ r ≡ weight (shapeOfSizes s .sizes) i ⌝ }
+{
+    if i == 0 { 1 } else { s.x }
+}
+
+// The row of a node that exists needs no second division.
+pub fn coordinate(s: Sizes, i: u64, n: u64) -> u64
+    requires { ⌜ RingsFit s × (i < dimensions) × (n < nodes (shapeOfSizes s)) ⌝ }
+    ensures { λ r. ⌜ r ≡ coordinate (shapeOfSizes s) i n ⌝ }
+{
+    if i == 0 { n % s.x } else { n / s.x }
+}
+
+// One step on, or round to the other end of the ring.
+pub fn neighbour(s: Sizes, d: u64, n: u64) -> u64
+    requires { ⌜ RingsFit s × (d < directions) × (n < nodes (shapeOfSizes s)) ⌝ }
+    ensures { λ r. ⌜ r ≡ neighbour (shapeOfSizes s) d n ⌝ }
+{
+    let i = d / 2;
+    let c = coordinate(s, i, n);
+    let k = size(s, i);
+    let w = weight(s, i);
+    if d % 2 == 0 {
+        if c + 1 < k {
+            return n + w;
+        }
+        return n - c * w;
+    }
+    if 0 < c {
+        return n - w;
+    }
+    n + (k - 1) * w
+}
+
+// The coordinate c of a ring of k nodes, moved by the offset z. A byte may lead round more than once.
+fn moved(c: u64, k: u64, z: i64) -> u64
+    requires { ⌜ (c < k) × (k ≤ 16) × ByteRange z ⌝ }
+    ensures { λ r. ⌜ r ≡ (c + (forward z * 1 + backward z * (k - 1))) % k ⌝ }
+{
+    (c + (forward(z) + backward(z) * (k - 1))) % k
+}
+
+// The node to which a packet's offsets lead.
+pub fn moved_by(s: Sizes, p: u64, n: u64) -> u64
+    requires { ⌜ RingsFit s × (n < nodes (shapeOfSizes s)) ⌝ }
+    ensures { λ r. ⌜ r ≡ movedBy (shapeOfSizes s) p n ⌝ }
+{
+    let x = moved(coordinate(s, 0, n), s.x, offset(0, p));
+    let y = moved(coordinate(s, 1, n), s.y, offset(1, p));
+    y * s.x + x
+}
+
+// The shorter way from a node to a destination in dimension i.
+fn way(s: Sizes, i: u64, n: u64, destination: u64) -> i64
+    requires { ⌜ RingsFit s × (i < dimensions) × (n < nodes (shapeOfSizes s)) × (destination < nodes (shapeOfSizes s)) ⌝ }
+    ensures { λ r. ⌜ r ≡ shorterWay (size (shapeOfSizes s) i) (coordinate (shapeOfSizes s) i n) (coordinate (shapeOfSizes s) i destination) ⌝ }
+{
+    shorter_way(
+        size(s, i),
+        coordinate(s, i, n),
+        coordinate(s, i, destination),
+    )
+}
+
+// The packet word of an offer.
+pub fn offered(s: Sizes, n: u64, destination: u64, tag: u32) -> u64
+    requires { ⌜ RingsFit s × (n < nodes (shapeOfSizes s)) × (destination < nodes (shapeOfSizes s)) ⌝ }
+    ensures { λ r. ⌜ r ≡ offered (shapeOfSizes s) n destination tag ⌝ }
+{
+    let x = byte(way(s, 0, n, destination));
+    let y = byte(way(s, 1, n, destination));
+    (tag as u64) * 4294967296 + destination * 65536 + x * 256 + y
+}
