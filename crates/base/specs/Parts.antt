@@ -1,5 +1,6 @@
 -- A part of a list of words, from place a up to place e, and the list with that part replaced.
--- Order: the two definitions; their lengths; what is read at a place; the part itself, and what lies outside it. Assumes nothing.
+-- Order: the two definitions; their lengths; what is read at a place; the part itself, and what lies outside it; a part put back, a word set, a part put in twice.
+-- Assumes nothing.
 use mathlib.Core.Path.{_≡_, refl, ap, ap₂, sym, _∙_}
 use mathlib.Core.List.{List, [], _∷_, _++_}
 use mathlib.Core.Logic.{_⊎_, inl, inr, _≢_}

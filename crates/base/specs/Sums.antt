@@ -1,5 +1,5 @@
--- Sums of a number for each number below n, and of a number for each element of a list, with the law for a change at one place.
--- Assumes nothing.
+-- Sums of a number for each number below n, and of a number for each element of a list. Order: the two definitions; equal sums; a change at one
+-- place; a term, and fewer terms, against the sum; a term that is not 0. Assumes nothing.
 use mathlib.Core.Path.{_≡_, refl, ap, sym, _∙_}
 use mathlib.Core.Bool.{Bool, true, false, cond}
 use mathlib.Core.List.{List, [], _∷_, _++_}

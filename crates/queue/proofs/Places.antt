@@ -1,0 +1,91 @@
+-- Where the queues of a network stand, as the closed forms that the code computes, and their bounds. Order: capacities; the words before a queue;
+-- bounds. Assumes nothing.
+use mathlib.Core.Path.{_≡_, refl, ap, ap₂, sym, _∙_}
+use mathlib.Core.Bool.{Bool, cond}
+use Prim.Native.Nat.{ℕ, zero, suc, _+_, _*_, _-_, _<_, _≤_}
+use native.Mathlib.Nat.{suc-mul, mul-le-mul, add-suc}
+use native.Mathlib.Omega.{arith}
+use borrow.Author.Tests.{ne-eqb, lt-ltb, le-ltb}
+use Rattle.base.specs.Sums.{sumBelow, sum-fewer}
+use Rattle.network.specs.Sizes.{Shape, queues, directions, capacity}
+use Rattle.network.specs.Layout.{queueLength, nodeWords, queueEnd}
+use Rattle.network.specs.LayoutLaws.{node-words, end-node}
+use Rattle.network.specs.Calls.{shapeOf}
+
+-- the capacity by the kind of the queue
+pub capacity-injection : (S : Shape) (q : ℕ) → q ≡ 0 → capacity S q ≡ S .injection
+unfolding capacity
+capacity-injection S q e = ap (λ (k : ℕ). capacity S k) e
+
+pub capacity-escape : (S : Shape) (q : ℕ) → directions < q → capacity S q ≡ S .escape
+unfolding capacity
+capacity-escape S q h =
+    ap₂ (λ (b c : Bool). cond b (S .injection) (cond c (S .escape) (S .adaptive))) (ne-eqb q 0 (omega arith)) (lt-ltb directions q h)
+
+pub capacity-adaptive : (S : Shape) (q : ℕ) → 0 < q → q ≤ directions → capacity S q ≡ S .adaptive
+unfolding capacity
+capacity-adaptive S q p h =
+    ap₂ (λ (b c : Bool). cond b (S .injection) (cond c (S .escape) (S .adaptive))) (ne-eqb q 0 (omega arith)) (le-ltb directions q h)
+
+-- the words before a queue: before the adaptive queues and the first escape queue stand the injection queue and adaptive queues, before a later
+-- escape queue those and escape queues
+before-adaptive : (S : Shape) (k : ℕ) → k ≤ directions → sumBelow (suc k) (λ i. queueLength S i) ≡ suc k + S .injection + k * S .adaptive
+unfolding sumBelow queueLength
+before-adaptive S zero h = let e = capacity-injection S 0 refl in omega arith
+before-adaptive S (suc k) h =
+    let r = before-adaptive S k (omega arith) in
+    let c = capacity-adaptive S (suc k) (omega arith) h in
+    let m = suc-mul k (S .adaptive) in
+    omega arith
+
+before-escape : (S : Shape) (k : ℕ)
+    → sumBelow (suc directions + k) (λ i. queueLength S i) ≡ suc directions + k + S .injection + directions * S .adaptive + k * S .escape
+unfolding sumBelow queueLength
+before-escape S zero = let e = before-adaptive S directions (omega arith) in omega arith
+before-escape S (suc k) =
+    let r = before-escape S k in
+    let c = capacity-escape S (suc directions + k) (omega arith) in
+    let m = suc-mul k (S .escape) in
+    ap (λ (q : ℕ). sumBelow q (λ i. queueLength S i)) (add-suc (suc directions) k) ∙ omega arith
+
+pub before-none : (S : Shape) (q : ℕ) → q ≡ 0 → 0 ≡ sumBelow q (λ i. queueLength S i)
+unfolding sumBelow
+before-none S q e = ap (λ (k : ℕ). sumBelow k (λ i. queueLength S i)) (sym e)
+
+pub before-few : (S : Shape) (q : ℕ) → 0 < q → q ≤ suc directions → q + S .injection + (q - 1) * S .adaptive ≡ sumBelow q (λ i. queueLength S i)
+before-few S q p h =
+    let e : suc (q - 1) ≡ q = omega arith in
+    let r = before-adaptive S (q - 1) (omega arith) in
+    let f = ap (λ (k : ℕ). sumBelow k (λ i. queueLength S i)) e in
+    omega arith
+
+pub before-many : (S : Shape) (q : ℕ) → suc directions < q
+    → q + S .injection + directions * S .adaptive + (q - suc directions) * S .escape ≡ sumBelow q (λ i. queueLength S i)
+before-many S q h =
+    let e : suc directions + (q - suc directions) ≡ q = omega arith in
+    let r = before-escape S (q - suc directions) in
+    let f = ap (λ (k : ℕ). sumBelow k (λ i. queueLength S i)) e in
+    omega arith
+
+-- a node's words, the words before a queue and the places of all queues are small
+pub product-small : (n m b d : ℕ) → n ≤ b → m ≤ d → n * m ≤ b * d
+product-small n m b d h k = mul-le-mul h k
+
+pub node-small : (x y e a j : ℕ) → e ≤ 8 → a ≤ 8 → j ≤ 8 → nodeWords (shapeOf x y e a j) ≤ 81
+unfolding shapeOf nodeWords
+node-small x y e a j he ha hj = omega arith
+
+pub before-small : (x y e a j q : ℕ) → e ≤ 8 → a ≤ 8 → j ≤ 8 → q < queues → sumBelow q (λ i. queueLength (shapeOf x y e a j) i) ≤ 81
+before-small x y e a j q he ha hj hq =
+    let S = shapeOf x y e a j in
+    let f = sum-fewer q queues (λ i. queueLength S i) (omega arith) in
+    let w = node-words S in
+    let l = node-small x y e a j he ha hj in
+    omega arith
+
+pub end-small : (x y e a j n q : ℕ) → e ≤ 8 → a ≤ 8 → j ≤ 8 → n < 256 → q < queues → queueEnd (shapeOf x y e a j) n q ≤ 20744
+end-small x y e a j n q he ha hj hn hq =
+    let S = shapeOf x y e a j in
+    let l = end-node S n q hq in
+    let m = product-small (suc n) (nodeWords S) 256 81 hn (node-small x y e a j he ha hj) in
+    omega arith

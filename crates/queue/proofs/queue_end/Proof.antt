@@ -1,0 +1,40 @@
+-- `queue::queue_end` meets its contract: every queue's end is small. Assumes nothing.
+use Prim.Native.Nat.{_+_, _≤_}
+use borrow.Author.Needs.{needs}
+use native.Mathlib.Omega.{arith}
+use Rattle.network.specs.Layout.{queueLength, queueEnd}
+use Rattle.queue.proofs.Places.{end-small}
+use Rattle.queue.proofs.queue_end.Statement.{statement}
+use Rattle.queue.proofs.queue_end.Tie as tie
+
+queue-start-requires : tie.Need-queue-start-requires
+queue-start-requires c κs = search needs
+
+capacity-requires : tie.Need-capacity-requires
+capacity-requires c κs = search needs
+
+sum-small : (c : tie.After-capacity) → c .before .queue-start .result + (1 + c .capacity .result) ≤ 20744
+unfolding queueEnd queueLength
+sum-small c =
+    let a = c .before .before .args in
+    let s = c .before .queue-start .ensures 0 0 in
+    let k = c .capacity .ensures 0 0 in
+    let l = end-small 0 0 (a .e) (a .a) (a .j) (a .n) (a .q) (omega arith) (omega arith) (omega arith) (omega arith) (omega arith) in
+    omega arith
+
+add-result : tie.Need-add-result
+add-result c = omega (arith, sum-small c)
+
+add-result-2 : tie.Need-add-result-2
+add-result-2 c = omega (arith, sum-small c)
+
+returns : tie.Need-returns
+unfolding queueEnd queueLength
+returns c x y =
+    let s = c .before .queue-start .ensures x y in
+    let k = c .capacity .ensures x y in
+    omega arith
+
+pub queue-end-spec : {M : Type 1} → statement M
+queue-end-spec =
+    tie.close (tie.spec queue-start-requires capacity-requires add-result add-result-2 returns)

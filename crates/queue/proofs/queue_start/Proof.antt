@@ -1,0 +1,46 @@
+-- `queue::queue_start` meets its contract: a node's words and the words before a queue are small. Assumes nothing.
+use mathlib.Core.Path.{ap}
+use Prim.Native.Nat.{ℕ, _+_, _*_, _≤_}
+use borrow.Author.Needs.{needs}
+use native.Mathlib.Omega.{arith}
+use Rattle.network.specs.Layout.{queueStart}
+use Rattle.queue.proofs.Places.{product-small, node-small, before-small}
+use Rattle.queue.proofs.queue_start.Statement.{statement}
+use Rattle.queue.proofs.queue_start.Tie as tie
+
+node-words-requires : tie.Need-node-words-requires
+node-words-requires c κs = search needs
+
+words-before-requires : tie.Need-words-before-requires
+words-before-requires c κs = search needs
+
+sum-small : (c : tie.After-words-before) → c .before .before .args .n * c .before .node-words .result + c .words-before .result ≤ 255 * 81 + 81
+sum-small c =
+    let a = c .before .before .args in
+    let w = c .before .node-words .ensures 0 0 in
+    let l = node-small 0 0 (a .e) (a .a) (a .j) (omega arith) (omega arith) (omega arith) in
+    let m = product-small (a .n) (c .before .node-words .result) 255 81 (omega arith) (omega arith) in
+    let b = c .words-before .ensures 0 0 in
+    let k = before-small 0 0 (a .e) (a .a) (a .j) (a .q) (omega arith) (omega arith) (omega arith) (omega arith) in
+    omega arith
+
+mul-result : tie.Need-mul-result
+mul-result c = omega (arith, sum-small c)
+
+add-result : tie.Need-add-result
+add-result c = omega (arith, sum-small c)
+
+add-result-2 : tie.Need-add-result-2
+add-result-2 c = omega (arith, sum-small c)
+
+returns : tie.Need-returns
+unfolding queueStart
+returns c x y =
+    let w = ap (λ (k : ℕ). c .before .before .args .n * k) (c .before .node-words .ensures x y) in
+    let b = c .words-before .ensures x y in
+    omega arith
+
+pub queue-start-spec : {M : Type 1} → statement M
+queue-start-spec =
+    tie.close
+    (tie.spec node-words-requires words-before-requires mul-result add-result add-result-2 returns)

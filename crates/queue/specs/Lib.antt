@@ -1,0 +1,3 @@
+-- What the contracts of the crate ask of a queue's words, and its laws.
+pub mod Queue
+pub mod QueueLaws

@@ -1,0 +1,205 @@
+-- Laws of Queue.antt. Order: what the sizes bound; what the check of a network says of a queue, and what that says of its words; a queue
+-- replaced at its place; what stays when a queue is replaced or a counter raised. Assumes nothing.
+use mathlib.Core.Path.{_≡_, ap, ap₂, sym, _∙_, subst}
+use mathlib.Core.Bool.{Bool, _&&_}
+use mathlib.Core.List.{List, [], _∷_}
+use Prim.Native.Nat.{ℕ, _+_, _<_, _≤_}
+use native.Mathlib.Nat.{mul-le-mul, mul-one}
+use native.Mathlib.Decide.{ℕ-discrete}
+use native.Mathlib.Omega.{arith}
+use lib.Dec.{T, leb, eqb, leb→le}
+use lib.ListN.{length}
+use Rattle.base.specs.Tests.{and-l, and-r, allOf, allOf-head, allOf-tail, allBelow, all-at}
+use Rattle.base.specs.Parts.{span, splice}
+use Rattle.base.specs.Digits.{product}
+use Rattle.network.specs.Sizes.{Shape, within, sizesInRange, nodes, queues, capacity}
+use Rattle.network.specs.Layout.{headerWords, raised, queueLength, queueStart, queueEnd, need, queueWords, queuePart, countOf, packetsOf, unusedOf, held, putQueue}
+use Rattle.network.specs.LayoutLaws.{Fits, start-end, end-length, length-queuePart, length-packetsOf, countOf-queueWords, unused-zero, part-put-same, part-put-other, part-raised, length-put, length-raised}
+use Rattle.network.specs.Check.{packetFits, queueFits, queuesFit, ringsHaveRoom, countersFit, isNetwork}
+use Rattle.network.specs.Refusals.{head}
+use Rattle.network.specs.Calls.{shapeOf}
+use Rattle.queue.specs.Queue.{IsQueue, QueueAt, Checked, slots}
+
+-- What the sizes bound ------------------------------------------------------------------------------------------------------------------
+
+within-most : (least most n : ℕ) → T (within least most n) → n ≤ most
+unfolding within
+within-most least most n t = leb→le n most (and-r (leb least n) (leb n most) t)
+
+pub record Small (x y e a j : ℕ) : Type 0 where
+  pub columns : x ≤ 16
+  pub rows : y ≤ 16
+  pub escape : e ≤ 8
+  pub adaptive : a ≤ 8
+  pub injection : j ≤ 8
+
+pub small : (x y e a j : ℕ) → T (sizesInRange (shapeOf x y e a j)) → Small x y e a j
+unfolding sizesInRange shapeOf
+small x y e a j t =
+    let sizes = and-l (allOf (within 1 16) (x ∷ y ∷ [])) (within 2 8 e && (within 1 8 a && within 1 8 j)) t in
+    let slots = and-r (allOf (within 1 16) (x ∷ y ∷ [])) (within 2 8 e && (within 1 8 a && within 1 8 j)) t in
+    let transit = and-r (within 2 8 e) (within 1 8 a && within 1 8 j) slots in
+    record {
+      columns = within-most 1 16 x (allOf-head (within 1 16) x (y ∷ []) sizes);
+      rows = within-most 1 16 y (allOf-head (within 1 16) y [] (allOf-tail (within 1 16) x (y ∷ []) sizes));
+      escape = within-most 2 8 e (and-l (within 2 8 e) (within 1 8 a && within 1 8 j) slots);
+      adaptive = within-most 1 8 a (and-l (within 1 8 a) (within 1 8 j) transit);
+      injection = within-most 1 8 j (and-r (within 1 8 a) (within 1 8 j) transit);
+    }
+
+pub nodes-small : (x y e a j : ℕ) → T (sizesInRange (shapeOf x y e a j)) → nodes (shapeOf x y e a j) ≤ 256
+unfolding nodes product shapeOf
+nodes-small x y e a j t =
+    let s = small x y e a j t in
+    let one = mul-one y in
+    mul-le-mul {n₂ = 16} {m₂ = 16} (s .columns) (let r = s .rows in omega arith)
+
+-- What the check of a network says of a queue -------------------------------------------------------------------------------------------
+
+both : (a b : Bool) → T (a && b) → (T a × T b)
+both a b t = (and-l a b t, and-r a b t)
+
+pub checked : (S : Shape) (w : List ℕ) (n q : ℕ) → T (isNetwork S w) → n < nodes S → q < queues → Checked S w n q
+unfolding isNetwork queuesFit queueFits
+checked S w n q t hn hq =
+    let network = both (sizesInRange S) (leb (need S) (length w) && (queuesFit S w && (ringsHaveRoom S w && countersFit S w))) t in
+    let long = both (leb (need S) (length w)) (queuesFit S w && (ringsHaveRoom S w && countersFit S w)) (network .1) in
+    let node = all-at (nodes S) (λ m. allBelow queues (λ r. queueFits S w m r)) (and-l (queuesFit S w) (ringsHaveRoom S w && countersFit S w) (long .1)) n hn in
+    let part = queuePart S w n q in
+    let words = both (leb (countOf part) (capacity S q)) (allOf (eqb 0) (unusedOf part) && allOf (packetFits S n q) (held S w n q)) (all-at queues (λ r. queueFits S w n r) node q hq) in
+    record {
+      sizes = network .0;
+      node = hn;
+      queue = hq;
+      long = leb→le (need S) (length w) (long .0);
+      count = leb→le (countOf part) (capacity S q) (words .0);
+      zeros = and-l (allOf (eqb 0) (unusedOf part)) (allOf (packetFits S n q) (held S w n q)) (words .1);
+    }
+
+pub checked-fits : (S : Shape) (w : List ℕ) (n q : ℕ) → Checked S w n q → Fits S w n q
+checked-fits S w n q k = record { node = k .node; queue = k .queue; long = k .long }
+
+-- what the functions that compute places ask
+pub places : (x y e a j : ℕ) {w : List ℕ} {n q : ℕ} → Checked (shapeOf x y e a j) w n q → (e ≤ 8) × (a ≤ 8) × (j ≤ 8) × (n < 256) × (q < queues)
+places x y e a j k =
+    let s = small x y e a j (k .sizes) in
+    let b = nodes-small x y e a j (k .sizes) in
+    let h = k .node in
+    (s .escape, s .adaptive, s .injection, omega arith, k .queue)
+
+-- the number held is the number of packets
+pub checked-count : (S : Shape) (w : List ℕ) (n q : ℕ) → Checked S w n q → length (held S w n q) ≡ countOf (queuePart S w n q)
+unfolding held queueLength
+checked-count S w n q k = length-packetsOf (capacity S q) (queuePart S w n q) (length-queuePart S w n q (checked-fits S w n q k)) (k .count)
+
+checked-slots : (S : Shape) (w : List ℕ) (n q : ℕ) → Checked S w n q → slots (queuePart S w n q) ≡ capacity S q
+unfolding queueLength
+checked-slots S w n q k =
+    let l : length (queuePart S w n q) ≡ 1 + capacity S q = length-queuePart S w n q (checked-fits S w n q k) in
+    omega arith
+
+is-queue : (S : Shape) (w : List ℕ) (n q : ℕ) → Checked S w n q → IsQueue (queuePart S w n q)
+unfolding queueLength
+is-queue S w n q k =
+    let l : length (queuePart S w n q) ≡ 1 + capacity S q = length-queuePart S w n q (checked-fits S w n q k) in
+    let c = k .count in
+    record { count = omega arith; zeros = k .zeros }
+
+-- A queue at its place ------------------------------------------------------------------------------------------------------------------
+
+-- a checked queue, with its start and its end as computed
+pub record Placed (S : Shape) (w : List ℕ) (n q start end : ℕ) : Type 0 where
+  pub queue : Checked S w n q
+  pub from : start ≡ queueStart S n q
+  pub to : end ≡ queueEnd S n q
+
+pub placed : (x y e a j : ℕ) {w : List ℕ} {n q start end : ℕ} → Checked (shapeOf x y e a j) w n q
+    → ((x y : ℕ) → start ≡ queueStart (shapeOf x y e a j) n q) → ((x y : ℕ) → end ≡ queueEnd (shapeOf x y e a j) n q)
+    → Placed (shapeOf x y e a j) w n q start end
+placed x y e a j k from to = record { queue = k; from = from x y; to = to x y }
+
+module _ {S : Shape} {w : List ℕ} {n q start end : ℕ} (at : Placed S w n q start end) where
+  part-at : span w start end ≡ queuePart S w n q
+  unfolding queuePart
+  part-at = ap₂ (λ (a e : ℕ). span w a e) (at .from) (at .to)
+
+  pub queue-at : QueueAt w start end
+  queue-at =
+      let s = start-end S n q in
+      let l = end-length S w n q (checked-fits S w n q (at .queue)) in
+      let a = at .from in
+      let e = at .to in
+      record { start = omega arith; end = omega arith; queue = subst (λ (part : List ℕ). IsQueue part) (sym part-at) (is-queue S w n q (at .queue)) }
+
+  pub room-at : length (held S w n q) < capacity S q → countOf (span w start end) < slots (span w start end)
+  room-at h =
+      let c = checked-count S w n q (at .queue) in
+      let e = checked-slots S w n q (at .queue) in
+      subst (λ (part : List ℕ). countOf part < slots part) (sym part-at) (omega arith)
+
+  pub some-at : 0 < length (held S w n q) → 0 < countOf (span w start end)
+  some-at h =
+      let c = checked-count S w n q (at .queue) in
+      subst (λ (part : List ℕ). 0 < countOf part) (sym part-at) (omega arith)
+
+  -- what is its head, and its packets changed by any function of them
+  pub head-at : {r : ℕ} → r ≡ head (packetsOf (span w start end)) → r ≡ head (held S w n q)
+  unfolding held
+  head-at h = h ∙ ap (λ (part : List ℕ). head (packetsOf part)) part-at
+
+  pub put-at : (f : List ℕ → List ℕ) {v : List ℕ} → v ≡ splice w start end (queueWords (slots (span w start end)) (f (packetsOf (span w start end))))
+      → v ≡ putQueue S w n q (f (held S w n q))
+  unfolding queuePart putQueue held
+  put-at f h =
+      h
+      ∙ ap₂ (λ (a e : ℕ). splice w a e (queueWords (slots (span w a e)) (f (packetsOf (span w a e))))) (at .from) (at .to)
+      ∙ ap (λ (c : ℕ). splice w (queueStart S n q) (queueEnd S n q) (queueWords c (f (held S w n q)))) (checked-slots S w n q (at .queue))
+
+-- What stays ----------------------------------------------------------------------------------------------------------------------------
+
+pub checked-put : (S : Shape) (w : List ℕ) (n q : ℕ) (ps : List ℕ) (m r : ℕ) → Fits S w n q → length ps ≤ capacity S q → Checked S w m r
+    → Checked S (putQueue S w n q ps) m r
+checked-put S w n q ps m r fits h k = go (ℕ-discrete n m) (ℕ-discrete q r)
+  where
+    long : need S ≤ length (putQueue S w n q ps)
+    long =
+        let l = length-put S w n q ps fits h in
+        let b = fits .long in
+        omega arith
+
+    good : (part : List ℕ) → queuePart S (putQueue S w n q ps) m r ≡ part → countOf part ≤ capacity S r → T (allOf (eqb 0) (unusedOf part))
+        → Checked S (putQueue S w n q ps) m r
+    good part e c z = record {
+      sizes = k .sizes;
+      node = k .node;
+      queue = k .queue;
+      long = long;
+      count = subst (λ (l : List ℕ). countOf l ≤ capacity S r) (sym e) c;
+      zeros = subst (λ (l : List ℕ). T (allOf (eqb 0) (unusedOf l))) (sym e) z;
+    }
+
+    other : ((n ≡ m) × (q ≡ r) → ⊥) → Checked S (putQueue S w n q ps) m r
+    other ne = good (queuePart S w m r) (part-put-other S w n q ps m r fits h (k .node) (k .queue) ne) (k .count) (k .zeros)
+
+    go : Dec (n ≡ m) → Dec (q ≡ r) → Checked S (putQueue S w n q ps) m r
+    go (yes a) (yes b) =
+        good (queueWords (capacity S q) ps)
+        (ap₂ (λ (i j : ℕ). queuePart S (putQueue S w n q ps) i j) (sym a) (sym b) ∙ part-put-same S w n q ps fits h)
+        (let c = countOf-queueWords (capacity S q) ps in let e = ap (capacity S) b in omega arith)
+        (unused-zero (capacity S q) ps)
+    go (yes a) (no b) = other (λ e. b (e .1))
+    go (no a) b = other (λ e. a (e .0))
+
+pub checked-raised : (S : Shape) (at : ℕ) (w : List ℕ) (n q : ℕ) → at < headerWords → Checked S w n q → Checked S (raised at w) n q
+checked-raised S at w n q h k =
+    let e = part-raised S at w n q h in
+    let l = length-raised at w in
+    let b = k .long in
+    record {
+      sizes = k .sizes;
+      node = k .node;
+      queue = k .queue;
+      long = omega arith;
+      count = subst (λ (part : List ℕ). countOf part ≤ capacity S q) (sym e) (k .count);
+      zeros = subst (λ (part : List ℕ). T (allOf (eqb 0) (unusedOf part))) (sym e) (k .zeros);
+    }
