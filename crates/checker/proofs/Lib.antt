@@ -1,0 +1,4 @@
+-- Laws that several proofs of the crate share.
+pub mod Bools
+pub mod Nodes
+pub mod Hops

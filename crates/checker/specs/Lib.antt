@@ -1,0 +1,3 @@
+-- What the contracts of the crate cite beside the definitions of the crate network.
+pub mod Tally
+pub mod Limits

@@ -1,0 +1,3 @@
+// The call Check.
+pub mod packets;
+pub mod queues;
