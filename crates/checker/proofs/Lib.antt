@@ -2,3 +2,5 @@
 pub mod Bools
 pub mod Nodes
 pub mod Hops
+pub mod Tallies
+pub mod Parts
