@@ -4,3 +4,4 @@ pub mod Nodes
 pub mod Hops
 pub mod Tallies
 pub mod Parts
+pub mod Walks

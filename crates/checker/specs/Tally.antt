@@ -1,15 +1,16 @@
 -- What the functions of this crate find out about a run of queues: whether each passes the check, and if so how many packets they hold and what
--- work these have left. Order: the answer; the clauses of one queue by its words; the tally of a node. Assumes nothing.
+-- work these have left. Order: the answer; the clauses of one queue by its words; the tally of a node; the words
+-- that the code looks at. Assumes nothing.
 use mathlib.Core.Bool.{Bool, true, false, _&&_}
 use mathlib.Core.List.{List}
-use Prim.Native.Nat.{ℕ}
-use lib.Dec.{leb, eqb}
+use Prim.Native.Nat.{ℕ, _≤_}
+use lib.Dec.{T, leb, eqb}
 use lib.ListN.{length}
 use Rattle.base.specs.Tests.{allBelow, allOf}
 use Rattle.base.specs.Sums.{sumBelow, sumOf}
-use Rattle.network.specs.Sizes.{Shape, queues, capacity}
+use Rattle.network.specs.Sizes.{Shape, sizesInRange, queues, capacity}
 use Rattle.network.specs.Packet.{work}
-use Rattle.network.specs.Layout.{countOf, packetsOf, unusedOf, held}
+use Rattle.network.specs.Layout.{countOf, packetsOf, unusedOf, held, need}
 use Rattle.network.specs.Check.{packetFits, queueFits}
 use Rattle.checker.specs.declared.queues.Tally.{Tally}
 
@@ -27,3 +28,8 @@ partFits S n q part =
 unfoldable pub nodeTally : Shape → List ℕ → ℕ → Tally
 nodeTally S w n =
     tally (allBelow queues (λ q. queueFits S w n q)) (sumBelow queues (λ q. length (held S w n q))) (sumBelow queues (λ q. sumOf work (held S w n q)))
+
+-- sizes in range, and as many words as they need
+pub record Enough (S : Shape) (w : List ℕ) : Type 0 where
+  pub sizes : T (sizesInRange S)
+  pub long : need S ≤ length w

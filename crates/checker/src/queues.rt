@@ -6,17 +6,16 @@ use packet::torus::Sizes;
 ghost use mathlib.Core.Path.{_≡_};
 ghost use mathlib.Core.Bool.{false};
 ghost use Prim.Native.Nat.{ℕ, _+_, _<_, _≤_};
-ghost use lib.Dec.{T, eqb};
+ghost use lib.Dec.{eqb};
 ghost use lib.ListN.{length, drop};
-ghost use Rattle.base.specs.Tests.{allBelow, allOf};
-ghost use Rattle.base.specs.Sums.{sumBelow, sumOf};
-ghost use Rattle.network.specs.Sizes.{queues, sizesInRange};
+ghost use Rattle.base.specs.Tests.{allOf};
+ghost use Rattle.base.specs.Sums.{sumOf};
 ghost use Rattle.network.specs.Packet.{work};
-ghost use Rattle.network.specs.Layout.{countOf, packetsOf, held, need, queueStart, queueLength};
-ghost use Rattle.network.specs.Check.{queueFits, queuesFit, packetsHeld, workLeft};
+ghost use Rattle.network.specs.Layout.{countOf, packetsOf, queueStart, queueLength};
+ghost use Rattle.network.specs.Check.{queuesFit, packetsHeld, workLeft};
 ghost use Rattle.packet.specs.Geometry.{shapeOfSizes};
 ghost use Rattle.checker.specs.Limits.{nodeAt, OnTorus, LimitsFit, fitsWithin};
-ghost use Rattle.checker.specs.Tally.{tally, partFits, nodeTally};
+ghost use Rattle.checker.specs.Tally.{tally, partFits, nodeTally, Enough};
 
 // What a run of queues comes to: whether it passes the check, and if it does how many packets it holds and what work these have left.
 pub struct Tally {
@@ -97,6 +96,33 @@ fn queue_fits(part: &[u64], s: Sizes, x: u64, y: u64, q: u64) -> Tally
     packets_fit(part, s, x, y, limits_of(s, q))
 }
 
+// The nine queues of the node in column x and row y, whose words begin at this place.
+fn node_fits(words: &[u64], s: Sizes, x: u64, y: u64, start: usize) -> Tally
+    requires { ⌜ OnTorus s x y × Enough (shapeOfSizes s) (now words) × (start ≡ queueStart (shapeOfSizes s) (nodeAt s x y) 0) ⌝ }
+    ensures { λ r. ⌜ r ≡ nodeTally (shapeOfSizes s) (now (words .entry)) (nodeAt s x y) ⌝ }
+{
+    let mut held = 0;
+    let mut work = 0;
+    let mut at = start;
+    let mut q = 0;
+    while q < 9 {
+        let end = at + queue::capacity(s.escape, s.adaptive, s.injection, q) as usize + 1;
+        let t = queue_fits(&words[at..end], s, x, y, q);
+        if !t.ok {
+            return unfit();
+        }
+        held += t.held;
+        work += t.work;
+        at = end;
+        q += 1;
+    }
+    Tally {
+        ok: true,
+        held,
+        work,
+    }
+}
+
 // Where a node stands.
 struct Place {
     x: u64,
@@ -115,4 +141,35 @@ fn next_place(s: Sizes, at: Place) -> Place
         };
     }
     Place { x: 0, y: at.y + 1 }
+}
+
+// All nodes in order.
+pub fn queues_fit(words: &[u64], s: Sizes) -> Tally
+    requires { ⌜ Enough (shapeOfSizes s) (now words) ⌝ }
+    ensures { λ r. ⌜ r ≡ tally (queuesFit (shapeOfSizes s) (now (words .entry)))
+        (packetsHeld (shapeOfSizes s) (now (words .entry))) (workLeft (shapeOfSizes s) (now (words .entry))) ⌝ }
+{
+    let nodes = packet::torus::nodes(s);
+    let node = queue::node_words(s.escape, s.adaptive, s.injection) as usize;
+    let mut held = 0;
+    let mut work = 0;
+    let mut start = 8;
+    let mut place = Place { x: 0, y: 0 };
+    let mut n = 0;
+    while n < nodes {
+        let t = node_fits(words, s, place.x, place.y, start);
+        if !t.ok {
+            return unfit();
+        }
+        held += t.held;
+        work += t.work;
+        start += node;
+        place = next_place(s, place);
+        n += 1;
+    }
+    Tally {
+        ok: true,
+        held,
+        work,
+    }
 }
