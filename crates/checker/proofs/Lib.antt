@@ -5,3 +5,4 @@ pub mod Hops
 pub mod Tallies
 pub mod Parts
 pub mod Walks
+pub mod Lines

@@ -18,7 +18,7 @@ use Rattle.network.specs.Layout.{countOf, packetsOf}
 use Rattle.network.specs.LayoutLaws.{length-packetsOf}
 use Rattle.checker.specs.declared.queues.Tally.{Tally}
 use Rattle.checker.specs.Tally.{tally}
-use Rattle.checker.proofs.Bools.{and-stop, and-on}
+use Rattle.checker.proofs.Bools.{and-stop, and-on, fails-at}
 
 -- What a tally says ---------------------------------------------------------------------------------------------------------------------
 
@@ -94,17 +94,6 @@ pub record Upto (f : ℕ → Bool) (g h : ℕ → ℕ) (k held work : ℕ) : Typ
   pub tests : allBelow k f ≡ true
   pub packets : held ≡ sumBelow k g
   pub hops-left : work ≡ sumBelow k h
-
--- a failure below n
-pub fails-at : (n : ℕ) (f : ℕ → Bool) (k : ℕ) → k < n → f k ≡ false → allBelow n f ≡ false
-fails-at n f k l e = go (passed? (allBelow n f))
-  where
-    never : T (allBelow n f) → ⊥
-    never t = false≢true (sym e ∙ T-true (f k) (all-at n f t k l))
-
-    go : T (allBelow n f) ⊎ T (not (allBelow n f)) → allBelow n f ≡ false
-    go (inl t) = absurd (never t)
-    go (inr t) = T-false (allBelow n f) t
 
 module _ (f : ℕ → Bool) (g h : ℕ → ℕ) where
   pub upto-start : Upto f g h 0 0 0

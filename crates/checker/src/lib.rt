@@ -1,3 +1,4 @@
 // The call Check.
 pub mod packets;
 pub mod queues;
+pub mod rings;
