@@ -21,6 +21,12 @@ and-stop a b e = ap (λ t. t && b) e
 pub and-on : (a b : Bool) → a ≡ true → a && b ≡ b
 and-on a b e = ap (λ t. t && b) e
 
+-- two parts of a list of two, in a row with the rest
+pub and-all : (a b c : Bool) → a && (b && true) && c ≡ a && (b && c)
+and-all true true c = refl
+and-all true false c = refl
+and-all false b c = refl
+
 -- one fails below n; one more passes
 pub fails-at : (n : ℕ) (f : ℕ → Bool) (k : ℕ) → k < n → f k ≡ false → allBelow n f ≡ false
 fails-at n f k l e = go (passed? (allBelow n f))
