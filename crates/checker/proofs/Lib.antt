@@ -1,0 +1,8 @@
+-- Laws that several proofs of the crate share.
+pub mod Bools
+pub mod Nodes
+pub mod Hops
+pub mod Tallies
+pub mod Parts
+pub mod Walks
+pub mod Lines

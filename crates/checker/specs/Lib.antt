@@ -1,0 +1,4 @@
+-- What the contracts of the crate cite beside the definitions of the crate network.
+pub mod Tally
+pub mod Limits
+pub mod Lines

@@ -1,0 +1,121 @@
+// The call Check: are these words a network, and if not, which test refuses them. Every other call but Make makes these tests first.
+// Order: the refusal; the sizes; the clauses of the check; the counters. The queues' clauses are in the module `queues`, a packet's in `packets`,
+// the rings' in `rings`.
+pub mod packets;
+pub mod queues;
+pub mod rings;
+
+use packet::torus::Sizes;
+use queues::queues_fit;
+use rings::rings_have_room;
+ghost use mathlib.Core.Path.{_≡_};
+ghost use Prim.Native.Nat.{_≤_};
+ghost use lib.ListN.{length};
+ghost use Rattle.network.specs.Sizes.{Shape, within, sizesInRange};
+ghost use Rattle.network.specs.Layout.{shape};
+ghost use Rattle.network.specs.Check.{packetsHeld, workLeft, countersFit, isNetwork};
+ghost use Rattle.network.specs.Refusals.{networkRefusal};
+ghost use Rattle.packet.specs.Geometry.{shapeOfSizes};
+ghost use Rattle.checker.specs.Tally.{Enough};
+
+// The number of the first test that refuses the words, 0 if they are a network.
+pub fn network_refusal(words: &[u64]) -> u64
+    ensures { λ r. ⌜ r ≡ networkRefusal (now (words .entry)) ⌝ }
+{
+    if words.len() < 8 {
+        return 1;
+    }
+    let s = sizes_of(words);
+    if !in_range(s) {
+        return 2;
+    }
+    if words.len() < queue::need(s.x, s.y, s.escape, s.adaptive, s.injection) {
+        return 1;
+    }
+    if !is_network(words, s) {
+        return 3;
+    }
+    0
+}
+
+// The sizes that the words begin with.
+pub fn sizes_of(words: &[u64]) -> Sizes
+    requires { ⌜ 8 ≤ length (now words) ⌝ }
+    ensures { λ r. ⌜ shapeOfSizes r ≡ shape (now (words .entry)) ⌝ }
+{
+    Sizes {
+        x: words[0],
+        y: words[1],
+        escape: words[2],
+        adaptive: words[3],
+        injection: words[4],
+    }
+}
+
+pub fn in_range(s: Sizes) -> bool
+    ensures { λ r. ⌜ r ≡ sizesInRange (shapeOfSizes s) ⌝ }
+{
+    if !within(1, 16, s.x) {
+        return false;
+    }
+    if !within(1, 16, s.y) {
+        return false;
+    }
+    if !within(2, 8, s.escape) {
+        return false;
+    }
+    if !within(1, 8, s.adaptive) {
+        return false;
+    }
+    within(1, 8, s.injection)
+}
+
+fn within(least: u64, most: u64, n: u64) -> bool
+    ensures { λ r. ⌜ r ≡ within least most n ⌝ }
+{
+    if n < least {
+        return false;
+    }
+    n <= most
+}
+
+// The clauses of the check, for sizes in range and as many words as they need.
+pub fn is_network(words: &[u64], s: Sizes) -> bool
+    requires { ⌜ Enough (shapeOfSizes s) (now words) ⌝ }
+    ensures { λ r. ⌜ r ≡ isNetwork (shapeOfSizes s) (now (words .entry)) ⌝ }
+{
+    let t = queues_fit(words, s);
+    if !t.ok {
+        return false;
+    }
+    if !rings_have_room(words, s) {
+        return false;
+    }
+    counters_fit(words, t.held, t.work)
+}
+
+// The counters' clauses, where so many packets are held and so much work is left. A header word may be as large as a word can be, so sums are
+// compared by differences, each after the test that keeps it from wrapping.
+fn counters_fit(words: &[u64], held: u64, work: u64) -> bool
+    requires { ⌜ 8 ≤ length (now words) ⌝ }
+    ensures { λ r. ⌜ ((S : Shape) → held ≡ packetsHeld S (now (words .entry)) → work ≡ workLeft S (now (words .entry))
+        → r ≡ countersFit S (now (words .entry))) ⌝ }
+{
+    let accepted = words[5];
+    let delivered = words[6];
+    let moves = words[7];
+    if 4294967295 < accepted {
+        return false;
+    }
+    if accepted < delivered {
+        return false;
+    }
+    if accepted - delivered != held {
+        return false;
+    }
+    let most = 17 * accepted;
+    if most < moves {
+        return false;
+    }
+    work <= most - moves
+}
