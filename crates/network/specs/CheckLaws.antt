@@ -4,17 +4,19 @@ use mathlib.Core.Path.{_≡_, refl, ap, sym, _∙_}
 use mathlib.Core.Logic.{_⊎_, inl, inr, _≢_}
 use mathlib.Core.Bool.{Bool, true, false, cond, not, _&&_, _||_}
 use mathlib.Core.List.{List, []}
-use Prim.Native.Nat.{ℕ, zero, suc, _+_, _*_, _/_, _%_, _<_, _≤_}
+use Prim.Native.Nat.{ℕ, zero, suc, _+_, _*_, _-_, _/_, _%_, _<_, _≤_}
 use native.Mathlib.Decide.{ℕ-discrete}
 use native.Mathlib.Omega.{arith}
 use borrow.Author.Tests.{eq-eqb, ne-eqb}
 use lib.Dec.{T, leb, ltb, eqb, leb→le, le→leb, ltb→lt, lt→ltb, eqb→eq, eqb-refl, T-not}
-use lib.ListN.{length}
+use lib.ListN.{length, getD}
 use Rattle.base.specs.Tests.{allBelow, allOf, and-l, and-r, and-i, or-l, or-r, or-e, all-at, all-by, passed?}
+use Rattle.base.specs.Digits.{turn, turn-turn, turn-rounds, radix-pos}
 use Rattle.network.specs.Sizes.{Shape, size, sizesInRange, nodes, queues, directions, dimensions, dimensionOf, directionOf, isPlus, plus, minus, isEscape, injectionQueue, capacity}
 use Rattle.network.specs.Packet.{destination, distance, hops}
 use Rattle.network.specs.PacketLaws.{one-way, distance-is}
-use Rattle.network.specs.Torus.{movedBy}
+use Rattle.network.specs.Torus.{stride, along, neighbour, movedBy}
+use Rattle.network.specs.TorusLaws.{Torus}
 use Rattle.network.specs.Layout.{held, queuePart, countOf, unusedOf, need, accepted, delivered, movesMade}
 use Rattle.network.specs.Check.{rightPlace, isQueueOf, reach, nearEnough, opposite, rightSign, lowerDone, packetFits, queueFits, queuesFit, ringHasRoom, ringsHaveRoom, packetsHeld, workLeft, mostAccepted, mostWork, countersFit, isNetwork}
 
@@ -74,6 +76,51 @@ only-way d p ne = go (ℕ-discrete (d % 2) 0) (one-way (dimensionOf d) p)
     go (yes e) (inr z) = rw (eq-eqb (d % 2) 0 e) z
     go (no e) (inl z) = rw (ne-eqb (d % 2) 0 e) z
     go (no e) (inr z) = absurd (ne (let way : d ≡ minus (dimensionOf d) = omega arith in ap (λ (x : ℕ). hops x p) way ∙ z))
+
+-- a step and one step back
+pub neighbour-back : (S : Shape) (d n : ℕ) → Torus S → d < directions → neighbour S (opposite d) (neighbour S d n) ≡ n
+unfolding neighbour along stride opposite size
+neighbour-back S d n tor hd = go (ℕ-discrete (d % 2) 0)
+  where
+    i : ℕ
+    i = dimensionOf d
+
+    k : ℕ
+    k = getD (S .sizes) i 0
+
+    inside : i < length (S .sizes)
+    inside = let l = tor .dims in omega arith
+
+    pos : 0 < k
+    pos = radix-pos (S .sizes) i (tor .positive) inside
+
+    round : (a b : ℕ) → a + b ≡ 1 * k → turn (S .sizes) i b (turn (S .sizes) i a n) ≡ n
+    round a b e = turn-turn (S .sizes) i a b n (tor .positive) inside ∙ ap (λ (c : ℕ). turn (S .sizes) i c n) e ∙ turn-rounds (S .sizes) i 1 n (tor .positive) inside
+
+    -- plus, then minus; minus, then plus
+    go : Dec (d % 2 ≡ 0)
+        → turn (S .sizes) (dimensionOf (cond (isPlus d) (minus i) (plus i)))
+        (1 * cond (isPlus (cond (isPlus d) (minus i) (plus i))) 1 (getD (S .sizes) (dimensionOf (cond (isPlus d) (minus i) (plus i))) 0 - 1))
+        (turn (S .sizes) i (1 * cond (isPlus d) 1 (k - 1)) n)
+        ≡ n
+    go (yes e) =
+        rw (eq-eqb (d % 2) 0 e, ne-eqb (minus i % 2) 0 odd, same)
+        (round (1 * 1) (1 * (k - 1)) (omega (arith, pos)))
+      where
+        odd : minus i % 2 ≡ 0 → ⊥
+        odd z = omega arith
+
+        same : dimensionOf (minus i) ≡ i
+        same = omega arith
+    go (no e) =
+        rw (ne-eqb (d % 2) 0 e, eq-eqb (plus i % 2) 0 even, same)
+        (round (1 * (k - 1)) (1 * 1) (omega (arith, pos)))
+      where
+        even : plus i % 2 ≡ 0
+        even = omega arith
+
+        same : dimensionOf (plus i) ≡ i
+        same = omega arith
 
 -- no hop left either way
 pub both-zero : (d p : ℕ) → hops d p ≡ 0 → hops (opposite d) p ≡ 0 → distance (dimensionOf d) p ≡ 0

@@ -1,10 +1,11 @@
 -- What First's search names: a move that no rule refuses, and none only where every move is refused. Order: one search; the outputs of a head;
 -- the queues of a node and the nodes. Assumes nothing.
-use mathlib.Core.Path.{_≡_, refl, ap, sym, _∙_}
+use mathlib.Core.Path.{_≡_, refl, ap, ap₂, sym, _∙_}
 use mathlib.Core.Logic.{_⊎_, inl, inr, _≢_}
 use mathlib.Core.Bool.{Bool, true, false, cond, _||_}
 use mathlib.Core.List.{List, [], _∷_}
 use Prim.Native.Nat.{ℕ, zero, suc, _+_, _<_, _≤_}
+use native.Mathlib.Nat.{add-zero, zero-add, suc-add}
 use native.Mathlib.Decide.{ℕ-discrete}
 use native.Mathlib.Omega.{arith}
 use borrow.Author.Tests.{eq-eqb, ne-eqb}
@@ -58,15 +59,22 @@ search-nothing f i (suc count) e j a b = go (ℕ-discrete i j) (orElse-nothing (
     go (yes here) r later = rw (← here) (r .0)
     go (no ne) r later = later (r .1) (omega arith)
 
--- the outputs of a head
-pub output-finds : (S : Shape) (w : List ℕ) (n q : ℕ) (os : List ℕ) → Finds (Permitted S w) (firstOutput S w n q os)
+finds-map : (P Q : ℕ → ℕ → ℕ → Type 0) → ((n q o : ℕ) → P n q o → Q n q o) → (f : Found) → Finds P f → Finds Q f
+finds-map P Q h f nothing = nothing
+finds-map P Q h f (named {n} {q} {o} r) = named (h n q o r)
+
+-- the outputs of a head: a permitted move of its own node
+abbrev pub Here : Shape → List ℕ → ℕ → ℕ → ℕ → ℕ → Type 0
+Here S w n m q o = (m ≡ n) × Permitted S w m q o
+
+pub output-finds : (S : Shape) (w : List ℕ) (n q : ℕ) (os : List ℕ) → Finds (Here S w n) (firstOutput S w n q os)
 unfolding firstOutput
 output-finds S w n q [] = nothing
 output-finds S w n q (o ∷ os) = go (ℕ-discrete (moveRules S w n q o) 0) (output-finds S w n q os)
   where
-    go : Dec (moveRules S w n q o ≡ 0) → Finds (Permitted S w) (firstOutput S w n q os)
-        → Finds (Permitted S w) (cond (eqb (moveRules S w n q o) 0) (Found.Move n q o) (firstOutput S w n q os))
-    go (yes z) r = rw (eq-eqb (moveRules S w n q o) 0 z) (named (permitted-of S w n q o z))
+    go : Dec (moveRules S w n q o ≡ 0) → Finds (Here S w n) (firstOutput S w n q os)
+        → Finds (Here S w n) (cond (eqb (moveRules S w n q o) 0) (Found.Move n q o) (firstOutput S w n q os))
+    go (yes z) r = rw (eq-eqb (moveRules S w n q o) 0 z) (named (refl, permitted-of S w n q o z))
     go (no ne) r = rw (ne-eqb (moveRules S w n q o) 0 ne) r
 
 pub output-nothing : (S : Shape) (w : List ℕ) (n q : ℕ) (os : List ℕ) → firstOutput S w n q os ≡ Found.Nothing → (o : ℕ) → T (elem o os) → moveRules S w n q o ≢ 0
@@ -83,20 +91,38 @@ output-nothing S w n q (x ∷ os) e o t = go (ℕ-discrete (moveRules S w n q x)
     go (no ne) (inl s) later = rw (eqb→eq o x s) ne
     go (no ne) (inr s) later = later (rw (ne-eqb (moveRules S w n q x) 0 ne) at e) s
 
+-- the queues of a node
+pub node-finds : (S : Shape) (w : List ℕ) (n : ℕ) → Finds (Here S w n) (firstInNode S w n)
+unfolding firstInNode firstInQueue
+node-finds S w n =
+    search-finds (Here S w n) (λ q. firstOutput S w n q (routes q (head (held S w n q)))) 0 queues
+    (λ q c d. output-finds S w n q (routes q (head (held S w n q))))
+
+pub node-nothing : (S : Shape) (w : List ℕ) (n : ℕ) → firstInNode S w n ≡ Found.Nothing → (q o : ℕ) → Permitted S w n q o → ⊥
+unfolding firstInNode firstInQueue
+node-nothing S w n e q o p =
+    output-nothing S w n q (routes q (head (held S w n q)))
+    (search-nothing (λ r. firstOutput S w n r (routes r (head (held S w n r)))) 0 queues e q (omega arith) (omega (arith, p .queue)))
+    o (p .route) (permitted-by S w n q o p)
+
 -- the whole search
 pub first-finds : (S : Shape) (w : List ℕ) → Finds (Permitted S w) (firstMove S w)
-unfolding firstMove firstInNode firstInQueue
+unfolding firstMove
 first-finds S w =
-    search-finds (Permitted S w) (λ n. search (λ q. firstOutput S w n q (routes q (head (held S w n q)))) 0 queues) 0 (nodes S)
-    (λ n a b.
-    search-finds (Permitted S w) (λ q. firstOutput S w n q (routes q (head (held S w n q)))) 0 queues
-    (λ q c d. output-finds S w n q (routes q (head (held S w n q)))))
+    search-finds (Permitted S w) (λ n. firstInNode S w n) 0 (nodes S)
+    (λ n a b. finds-map (Here S w n) (Permitted S w) (λ m q o r. r .1) (firstInNode S w n) (node-finds S w n))
 
 pub first-nothing : (S : Shape) (w : List ℕ) → firstMove S w ≡ Found.Nothing → (n q o : ℕ) → Permitted S w n q o → ⊥
-unfolding firstMove firstInNode firstInQueue
+unfolding firstMove
 first-nothing S w e n q o p =
-    output-nothing S w n q (routes q (head (held S w n q)))
-    (search-nothing (λ r. firstOutput S w n r (routes r (head (held S w n r)))) 0 queues
-    (search-nothing (λ m. search (λ r. firstOutput S w m r (routes r (head (held S w m r)))) 0 queues) 0 (nodes S) e n (omega arith) (omega (arith, p .node)))
-    q (omega arith) (omega (arith, p .queue)))
-    o (p .route) (permitted-by S w n q o p)
+    node-nothing S w n (search-nothing (λ m. firstInNode S w m) 0 (nodes S) e n (omega arith) (omega (arith, p .node))) q o p
+
+-- the search begins at the first node that has anything: nodes before it may be passed over
+pub search-from : (f : ℕ → Found) (i skip count : ℕ) → ((j : ℕ) → i ≤ j → j < i + skip → f j ≡ Found.Nothing) → search f i (skip + count) ≡ search f (i + skip) count
+unfolding search orElse
+search-from f i zero count h = ap₂ (λ (a b : ℕ). search f a b) (sym (add-zero i)) (zero-add count)
+search-from f i (suc skip) count h =
+    ap (λ (c : ℕ). search f i c) (suc-add skip count)
+    ∙ ap (λ (a : Found). orElse a (search f (suc i) (skip + count))) (h i (omega arith) (omega arith))
+    ∙ search-from f (suc i) skip count (λ j a b. h j (omega arith) (omega arith))
+    ∙ ap (λ (a : ℕ). search f a count) (omega arith)

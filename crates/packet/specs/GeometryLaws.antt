@@ -1,21 +1,22 @@
 -- Laws of the code's sizes. Order: they make a torus; the two dimensions one by one; a digit put in, by its weight; the neighbour by the weight;
--- a node by its coordinates. `s` are the code's sizes, `n` is a node. Assumes nothing.
+-- a node by its coordinates; an offer's way. `s` are the code's sizes, `n` is a node. Assumes nothing.
 use mathlib.Core.Path.{_≡_, refl, ap, ap₂, sym, _∙_}
 use mathlib.Core.Bool.{cond}
 use mathlib.Core.List.{List, [], _∷_}
 use mathlib.Core.Logic.{_≢_}
 use Prim.Native.Nat.{ℕ, zero, suc, _+_, _*_, _-_, _/_, _%_, _<_, _≤_}
-use native.Mathlib.Nat.{mul-one, one-mul, mul-le-mul, mul-comm, mul-assoc, mul-add, add-mul, mod-eq-of-lt, mod-self, mod-add-div, div-add-mod', div-lt-iff-lt-mul, not-suc-le-zero, le-of-suc-le-suc}
+use native.Mathlib.Nat.{mul-one, one-mul, mul-le-mul, mul-comm, mul-left-comm, mul-add, zero-mul, add-mul, mod-eq-of-lt, mod-self, add-mod-right, mod-add-div, div-add-mod', div-lt-iff-lt-mul, not-suc-le-zero, le-of-suc-le-suc}
 use native.Mathlib.Omega.{arith}
 use lib.Dec.{T}
 use lib.ListN.{length}
 use borrow.Author.Tests.{eq-eqb, ne-eqb}
 use Rattle.base.specs.Digits.{product, digit, putDigit, turn, Positive}
-use Rattle.network.specs.Sizes.{Shape, size, nodes, dimensions, directions, dimensionOf, isPlus, sizesInRange}
-use Rattle.network.specs.PacketLaws.{dimension-lt}
+use Rattle.network.specs.Sizes.{Shape, size, nodes, dimensions, directions, dimensionOf, sizesInRange}
+use Rattle.network.specs.PacketLaws.{ByteRange, dimension-lt}
 use Rattle.network.specs.Torus.{coordinate, stride, along, neighbour}
-use Rattle.network.specs.TorusLaws.{Torus, inRange-torus, inRange-size, size-pos, coordinate-lt}
+use Rattle.network.specs.TorusLaws.{Torus, inRange-torus, inRange-size, size-pos, coordinate-lt, neighbour-lt}
 use Rattle.network.specs.Calls.{shapeOf}
+use Rattle.network.specs.OfferLaws.{offeredWay, offered-range}
 use Rattle.packet.specs.declared.torus.Sizes.{Sizes}
 use Rattle.packet.specs.Geometry.{shapeOfSizes, RingsFit, weight}
 
@@ -79,9 +80,10 @@ coordinate-y s i n r h e = rw e (sym (mod-eq-of-lt (row s n r h)))
     row : (s : Sizes) (n : ℕ) → RingsFit s → n < nodes (shapeOfSizes s) → n / s .x < s .y
     row s n r h = div-lt-iff-lt-mul (r .x-least) .1 (let e = nodes-is s in let f = mul-comm (s .x) (s .y) in omega arith)
 
--- a coordinate is on its ring, whose size is c's bound
-pub on-ring : (s : Sizes) (i n c k : ℕ) → RingsFit s → i < dimensions → c ≡ coordinate (shapeOfSizes s) i n → k ≡ size (shapeOfSizes s) i → (c < k) × (k ≤ 16)
-on-ring s i n c k r h ec ek =
+-- a coordinate c is on its ring of k nodes
+pub on-ring : {s : Sizes} {c k : ℕ} (i n : ℕ) → RingsFit s → i < dimensions → c ≡ coordinate (shapeOfSizes s) i n → k ≡ size (shapeOfSizes s) i
+    → (c < k) × (k ≤ 16)
+on-ring {s} i n r h ec ek =
     let l = coordinate-lt (shapeOfSizes s) i n (rings-torus s r) h in
     let m = size-most s i r h in
     (omega arith, omega arith)
@@ -98,30 +100,40 @@ put-weight (k ∷ ks) (suc i) b n h =
     ap (λ (m : ℕ). k * m) (put-weight ks i b (n / k) (le-of-suc-le-suc h)) in
     let l = mul-add k (putDigit ks i b (n / k)) (digit ks i (n / k) * weight ks i) in
     let m = mul-add k (n / k) (b * weight ks i) in
-    let o = native.Mathlib.Nat.mul-left-comm k (digit ks i (n / k)) (weight ks i) in
-    let p = native.Mathlib.Nat.mul-left-comm k b (weight ks i) in
+    let o = mul-left-comm k (digit ks i (n / k)) (weight ks i) in
+    let p = mul-left-comm k b (weight ks i) in
     omega arith
 
 -- The neighbour by the weight ---------------------------------------------------------------------------------------------------------
 
 -- what the code knows of a node n and a direction d: the coordinate c, the size k of the ring and the weight w
 pub record Ring (S : Shape) (d n c k w : ℕ) : Type 0 where
+  pub torus : Torus S
+  pub way : d < directions
+  pub node : n < nodes S
+  pub few : nodes S ≤ 256
   pub at : c ≡ coordinate S (dimensionOf d) n
   pub round : k ≡ size S (dimensionOf d)
+  pub short : k ≤ 16
   pub step : w ≡ weight (S .sizes) (dimensionOf d)
 
-module _ (S : Shape) (d n c k w : ℕ) (t : Torus S) (h : d < directions) (r : Ring S d n c k w) where
-  within-ring : c < k
-  within-ring = let l = coordinate-lt S (dimensionOf d) n t (dimension-lt d h) in let a = r .at in let b = r .round in omega arith
+module _ {S : Shape} {d n c k w : ℕ} (r : Ring S d n c k w) where
+  pub within-ring : c < k
+  within-ring =
+      let l = coordinate-lt S (dimensionOf d) n (r .torus) (dimension-lt d (r .way)) in
+      let a = r .at in
+      let b = r .round in
+      omega arith
 
-  pub ring-pos : 1 ≤ k
-  ring-pos = let l = within-ring in omega arith
+  pub neighbour-small : neighbour S d n < 256
+  neighbour-small = let l = neighbour-lt S d n (r .torus) (r .way) (r .node) in let m = r .few in omega arith
 
   -- where the neighbour has the coordinate b
   lands : (b : ℕ) → (c + stride S d) % k ≡ b → neighbour S d n + c * w ≡ n + b * w
   unfolding neighbour along turn coordinate size
   lands b e =
-      let l = t .dims in
+      let l = r .torus .dims in
+      let h = r .way in
       let at : (digit (S .sizes) (dimensionOf d) n + 1 * stride S d) % size S (dimensionOf d) ≡ b =
       ap₂ (λ (a q : ℕ). (a + 1 * stride S d) % q) (sym (r .at)) (sym (r .round))
       ∙ ap (λ (q : ℕ). (c + q) % k) (one-mul (stride S d))
@@ -153,7 +165,7 @@ module _ (S : Shape) (d n c k w : ℕ) (t : Torus S) (h : d < directions) (r : R
       let q : c + 1 ≡ k = omega arith in
       let f : neighbour S d n + c * w ≡ n + 0 * w =
       lands 0 (ap (λ (q : ℕ). (c + q) % k) (stride-plus e) ∙ ap (λ (m : ℕ). m % k) q ∙ mod-self k) in
-      let z = native.Mathlib.Nat.zero-mul w in
+      let z = zero-mul w in
       omega arith
 
   pub step-back : d % 2 ≢ 0 → 0 < c → neighbour S d n + w ≡ n
@@ -164,7 +176,7 @@ module _ (S : Shape) (d n c k w : ℕ) (t : Torus S) (h : d < directions) (r : R
       lands (c - 1)
       (ap (λ (q : ℕ). (c + q) % k) (stride-minus ne)
       ∙ ap (λ (m : ℕ). m % k) q
-      ∙ native.Mathlib.Nat.add-mod-right (c - 1) k
+      ∙ add-mod-right (c - 1) k
       ∙ mod-eq-of-lt (let j : c - 1 < k = omega arith in j)) in
       let g = add-mul (c - 1) 1 w in
       let o = one-mul w in
@@ -181,13 +193,17 @@ module _ (S : Shape) (d n c k w : ℕ) (t : Torus S) (h : d < directions) (r : R
       ∙ ap (λ (m : ℕ). m % k) q
       ∙ mod-eq-of-lt (let j : k - 1 < k = omega arith in j)) in
       let z : c * w ≡ 0 * w = ap (λ (m : ℕ). m * w) (let j : c ≡ 0 = omega arith in j) in
-      let y = native.Mathlib.Nat.zero-mul w in
+      let y = zero-mul w in
       omega arith
 
 -- A node by its coordinates -----------------------------------------------------------------------------------------------------------
 
-pub node-is : (s : Sizes) (n x y : ℕ) → RingsFit s → n < nodes (shapeOfSizes s) → x ≡ coordinate (shapeOfSizes s) 0 n → y ≡ coordinate (shapeOfSizes s) 1 n
-    → y * s .x + x ≡ n
-node-is s n x y r h ex ey =
+pub node-is : {s : Sizes} {x y : ℕ} (n : ℕ) → RingsFit s → n < nodes (shapeOfSizes s) → x ≡ coordinate (shapeOfSizes s) 0 n
+    → y ≡ coordinate (shapeOfSizes s) 1 n → y * s .x + x ≡ n
+node-is {s} n r h ex ey =
     ap₂ (λ (b a : ℕ). b * s .x + a) (ey ∙ sym (coordinate-y s 1 n r h refl)) (ex ∙ sym (coordinate-x s 0 n refl))
     ∙ div-add-mod' n (s .x)
+
+-- the way of an offer is of a byte's range
+pub rings-way : {s : Sizes} (n destination i : ℕ) → RingsFit s → i < dimensions → ByteRange (offeredWay (shapeOfSizes s) n destination i)
+rings-way {s} n destination i r h = offered-range (shapeOfSizes s) n destination i (rings-torus s r) (λ j k. size-most s j r k) h

@@ -6,15 +6,15 @@ use super::forward;
 use super::offset;
 use super::shorter_way;
 ghost use mathlib.Core.Path.{_≡_};
-ghost use Prim.Native.Nat.{_+_, _*_, _-_, _%_, _<_, _≤_};
+ghost use Prim.Native.Nat.{_<_};
 ghost use Rattle.network.specs.Sizes.{dimensions, directions, nodes, size};
-ghost use Rattle.network.specs.Packet.{forward, backward, shorterWay};
-ghost use Rattle.network.specs.PacketLaws.{ByteRange};
+ghost use Rattle.network.specs.Packet.{byte};
 ghost use Rattle.network.specs.Torus.{coordinate, neighbour, movedBy};
 ghost use Rattle.network.specs.Calls.{offered};
+ghost use Rattle.network.specs.OfferLaws.{offeredWay};
 ghost use Rattle.packet.specs.Geometry.{shapeOfSizes, RingsFit, weight};
 
-// Columns and rows, and the capacities of a node's queues.
+// Columns and rows, and the capacities of a node's queues: the sizes of a network, in the order of its first words.
 pub struct Sizes {
     pub x: u64,
     pub y: u64,
@@ -74,11 +74,14 @@ pub fn neighbour(s: Sizes, d: u64, n: u64) -> u64
     n + (k - 1) * w
 }
 
-// The coordinate c of a ring of k nodes, moved by the offset z. A byte may lead round more than once.
-fn moved(c: u64, k: u64, z: i64) -> u64
-    requires { ⌜ (c < k) × (k ≤ 16) × ByteRange z ⌝ }
-    ensures { λ r. ⌜ r ≡ (c + (forward z * 1 + backward z * (k - 1))) % k ⌝ }
+// The coordinate of the node to which a packet's offsets lead. A byte may lead round the ring more than once.
+fn moved_coordinate(s: Sizes, i: u64, p: u64, n: u64) -> u64
+    requires { ⌜ RingsFit s × (i < dimensions) × (n < nodes (shapeOfSizes s)) ⌝ }
+    ensures { λ r. ⌜ r ≡ coordinate (shapeOfSizes s) i (movedBy (shapeOfSizes s) p n) ⌝ }
 {
+    let k = size(s, i);
+    let c = coordinate(s, i, n);
+    let z = offset(i, p);
     (c + (forward(z) + backward(z) * (k - 1))) % k
 }
 
@@ -87,21 +90,20 @@ pub fn moved_by(s: Sizes, p: u64, n: u64) -> u64
     requires { ⌜ RingsFit s × (n < nodes (shapeOfSizes s)) ⌝ }
     ensures { λ r. ⌜ r ≡ movedBy (shapeOfSizes s) p n ⌝ }
 {
-    let x = moved(coordinate(s, 0, n), s.x, offset(0, p));
-    let y = moved(coordinate(s, 1, n), s.y, offset(1, p));
+    let x = moved_coordinate(s, 0, p, n);
+    let y = moved_coordinate(s, 1, p, n);
     y * s.x + x
 }
 
-// The shorter way from a node to a destination in dimension i.
-fn way(s: Sizes, i: u64, n: u64, destination: u64) -> i64
+// The byte of the shorter way from a node to a destination in dimension i.
+fn way_byte(s: Sizes, i: u64, n: u64, destination: u64) -> u64
     requires { ⌜ RingsFit s × (i < dimensions) × (n < nodes (shapeOfSizes s)) × (destination < nodes (shapeOfSizes s)) ⌝ }
-    ensures { λ r. ⌜ r ≡ shorterWay (size (shapeOfSizes s) i) (coordinate (shapeOfSizes s) i n) (coordinate (shapeOfSizes s) i destination) ⌝ }
+    ensures { λ r. ⌜ r ≡ byte (offeredWay (shapeOfSizes s) n destination i) ⌝ }
 {
-    shorter_way(
-        size(s, i),
-        coordinate(s, i, n),
-        coordinate(s, i, destination),
-    )
+    let k = size(s, i);
+    let from = coordinate(s, i, n);
+    let to = coordinate(s, i, destination);
+    byte(shorter_way(k, from, to))
 }
 
 // The packet word of an offer.
@@ -109,7 +111,7 @@ pub fn offered(s: Sizes, n: u64, destination: u64, tag: u32) -> u64
     requires { ⌜ RingsFit s × (n < nodes (shapeOfSizes s)) × (destination < nodes (shapeOfSizes s)) ⌝ }
     ensures { λ r. ⌜ r ≡ offered (shapeOfSizes s) n destination tag ⌝ }
 {
-    let x = byte(way(s, 0, n, destination));
-    let y = byte(way(s, 1, n, destination));
+    let x = way_byte(s, 0, n, destination);
+    let y = way_byte(s, 1, n, destination);
     (tag as u64) * 4294967296 + destination * 65536 + x * 256 + y
 }

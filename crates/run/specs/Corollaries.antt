@@ -1,5 +1,5 @@
--- What a reader asks of demand 3. Order: First and an empty network; a Drain that may go on to the end; the arbiter's order of moves; an empty network
--- that Make wrote. Assumes nothing.
+-- What a reader asks of demand 3. Order: First and an empty network; a Drain that may go on to the end; the arbiter's order of moves. Reached.antt has
+-- that Make and accepted offers lead to networks. Assumes nothing.
 use mathlib.Core.Path.{_≡_, refl, ap, sym, _∙_, subst}
 use mathlib.Core.Logic.{_↔_, _≢_}
 use mathlib.Core.Bool.{Bool, true, false, cond}

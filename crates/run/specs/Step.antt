@@ -45,6 +45,11 @@ pub record Ran (S : Shape) (w v : List ℕ) (ds : List Delivery) (m : ℕ) : Typ
   pub same-length : length v ≡ length w
   pub rest : drop (need S) v ≡ drop (need S) w
 
+-- what a move leaves alone: every queue of a node that is neither its source's nor its target's; and no queue but the source comes to hold less
+pub record Elsewhere (S : Shape) (w v : List ℕ) (n q o : ℕ) : Type 0 where
+  pub same : (m r : ℕ) → m < nodes S → r < queues → m ≢ n → (o ≢ deliver → m ≢ target S n o) → held S v m r ≡ held S w m r
+  pub no-less : (m r : ℕ) → m < nodes S → r < queues → ((n ≡ m) × (q ≡ r) → ⊥) → length (held S w m r) ≤ length (held S v m r)
+
 -- no move
 pub ran-none : (S : Shape) (w : List ℕ) → Network S w → Ran S w w [] 0
 unfolding allOf handedWith sumOf
@@ -364,6 +369,20 @@ module _ (S : Shape) (w : List ℕ) (n q : ℕ) (tor : Torus S) (N : Network S w
         resting : drop (need S) handed ≡ drop (need S) w
         resting = rest-raised S movesAt (raised deliveredAt (headLeaves S w n q)) (omega arith) ∙ rest-raised S deliveredAt (headLeaves S w n q) (omega arith) ∙ left-rest
 
+    handed-held : (m r : ℕ) → m < nodes S → r < queues → ((n ≡ m) × (q ≡ r) → ⊥) → held S handed m r ≡ held S w m r
+    unfolding handed
+    handed-held m r hm hr ne =
+        held-raised S movesAt (raised deliveredAt (headLeaves S w n q)) m r (omega arith)
+        ∙ held-raised S deliveredAt (headLeaves S w n q) m r (omega arith)
+        ∙ left-other m r hm hr ne
+
+    handed-elsewhere : (o : ℕ) → Elsewhere S w handed n q o
+    handed-elsewhere o =
+        record {
+          same = λ m r hm hr ne ne′. handed-held m r hm hr (λ e. ne (sym (e .0)));
+          no-less = λ m r hm hr ne. native.Mathlib.Nat.le-of-eq (sym (ap length (handed-held m r hm hr ne)));
+        }
+
   -- a hop: the packet leaves its queue and comes to the queue o of the neighbour in direction d
   module _ (o d : ℕ) (ho : o < queues) (g : Going (head (held S w n q)) o d) (flow : slotsNeeded q o ≤ freeSlots S w n o) where
     there : ℕ
@@ -479,6 +498,23 @@ module _ (S : Shape) (w : List ℕ) (n q : ℕ) (tor : Torus S) (N : Network S w
               let b = length-rest (held S w n q) holds in
               omega arith;
         }
+
+    moved-elsewhere : Elsewhere S w moved n q o
+    unfolding there
+    moved-elsewhere =
+        record {
+          same =
+              λ m r hm hr ne ne′.
+              moved-held m r ∙ gone-other m r hm hr (λ e. ne′ (g .transit) (sym (e .0))) ∙ left-other m r hm hr (λ e. ne (sym (e .0)));
+          no-less = λ m r hm hr ne. more m r hm hr ne (same? there o m r);
+        }
+      where
+        more : (m r : ℕ) → m < nodes S → r < queues → ((n ≡ m) × (q ≡ r) → ⊥) → Dec ((there ≡ m) × (o ≡ r)) → length (held S w m r) ≤ length (held S moved m r)
+        more m r hm hr ne (yes e) =
+            let a : length (held S moved there o) ≡ suc (length (held S w there o)) = moved-shifted .newest in
+            let b : length (held S w there o) ≤ length (held S moved there o) = omega arith in
+            rw (← e .0, ← e .1) b
+        more m r hm hr ne (no ne′) = native.Mathlib.Nat.le-of-eq (sym (ap length (moved-held m r ∙ gone-other m r hm hr ne′ ∙ left-other m r hm hr ne)))
 
     moved-length : length moved ≡ length w
     unfolding moved gone packetArrives joined
@@ -598,6 +634,26 @@ module _ (S : Shape) (w : List ℕ) (n q : ℕ) (tor : Torus S) (N : Network S w
         resting : drop (need S) moved ≡ drop (need S) w
         resting = rest-raised S movesAt gone (omega arith) ∙ rest-put S (headLeaves S w n q) there o joined there-place joined-few ∙ left-rest
 
+-- where a permitted move leads that does not deliver: a node whose queue has a free slot once the head has left its own
+pub record Ahead (S : Shape) (w : List ℕ) (n q o : ℕ) : Type 0 where
+  pub node : target S n o < nodes S
+  pub room : length (held S (headLeaves S w n q) (target S n o) o) < capacity S o
+
+pub ahead : (S : Shape) (w : List ℕ) (n q o : ℕ) → Torus S → Network S w → Permitted S w n q o → o ≢ deliver → Ahead S w n q o
+unfolding there joined hopped
+ahead S w n q o tor N P away = go (route-of q (head (held S w n q)) o (P .route))
+  where
+    go : ((o ≡ deliver) × (hopsLeft (head (held S w n q)) ≡ 0)) ⊎ Onward (head (held S w n q)) o → Ahead S w n q o
+    go (inl e) = absurd (away (e .0))
+    go (inr r) =
+        let d : ℕ = heading (r .dimension) (head (held S w n q)) in
+        let g : Going (head (held S w n q)) o d = going (head (held S w n q)) o r in
+        let new : ℕ = hop (dimensionOf (directionOf o)) (head (held S w n q)) in
+        let here : List ℕ = held S (headLeaves S w n q) (target S n o) o in
+        let a : length (here ++ (new ∷ [])) ≤ capacity S o = joined-few S w n q tor N (P .node) (P .queue) (P .holds) o d (P .output) g (P .room away) in
+        let b : length (here ++ (new ∷ [])) ≡ length here + 1 = length-append here (new ∷ []) in
+        record { node = there-lt S w n q tor N (P .node) (P .queue) (P .holds) o d (P .output) g (P .room away); room = omega arith }
+
 -- what a move hands out
 unfoldable pub handsOut : Shape → List ℕ → ℕ → ℕ → ℕ → List Delivery
 handsOut S w n q o = cond (eqb o deliver) (record { node = n; packet = head (held S w n q) } ∷ []) []
@@ -621,3 +677,22 @@ step S w n q o tor N P = go (route-of q (head (held S w n q)) o (P .route))
         let g : Going (head (held S w n q)) o d = going (head (held S w n q)) o r in
         rw (ne-eqb o deliver (g .transit))
         (moved-ran S w n q tor N (P .node) (P .queue) (P .holds) o d (P .output) g (P .room (g .transit)))
+
+-- and what it leaves alone
+pub step-elsewhere : (S : Shape) (w : List ℕ) (n q o : ℕ) → Torus S → Network S w → Permitted S w n q o → Elsewhere S w (afterMove S w n q o) n q o
+unfolding afterMove handed moved gone there hopped
+step-elsewhere S w n q o tor N P = go (route-of q (head (held S w n q)) o (P .route))
+  where
+    go : ((o ≡ deliver) × (hopsLeft (head (held S w n q)) ≡ 0)) ⊎ Onward (head (held S w n q)) o
+        → Elsewhere S w
+        (raised movesAt
+        (cond (eqb o deliver)
+        (raised deliveredAt (headLeaves S w n q))
+        (packetArrives S (headLeaves S w n q) (target S n o) o (hop (dimensionOf (directionOf o)) (head (held S w n q))))))
+        n q o
+    go (inl e) = rw (eq-eqb o deliver (e .0)) (handed-elsewhere S w n q tor N (P .node) (P .queue) (P .holds) (e .1) o)
+    go (inr r) =
+        let d : ℕ = heading (r .dimension) (head (held S w n q)) in
+        let g : Going (head (held S w n q)) o d = going (head (held S w n q)) o r in
+        rw (ne-eqb o deliver (g .transit))
+        (moved-elsewhere S w n q tor N (P .node) (P .queue) (P .holds) o d (P .output) g (P .room (g .transit)))

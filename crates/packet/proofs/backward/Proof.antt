@@ -1,9 +1,8 @@
 -- `packet::backward` meets its contract. Assumes nothing.
-use borrow.Author.Needs.{needs}
 use mathlib.Core.Path.{refl, ap, sym, _∙_}
-use mathlib.Core.Bool.{true, false}
 use lib.IntN.{natAbs}
-use Rattle.packet.proofs.Numbers.{back, sign, minus-backward, plus-backward}
+use borrow.Author.Needs.{needs}
+use Rattle.packet.proofs.Numbers.{back, minus-of, plus-of}
 use Rattle.packet.proofs.backward.Statement.{statement}
 use Rattle.packet.proofs.backward.Tie as tie
 
@@ -11,10 +10,13 @@ nat-abs-requires : tie.Need-nat-abs-requires
 nat-abs-requires c κs = search needs
 
 returns : tie.Need-returns
-returns c = (c .nat-abs .ensures ∙ ap natAbs (back (c .before .before .args .z) (c .before .before .args .z) refl (c .before .before .pre))) ∙ sym (minus-backward (c .before .before .args .z) (sign (c .before .before .args .z) (c .before .before .args .z) true refl (c .before .before .pre) (c .before .if1 .taken)))
+returns c =
+    c .nat-abs .ensures
+    ∙ ap natAbs (back refl (c .before .before .pre))
+    ∙ sym (minus-of refl (c .before .before .pre) (c .before .if1 .taken) .backward-is)
 
 returns-2 : tie.Need-returns-2
-returns-2 c = sym (plus-backward (c .before .args .z) (sign (c .before .args .z) (c .before .args .z) false refl (c .before .pre) (c .if1 .left)))
+returns-2 c = sym (plus-of refl (c .before .pre) (c .if1 .left) .backward-is)
 
 pub backward-spec : {M : Type 1} → statement M
 backward-spec = tie.close (tie.spec nat-abs-requires returns returns-2)

@@ -1,10 +1,8 @@
 -- `packet::heading` meets its contract. Assumes nothing.
-use borrow.Author.Needs.{needs}
 use mathlib.Core.Path.{sym}
-use mathlib.Core.Bool.{true, false}
-use Rattle.network.specs.Packet.{offset}
+use borrow.Author.Needs.{needs}
 use Rattle.network.specs.PacketLaws.{offset-range, heading-plus, heading-minus}
-use Rattle.packet.proofs.Numbers.{sign, minus-some, plus-backward}
+use Rattle.packet.proofs.Numbers.{minus-of, plus-of}
 use Rattle.packet.proofs.heading.Statement.{statement}
 use Rattle.packet.proofs.heading.Tie as tie
 
@@ -21,10 +19,14 @@ mul-result-2 : tie.Need-mul-result-2
 mul-result-2 c = search needs
 
 returns : tie.Need-returns
-returns c = sym (heading-minus (c .before .before .args .i) (c .before .before .args .p) (minus-some (offset (c .before .before .args .i) (c .before .before .args .p)) (sign (c .before .offset .result) (offset (c .before .before .args .i) (c .before .before .args .p)) true (c .before .offset .ensures) (offset-range (c .before .before .args .i) (c .before .before .args .p)) (c .if1 .taken))))
+returns c =
+    let a = c .before .before .args in
+    sym (heading-minus (a .i) (a .p) (minus-of (c .before .offset .ensures) (offset-range (a .i) (a .p)) (c .if1 .taken) .some))
 
 returns-2 : tie.Need-returns-2
-returns-2 c = sym (heading-plus (c .before .before .args .i) (c .before .before .args .p) (plus-backward (offset (c .before .before .args .i) (c .before .before .args .p)) (sign (c .before .offset .result) (offset (c .before .before .args .i) (c .before .before .args .p)) false (c .before .offset .ensures) (offset-range (c .before .before .args .i) (c .before .before .args .p)) (c .if1 .left))))
+returns-2 c =
+    let a = c .before .before .args in
+    sym (heading-plus (a .i) (a .p) (plus-of (c .before .offset .ensures) (offset-range (a .i) (a .p)) (c .if1 .left) .backward-is))
 
 pub heading-spec : {M : Type 1} → statement M
 heading-spec = tie.close (tie.spec offset-requires mul-result add-result mul-result-2 returns returns-2)

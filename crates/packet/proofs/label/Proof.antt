@@ -1,6 +1,6 @@
 -- `packet::label` meets its contract. Assumes nothing.
-use borrow.Author.Needs.{needs}
 use mathlib.Core.Path.{refl}
+use borrow.Author.Needs.{needs}
 use Rattle.network.specs.Packet.{label}
 use Rattle.packet.proofs.label.Statement.{statement}
 use Rattle.packet.proofs.label.Tie as tie

@@ -1,11 +1,11 @@
 -- `packet::shorter_way` meets its contract. Assumes nothing.
-use borrow.Author.Needs.{needs}
-use mathlib.Core.Path.{_≡_, sym, _∙_}
+use mathlib.Core.Path.{sym, _∙_}
 use Prim.Native.Nat.{ℕ, _+_, _-_, _%_, _<_}
 use native.Mathlib.Nat.{mod-lt}
 use native.Mathlib.Omega.{arith}
 use mir.Syntax.{w64}
 use mir.Facts.{toZ-pos}
+use borrow.Author.Needs.{needs}
 use Rattle.network.specs.PacketLaws.{shorterWay-plus, shorterWay-minus}
 use Rattle.packet.proofs.Numbers.{small-negation-fits, small-negation}
 use Rattle.packet.proofs.shorter_way.Statement.{statement}
@@ -25,25 +25,46 @@ rem-ahead : tie.Need-rem-ahead
 rem-ahead c = search needs
 
 mul-if1 : tie.Need-mul-if1
-mul-if1 c = let l = ahead-lt (c .args .size) (c .args .from) (c .args .to) (c .pre .0) in omega arith
+mul-if1 c = let a = c .args in omega (arith, ahead-lt (a .size) (a .from) (a .to) (c .pre .0))
 
 cast-result : tie.Need-cast-result
 cast-result c = search needs
 
 sub-result : tie.Need-sub-result
-sub-result c = let l = ahead-lt (c .before .args .size) (c .before .args .from) (c .before .args .to) (c .before .pre .0) in omega arith
+sub-result c = let a = c .before .args in omega (arith, ahead-lt (a .size) (a .from) (a .to) (c .before .pre .0))
 
 cast-result-2 : tie.Need-cast-result-2
 cast-result-2 c = search needs
 
 sub-result-2 : tie.Need-sub-result-2
-sub-result-2 c = small-negation-fits (c .before .args .size - (c .before .args .to + (c .before .args .size - c .before .args .from)) % c .before .args .size) (omega arith)
+sub-result-2 c =
+    let a = c .before .args in small-negation-fits (a .size - (a .to + (a .size - a .from)) % a .size) (omega arith)
 
 returns : tie.Need-returns
-returns c = let l = ahead-lt (c .before .args .size) (c .before .args .from) (c .before .args .to) (c .before .pre .0) in toZ-pos w64 {n = (c .before .args .to + (c .before .args .size - c .before .args .from)) % c .before .args .size} (omega arith) ∙ sym (shorterWay-plus (c .before .args .size) (c .before .args .from) (c .before .args .to) (c .if1 .taken))
+returns c =
+    let a = c .before .args in
+    let l = ahead-lt (a .size) (a .from) (a .to) (c .before .pre .0) in
+    toZ-pos w64 {n = (a .to + (a .size - a .from)) % a .size} (omega arith)
+    ∙ sym (shorterWay-plus (a .size) (a .from) (a .to) (c .if1 .taken))
 
 returns-2 : tie.Need-returns-2
-returns-2 c = let l = ahead-lt (c .before .args .size) (c .before .args .from) (c .before .args .to) (c .before .pre .0) in small-negation (c .before .args .size - (c .before .args .to + (c .before .args .size - c .before .args .from)) % c .before .args .size) (c .before .args .size - (c .before .args .to + (c .before .args .size - c .before .args .from)) % c .before .args .size - 1) (omega arith) (omega arith) ∙ sym (shorterWay-minus (c .before .args .size) (c .before .args .from) (c .before .args .to) (c .if1 .left))
+returns-2 c =
+    let a = c .before .args in
+    let l = ahead-lt (a .size) (a .from) (a .to) (c .before .pre .0) in
+    let m = a .size - (a .to + (a .size - a .from)) % a .size in
+    small-negation m (m - 1) (omega arith) (omega arith) ∙ sym (shorterWay-minus (a .size) (a .from) (a .to) (c .if1 .left))
 
 pub shorter-way-spec : {M : Type 1} → statement M
-shorter-way-spec = tie.close (tie.spec sub-ahead add-ahead rem-ahead mul-if1 cast-result sub-result cast-result-2 sub-result-2 returns returns-2)
+shorter-way-spec =
+    tie.close
+    (tie.spec
+    sub-ahead
+    add-ahead
+    rem-ahead
+    mul-if1
+    cast-result
+    sub-result
+    cast-result-2
+    sub-result-2
+    returns
+    returns-2)

@@ -1,7 +1,7 @@
 -- `packet::work` meets its contract. Assumes nothing.
-use borrow.Author.Needs.{needs}
 use mathlib.Core.Path.{_≡_}
 use native.Mathlib.Omega.{arith}
+use borrow.Author.Needs.{needs}
 use Rattle.network.specs.Packet.{hopsLeft, work}
 use Rattle.network.specs.PacketLaws.{hopsLeft-most}
 use Rattle.packet.proofs.work.Statement.{statement}
@@ -11,7 +11,10 @@ hops-left-requires : tie.Need-hops-left-requires
 hops-left-requires c κs = search needs
 
 add-result : tie.Need-add-result
-add-result c = let e : c .hops-left .result ≡ hopsLeft (c .before .args .p) = c .hops-left .ensures in let l = hopsLeft-most (c .before .args .p) in omega arith
+add-result c =
+    let p = c .before .args .p in
+    let e : c .hops-left .result ≡ hopsLeft p = c .hops-left .ensures in
+    omega (arith, hopsLeft-most p)
 
 returns : tie.Need-returns
 unfolding work

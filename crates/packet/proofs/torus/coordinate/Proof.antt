@@ -12,10 +12,13 @@ div-result : tie.Need-div-result
 div-result c = search needs
 
 returns : tie.Need-returns
-returns c = coordinate-x (c .before .before .args .s) (c .before .before .args .i) (c .before .before .args .n) (c .before .if1 .taken)
+returns c = let a = c .before .before .args in coordinate-x (a .s) (a .i) (a .n) (c .before .if1 .taken)
 
 returns-2 : tie.Need-returns-2
-returns-2 c = coordinate-y (c .before .before .args .s) (c .before .before .args .i) (c .before .before .args .n) (c .before .before .pre .0) (c .before .before .pre .2) (other-dimension (c .before .before .args .i) (c .before .before .pre .1) (c .before .if1 .left))
+returns-2 c =
+    let a = c .before .before .args in
+    let p = c .before .before .pre in
+    coordinate-y (a .s) (a .i) (a .n) (p .0) (p .2) (other-dimension (a .i) (p .1) (c .before .if1 .left))
 
 pub coordinate-spec : {M : Type 1} → statement M
 coordinate-spec = tie.close (tie.spec rem-result div-result returns returns-2)

@@ -1,13 +1,11 @@
 -- `packet::torus::nodes` meets its contract. Assumes nothing.
 use native.Mathlib.Omega.{arith}
-use Rattle.network.specs.Sizes.{nodes}
-use Rattle.packet.specs.Geometry.{shapeOfSizes}
 use Rattle.packet.specs.GeometryLaws.{nodes-is, rings-nodes}
 use Rattle.packet.proofs.torus.nodes.Statement.{statement}
 use Rattle.packet.proofs.torus.nodes.Tie as tie
 
 mul-result : tie.Need-mul-result
-mul-result c = let e = nodes-is (c .before .args .s) in let l = rings-nodes (c .before .args .s) (c .before .pre) in omega arith
+mul-result c = let s = c .before .args .s in omega (arith, nodes-is s, rings-nodes s (c .before .pre))
 
 returns : tie.Need-returns
 returns c = nodes-is (c .before .args .s)

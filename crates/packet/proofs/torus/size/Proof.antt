@@ -5,10 +5,10 @@ use Rattle.packet.proofs.torus.size.Statement.{statement}
 use Rattle.packet.proofs.torus.size.Tie as tie
 
 returns : tie.Need-returns
-returns c = size-x (c .before .args .s) (c .before .args .i) (c .if1 .taken)
+returns c = let a = c .before .args in size-x (a .s) (a .i) (c .if1 .taken)
 
 returns-2 : tie.Need-returns-2
-returns-2 c = size-y (c .before .args .s) (c .before .args .i) (other-dimension (c .before .args .i) (c .before .pre) (c .if1 .left))
+returns-2 c = let a = c .before .args in size-y (a .s) (a .i) (other-dimension (a .i) (c .before .pre) (c .if1 .left))
 
 pub size-spec : {M : Type 1} → statement M
 size-spec = tie.close (tie.spec returns returns-2)

@@ -1,0 +1,314 @@
+//! The network as objects: packets in queues, queues in nodes, and the rules
+//! of routing and flow. Nothing here knows how the words look.
+
+use super::geometry::{Direction, Torus, DIMENSIONS, DIRECTIONS};
+use super::Refusal;
+use std::collections::VecDeque;
+
+/// A packet on its way. The offsets are the hops left, positive for plus.
+#[derive(Clone, Debug, PartialEq, Eq)]
+pub struct Packet {
+    pub tag: u32,
+    pub destination: usize,
+    pub offsets: [i32; DIMENSIONS],
+}
+
+impl Packet {
+    /// The moves that this packet still takes: its hops, and the delivery.
+    pub fn work(&self) -> u64 {
+        self.offsets
+            .iter()
+            .map(|o| o.unsigned_abs() as u64)
+            .sum::<u64>()
+            + 1
+    }
+
+    /// Where the packet wants to go in a dimension; the sign gives the direction.
+    fn wants(&self, dimension: usize) -> Option<Direction> {
+        match self.offsets[dimension] {
+            0 => None,
+            offset => Some(Direction::along(dimension, offset > 0)),
+        }
+    }
+
+    /// The packet one hop further in this direction.
+    fn after_hop(mut self, direction: Direction) -> Packet {
+        let hop = direction.hop();
+        for (offset, covered) in self.offsets.iter_mut().zip(hop) {
+            *offset -= covered;
+        }
+        self
+    }
+}
+
+/// What a queue is for. The numbers 0 to 8 are those of document 01.
+#[derive(Clone, Copy, Debug, PartialEq, Eq)]
+pub enum Kind {
+    Injection,
+    Adaptive(Direction),
+    Escape(Direction),
+}
+
+pub const QUEUES: usize = 1 + 2 * DIRECTIONS.len();
+
+impl Kind {
+    pub fn of(queue: usize) -> Kind {
+        let ways = DIRECTIONS.len();
+        match queue {
+            0 => Kind::Injection,
+            q if q <= ways => Kind::Adaptive(DIRECTIONS[q - 1]),
+            q => Kind::Escape(DIRECTIONS[q - 1 - ways]),
+        }
+    }
+
+    pub fn number(self) -> usize {
+        match self {
+            Kind::Injection => 0,
+            Kind::Adaptive(direction) => 1 + direction.index(),
+            Kind::Escape(direction) => 1 + DIRECTIONS.len() + direction.index(),
+        }
+    }
+
+    pub fn direction(self) -> Option<Direction> {
+        match self {
+            Kind::Injection => None,
+            Kind::Adaptive(direction) | Kind::Escape(direction) => Some(direction),
+        }
+    }
+}
+
+/// Where a head may go: out of the network, or to a neighbour's queue.
+#[derive(Clone, Copy, Debug, PartialEq, Eq)]
+pub enum Output {
+    Delivery,
+    Adaptive(Direction),
+    Escape(Direction),
+}
+
+impl Output {
+    pub fn of(output: usize) -> Output {
+        match (output, Kind::of(output)) {
+            (0, _) => Output::Delivery,
+            (_, Kind::Adaptive(direction)) => Output::Adaptive(direction),
+            (_, Kind::Escape(direction)) => Output::Escape(direction),
+            (_, Kind::Injection) => unreachable!(),
+        }
+    }
+
+    pub fn number(self) -> usize {
+        match self {
+            Output::Delivery => 0,
+            Output::Adaptive(direction) => Kind::Adaptive(direction).number(),
+            Output::Escape(direction) => Kind::Escape(direction).number(),
+        }
+    }
+}
+
+/// The routes of a head that stands in a queue of this kind, in the order of
+/// the paper's selection function.
+pub fn routes(kind: Kind, head: &Packet) -> impl Iterator<Item = Output> {
+    // The injection queue has no incoming dimension; x counts as such.
+    let incoming = kind.direction().map_or(0, Direction::dimension);
+    let other = 1 - incoming;
+    let escape = head.wants(0).or(head.wants(1));
+    let list = match escape {
+        None => [Some(Output::Delivery), None, None],
+        Some(escape) => [
+            head.wants(incoming).map(Output::Adaptive),
+            head.wants(other).map(Output::Adaptive),
+            Some(Output::Escape(escape)),
+        ],
+    };
+    list.into_iter().flatten()
+}
+
+/// Slots of each kind of queue, the same at every node.
+#[derive(Clone, Copy, Debug, PartialEq, Eq)]
+pub struct Capacities {
+    pub escape: usize,
+    pub adaptive: usize,
+    pub injection: usize,
+}
+
+impl Capacities {
+    pub fn of(&self, kind: Kind) -> usize {
+        match kind {
+            Kind::Injection => self.injection,
+            Kind::Adaptive(_) => self.adaptive,
+            Kind::Escape(_) => self.escape,
+        }
+    }
+}
+
+/// One node: its nine queues, oldest packet at the front.
+#[derive(Clone, Debug, Default, PartialEq, Eq)]
+pub struct Node {
+    pub queues: [VecDeque<Packet>; QUEUES],
+}
+
+/// A move by its three numbers.
+#[derive(Clone, Copy, Debug, PartialEq, Eq)]
+pub struct Step {
+    pub node: usize,
+    pub queue: usize,
+    pub output: usize,
+}
+
+/// The whole network.
+#[derive(Clone, Debug, PartialEq, Eq)]
+pub struct Network {
+    pub torus: Torus,
+    pub capacities: Capacities,
+    pub accepted: u64,
+    pub delivered: u64,
+    pub moves: u64,
+    pub nodes: Vec<Node>,
+    /// The neighbours of each node in the order of `DIRECTIONS`.
+    neighbours: Vec<[usize; DIRECTIONS.len()]>,
+}
+
+impl Network {
+    pub fn empty(torus: Torus, capacities: Capacities) -> Network {
+        Network {
+            torus,
+            capacities,
+            accepted: 0,
+            delivered: 0,
+            moves: 0,
+            nodes: vec![Node::default(); torus.nodes()],
+            neighbours: (0..torus.nodes())
+                .map(|node| DIRECTIONS.map(|direction| torus.neighbour(node, direction)))
+                .collect(),
+        }
+    }
+
+    /// Every packet with its node and the kind of its queue.
+    pub fn packets(&self) -> impl Iterator<Item = (usize, Kind, &Packet)> {
+        self.nodes.iter().enumerate().flat_map(|(node, n)| {
+            n.queues.iter().enumerate().flat_map(move |(queue, q)| {
+                let kind = Kind::of(queue);
+                q.iter().map(move |packet| (node, kind, packet))
+            })
+        })
+    }
+
+    pub fn free_slots(&self, node: usize, kind: Kind) -> usize {
+        self.capacities.of(kind) - self.nodes[node].queues[kind.number()].len()
+    }
+
+    /// The queue that an output leads to: at the neighbour in its direction.
+    pub fn target(&self, node: usize, output: Output) -> Option<(usize, Kind)> {
+        let neighbour = |direction: Direction| self.neighbours[node][direction.index()];
+        match output {
+            Output::Delivery => None,
+            Output::Adaptive(d) => Some((neighbour(d), Kind::Adaptive(d))),
+            Output::Escape(d) => Some((neighbour(d), Kind::Escape(d))),
+        }
+    }
+
+    /// The flow rule: how many free slots the target must have.
+    fn slots_needed(from: Kind, to: Kind) -> usize {
+        match to {
+            Kind::Escape(_) if from != to => 2,
+            _ => 1,
+        }
+    }
+
+    /// Whether the target of a route has the slots that the rule wants: 11, 12.
+    fn judge_slots(&self, node: usize, from: Kind, output: Output) -> Result<(), Refusal> {
+        let Some((neighbour, to)) = self.target(node, output) else {
+            return Ok(());
+        };
+        let free = self.free_slots(neighbour, to);
+        if free == 0 {
+            return Err(Refusal::NoSlot);
+        }
+        if free < Network::slots_needed(from, to) {
+            return Err(Refusal::NoBubble);
+        }
+        Ok(())
+    }
+
+    /// Whether a move with lawful numbers is permitted: 9, 10, 11, 12.
+    pub fn judge(&self, step: Step) -> Result<(), Refusal> {
+        let from = Kind::of(step.queue);
+        let output = Output::of(step.output);
+        let head = match self.nodes[step.node].queues[step.queue].front() {
+            None => return Err(Refusal::NobodyThere),
+            Some(head) => head,
+        };
+        if routes(from, head).all(|route| route != output) {
+            return Err(Refusal::NotItsWay);
+        }
+        self.judge_slots(step.node, from, output)
+    }
+
+    /// Makes a permitted move. A delivery hands out the packet.
+    pub fn make(&mut self, step: Step) -> Option<Packet> {
+        let head = self.nodes[step.node].queues[step.queue].pop_front();
+        let head = head.expect("a permitted move has a head");
+        self.moves += 1;
+        match self.target(step.node, Output::of(step.output)) {
+            None => {
+                self.delivered += 1;
+                Some(head)
+            }
+            Some((neighbour, to)) => {
+                let direction = to.direction().expect("a target has a direction");
+                let arrived = head.after_hop(direction);
+                self.nodes[neighbour].queues[to.number()].push_back(arrived);
+                None
+            }
+        }
+    }
+
+    /// The first permitted move in the order node, queue, route.
+    pub fn first(&self) -> Option<Step> {
+        for (node, queues) in self.nodes.iter().map(|n| &n.queues).enumerate() {
+            for (queue, packets) in queues.iter().enumerate() {
+                let Some(head) = packets.front() else {
+                    continue;
+                };
+                let from = Kind::of(queue);
+                let open = |route: &Output| self.judge_slots(node, from, *route).is_ok();
+                if let Some(route) = routes(from, head).find(open) {
+                    let output = route.number();
+                    return Some(Step {
+                        node,
+                        queue,
+                        output,
+                    });
+                }
+            }
+        }
+        None
+    }
+
+    /// Every route of every head, permitted or not.
+    pub fn routes_of_heads(&self) -> Vec<Step> {
+        let mut steps = Vec::new();
+        for (node, queues) in self.nodes.iter().map(|n| &n.queues).enumerate() {
+            for (queue, packets) in queues.iter().enumerate() {
+                if let Some(head) = packets.front() {
+                    steps.extend(routes(Kind::of(queue), head).map(|route| Step {
+                        node,
+                        queue,
+                        output: route.number(),
+                    }));
+                }
+            }
+        }
+        steps
+    }
+
+    /// Puts a new packet at the end of the node's injection queue.
+    pub fn inject(&mut self, node: usize, destination: usize, tag: u32) {
+        let offsets = self.torus.offsets(node, destination);
+        self.nodes[node].queues[0].push_back(Packet {
+            tag,
+            destination,
+            offsets,
+        });
+        self.accepted += 1;
+    }
+}

@@ -1,0 +1,167 @@
+//! Drain, twice: with a search from node 0 before every move, and with a set
+//! of the heads that may have a permitted move.
+
+use super::first::{Map, Step};
+use super::{carry_out, open, MAX_NODES, QUEUES};
+
+const EMPTIED: u64 = 0;
+const SPENT: u64 = 1;
+const FULL: u64 = 2;
+
+/// The refusal, then moves, delivered, stop. Searches from node 0 every time.
+pub fn drain_simple(words: &mut [u64], budget: u32, ledger: &mut [u64]) -> (u64, [u64; 3]) {
+    match open(words) {
+        Err(refusal) => (refusal, [0; 3]),
+        Ok((layout, held)) => {
+            let map = Map::new(layout);
+            (0, run(words, &map, held, budget, ledger, FromNodeZero))
+        }
+    }
+}
+
+/// The refusal, then moves, delivered, stop. The cost of a move does not grow
+/// with the network.
+pub fn drain(words: &mut [u64], budget: u32, ledger: &mut [u64]) -> (u64, [u64; 3]) {
+    match open(words) {
+        Err(refusal) => (refusal, [0; 3]),
+        Ok((layout, held)) => {
+            let candidates = Candidates::all(layout.nodes());
+            let map = Map::new(layout);
+            (0, run(words, &map, held, budget, ledger, candidates))
+        }
+    }
+}
+
+/// A way to find First's move again and again.
+trait Search {
+    fn next(&mut self, words: &[u64], map: &Map) -> Option<Step>;
+
+    /// Told after a hop; `to` is the node of the target.
+    fn hopped(&mut self, map: &Map, step: Step, to: usize);
+
+    /// Told after a delivery.
+    fn delivered(&mut self, map: &Map, step: Step);
+}
+
+/// The loop that both drains share.
+fn run(
+    words: &mut [u64],
+    map: &Map,
+    mut held: u64,
+    budget: u32,
+    ledger: &mut [u64],
+    mut search: impl Search,
+) -> [u64; 3] {
+    let mut moves = 0;
+    let mut delivered = 0;
+    let stop = loop {
+        if held == 0 {
+            break EMPTIED;
+        }
+        if moves == budget {
+            break SPENT;
+        }
+        let step = search
+            .next(words, map)
+            .expect("a move is permitted while anything is held");
+        let (node, queue, output) = step;
+        let source = map.layout.at(node, queue);
+        if output == 0 {
+            let Some(place) = ledger.get_mut(delivered) else {
+                break FULL;
+            };
+            *place = carry_out(words, source, 0, 0);
+            delivered += 1;
+            held -= 1;
+            search.delivered(map, step);
+        } else {
+            let to = map.beyond(node, output);
+            carry_out(words, source, output, map.layout.at(to, output));
+            search.hopped(map, step, to);
+        }
+        moves += 1;
+    };
+    [moves as u64, delivered as u64, stop]
+}
+
+/// The simple way: look at every node.
+struct FromNodeZero;
+
+impl Search for FromNodeZero {
+    fn next(&mut self, words: &[u64], map: &Map) -> Option<Step> {
+        map.search(words)
+    }
+
+    fn hopped(&mut self, _: &Map, _: Step, _: usize) {}
+
+    fn delivered(&mut self, _: &Map, _: Step) {}
+}
+
+/// The heads that may have a permitted move. A head outside the set has none:
+/// it was looked at without success, and no slot it waits for became free.
+struct Candidates {
+    /// One bit for each node that has a candidate.
+    nodes: [u64; MAX_NODES / 64],
+    /// For each node one bit for each queue.
+    queues: [u16; MAX_NODES],
+}
+
+const ALL_QUEUES: u16 = (1 << QUEUES) - 1;
+
+impl Candidates {
+    fn all(nodes: usize) -> Candidates {
+        let mut all = Candidates {
+            nodes: [0; MAX_NODES / 64],
+            queues: [0; MAX_NODES],
+        };
+        for node in 0..nodes {
+            all.add(node, ALL_QUEUES);
+        }
+        all
+    }
+
+    fn add(&mut self, node: usize, queues: u16) {
+        self.nodes[node / 64] |= 1 << (node % 64);
+        self.queues[node] |= queues;
+    }
+
+    fn remove(&mut self, node: usize, queue: usize) {
+        self.queues[node] &= !(1 << queue);
+        if self.queues[node] == 0 {
+            self.nodes[node / 64] &= !(1 << (node % 64));
+        }
+    }
+
+    /// The source has a new head, and one more free slot: that slot is a
+    /// target for the heads of the node behind it, seen in its direction.
+    fn left(&mut self, map: &Map, node: usize, queue: usize) {
+        self.add(node, 1 << queue);
+        if queue != 0 {
+            let backwards = ((queue - 1) % 4) ^ 1;
+            self.add(map.neighbour(node, backwards), ALL_QUEUES);
+        }
+    }
+}
+
+impl Search for Candidates {
+    fn next(&mut self, words: &[u64], map: &Map) -> Option<Step> {
+        loop {
+            let group = self.nodes.iter().position(|bits| *bits != 0)?;
+            let node = 64 * group + self.nodes[group].trailing_zeros() as usize;
+            let queue = self.queues[node].trailing_zeros() as usize;
+            if let Some(output) = map.permitted(words, node, queue) {
+                return Some((node, queue, output));
+            }
+            self.remove(node, queue);
+        }
+    }
+
+    fn hopped(&mut self, map: &Map, (node, queue, output): Step, to: usize) {
+        self.left(map, node, queue);
+        self.add(to, 1 << output);
+    }
+
+    fn delivered(&mut self, map: &Map, (node, queue, _): Step) {
+        self.left(map, node, queue);
+    }
+}

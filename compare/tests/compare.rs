@@ -1,0 +1,335 @@
+//! Compares every implementation with the model, call by call and word by
+//! word, and checks the equations of demand 3 on every run of moves. The seeds
+//! are fixed; the counts are printed; every refusal from 1 to 12 must be seen.
+
+#[path = "compare/drains.rs"]
+mod drains;
+#[path = "compare/kept.rs"]
+mod kept;
+
+use compare::bench::Call;
+use compare::damage::{one_word, FAULTS};
+use compare::generate::{any_call, any_drain, any_move, any_sizes, hostile};
+use compare::generate::{network, packet_word, Fill, Shape, FILLS};
+use compare::lab::Lab;
+use compare::random::Random;
+use std::time::Instant;
+
+/// A name and what to compare under it.
+type Part = (&'static str, fn(&mut Lab));
+
+fn main() {
+    let start = Instant::now();
+    let mut lab = Lab::new();
+    println!("compared: {}", lab.names().join("; "));
+    let parts: [Part; 11] = [
+        ("kept cases and listing", kept::all),
+        ("stores of 0 to 7 words", tiny_stores),
+        ("stores too short and too long", short_and_long),
+        ("every number on small networks", every_number),
+        ("every offset byte", every_offset),
+        ("networks never reached", never_reached),
+        ("one word damaged", damaged),
+        ("one clause broken", broken_clauses),
+        ("lists of calls", lists_of_calls),
+        ("drains move by move", drains::move_by_move),
+        ("full drains", drains::full),
+    ];
+    for (name, part) in parts {
+        let (from, before) = (Instant::now(), lab.counts.clone());
+        part(&mut lab);
+        println!(
+            "{name}: {} calls, {} runs, {:.1} s",
+            lab.counts.calls - before.calls,
+            lab.counts.runs - before.runs,
+            from.elapsed().as_secs_f64()
+        );
+    }
+    let counts = &lab.counts;
+    println!(
+        "in all: {} calls, {} runs with {} moves and {} packets handed out, {:.1} s",
+        counts.calls,
+        counts.runs,
+        counts.moves,
+        counts.handed_out,
+        start.elapsed().as_secs_f64()
+    );
+    println!("not refused: {}", counts.refusals[0]);
+    for (number, seen) in counts.refusals.iter().enumerate().skip(1) {
+        println!("refusal {number}: {seen}");
+        assert!(*seen > 0, "refusal {number} was never seen");
+    }
+}
+
+/// One call of each kind with small numbers.
+fn each_call(nodes: u64) -> [Call; 8] {
+    let node = nodes.saturating_sub(1);
+    [
+        Call::Make {
+            sizes: [1, 1, 2, 1, 1],
+        },
+        Call::Check,
+        Call::Offer {
+            node: 0,
+            destination: node,
+            tag: 9,
+        },
+        Call::Move {
+            node: 0,
+            queue: 0,
+            output: 0,
+        },
+        Call::Credit { node, output: 5 },
+        Call::Look { node, queue: 8 },
+        Call::First,
+        Call::Drain {
+            budget: 3,
+            ledger: 2,
+        },
+    ]
+}
+
+fn tiny_stores(lab: &mut Lab) {
+    let mut random = Random::new(1);
+    for len in 0..8 {
+        for fill in [0, 1, 2, u64::MAX] {
+            lab.place = format!("{len} words of {fill}");
+            for call in each_call(1) {
+                assert_eq!(lab.try_out(&vec![fill; len], call), 1);
+            }
+            // Wrong sizes come before the short store in Make only.
+            let sizes = [0, 1, 2, 1, 1];
+            assert_eq!(lab.try_out(&vec![fill; len], Call::Make { sizes }), 2);
+            for _ in 0..20 {
+                let words = vec![fill; len];
+                let call = any_call(&mut random, &words);
+                assert_eq!(lab.try_out(&words, call), 1);
+            }
+        }
+    }
+}
+
+fn short_and_long(lab: &mut Lab) {
+    let mut random = Random::new(2);
+    for round in 0..400 {
+        lab.place = format!("short and long, round {round}");
+        let shape = Shape::random(&mut random, 6);
+        let fill = random.pick(&FILLS);
+        let mut words = network(&mut random, &shape, fill);
+        let mut calls = each_call(shape.nodes()).to_vec();
+        calls[0] = Call::Make {
+            sizes: shape.sizes(),
+        };
+        for call in &calls {
+            assert_eq!(lab.try_out(&words[..shape.need() - 1], *call), 1);
+            let len = random.between(8, shape.need() as u64 - 1) as usize;
+            assert_eq!(lab.try_out(&words[..len], *call), 1);
+        }
+        // Wrong sizes come before the need, and the need before the check.
+        words[8] = u64::MAX;
+        assert_eq!(lab.try_out(&words[..shape.need() - 1], Call::Check), 1);
+        words[8] = network(&mut random, &shape, Fill::Empty)[8];
+        let which = random.below(5) as usize;
+        let kept = std::mem::replace(&mut words[which], hostile(&mut random, 1 << 20) | 1 << 30);
+        assert_eq!(lab.try_out(&words[..9], Call::Check), 2);
+        words[which] = kept;
+        for _ in 0..random.below(40) {
+            words.push(random.number());
+        }
+        for call in &calls[1..] {
+            lab.call(&mut words, *call);
+        }
+        lab.call(&mut words, calls[0]);
+    }
+}
+
+fn every_number(lab: &mut Lab) {
+    let mut random = Random::new(3);
+    for round in 0..60 {
+        lab.place = format!("every number, round {round}");
+        let shape = Shape {
+            e: random.between(2, 3),
+            a: random.between(1, 2),
+            j: random.between(1, 2),
+            ..Shape::random(&mut random, 4)
+        };
+        let fill = random.pick(&[Fill::Mixed, Fill::Half, Fill::Full, Fill::Mixed]);
+        let mut words = network(&mut random, &shape, fill);
+        for node in 0..=shape.nodes() {
+            for queue in 0..=9 {
+                lab.call(&mut words, Call::Look { node, queue });
+                lab.call(
+                    &mut words,
+                    Call::Credit {
+                        node,
+                        output: queue,
+                    },
+                );
+                for output in 0..=9 {
+                    let call = Call::Move {
+                        node,
+                        queue,
+                        output,
+                    };
+                    lab.try_out(&words, call);
+                }
+            }
+            for destination in 0..=shape.nodes() {
+                let tag = random.number() as u32;
+                let call = Call::Offer {
+                    node,
+                    destination,
+                    tag,
+                };
+                lab.try_out(&words, call);
+            }
+        }
+    }
+}
+
+/// One packet with every pair of offset bytes, at its right destination.
+fn every_offset(lab: &mut Lab) {
+    let mut random = Random::new(4);
+    for (x, y) in [(1, 1), (2, 3), (4, 5), (5, 4), (3, 2), (1, 6)] {
+        let shape = Shape::new(x, y, 2, 1, 1);
+        lab.place = format!("every offset, {x} by {y}");
+        for queue in 0..9 {
+            let mut words = network(&mut random, &shape, Fill::Empty);
+            words[5] = 20;
+            words[6] = 19;
+            words[7] = 0;
+            let node = random.below(shape.nodes());
+            let at = shape.count_word(node, queue);
+            words[at] = 1;
+            for bytes in 0..=0xffff_u64 {
+                // Every pair where one byte is small, and some of the others.
+                let (dx, dy) = ((bytes >> 8) as i8 as i64, bytes as i8 as i64);
+                if dx.abs().min(dy.abs()) > 3 && bytes % 37 != 0 {
+                    continue;
+                }
+                let end = compare::generate::end_node(&shape, node, dx, dy);
+                words[at + 1] = packet_word(77, end, dx, dy);
+                lab.call(&mut words, Call::Check);
+            }
+        }
+    }
+}
+
+fn random_run(lab: &mut Lab, random: &mut Random, words: &mut Vec<u64>, calls: u64) {
+    let nodes = words[0] * words[1];
+    let mut left = random.below(calls + 1);
+    lab.run(words, |now| {
+        if left == 0 {
+            return None;
+        }
+        left -= 1;
+        Some(if random.chance(1, 12) {
+            any_drain(random)
+        } else {
+            any_move(random, nodes, now)
+        })
+    });
+}
+
+fn never_reached(lab: &mut Lab) {
+    let mut random = Random::new(5);
+    for round in 0..3000 {
+        lab.place = format!("never reached, round {round}");
+        let most = if round % 100 == 99 {
+            16
+        } else {
+            random.pick(&[2, 3, 4, 5, 8])
+        };
+        let shape = Shape::random(&mut random, most);
+        let fill = random.pick(&FILLS);
+        let mut words = network(&mut random, &shape, fill);
+        for _ in 0..random.below(6) {
+            words.push(random.number());
+        }
+        assert_eq!(lab.try_out(&words, Call::Check), 0, "{shape:?} {fill:?}");
+        lab.passes_and_can_move(&words);
+        for _ in 0..6 {
+            let call = any_call(&mut random, &words);
+            lab.call(&mut words, call);
+        }
+        random_run(lab, &mut random, &mut words, 40);
+    }
+}
+
+fn damaged(lab: &mut Lab) {
+    let mut random = Random::new(6);
+    for round in 0..12_000 {
+        lab.place = format!("one word damaged, round {round}");
+        let most = if round % 400 == 399 {
+            16
+        } else {
+            random.pick(&[1, 2, 3, 4])
+        };
+        let shape = Shape::random(&mut random, most);
+        let fill = random.pick(&FILLS);
+        let mut words = network(&mut random, &shape, fill);
+        one_word(&mut random, &shape, &mut words);
+        lab.call(&mut words, Call::Check);
+        for _ in 0..3 {
+            let call = any_call(&mut random, &words);
+            lab.call(&mut words, call);
+        }
+    }
+}
+
+fn broken_clauses(lab: &mut Lab) {
+    let mut random = Random::new(7);
+    for fault in &FAULTS {
+        let mut broken = 0;
+        while broken < 300 {
+            lab.place = format!("{}, after {broken}", fault.name);
+            let most = random.pick(&[2, 3, 4, 5]);
+            let shape = Shape::random(&mut random, most);
+            let fill = random.pick(&FILLS[1..]);
+            let mut words = network(&mut random, &shape, fill);
+            if !(fault.apply)(&mut random, &shape, &mut words) {
+                continue;
+            }
+            broken += 1;
+            let wanted = if fault.name == "wrong sizes" { 2 } else { 3 };
+            assert_eq!(lab.try_out(&words, Call::Check), wanted, "{}", fault.name);
+            for call in &each_call(shape.nodes())[2..] {
+                assert_eq!(lab.try_out(&words, *call), wanted);
+            }
+            // Make turns everything into a network.
+            let sizes = shape.sizes();
+            assert_eq!(lab.call(&mut words, Call::Make { sizes }).refusal, 0);
+        }
+    }
+}
+
+fn lists_of_calls(lab: &mut Lab) {
+    let mut random = Random::new(8);
+    for round in 0..4000 {
+        lab.place = format!("list of calls, round {round}");
+        let most = random.pick(&[1, 2, 3, 4, 6]);
+        let len = random.pick(&[0, 5, 30, 100, 272, 1000, 2000, 3000]);
+        let mut words: Vec<u64> = (0..len).map(|_| random.number()).collect();
+        for _ in 0..random.below(80) {
+            let call = if random.chance(1, 20) || words.first().is_some_and(|x| *x > 16) {
+                Call::Make {
+                    sizes: any_sizes(&mut random, most),
+                }
+            } else {
+                any_call(&mut random, &words)
+            };
+            lab.call(&mut words, call);
+            // Now and then the counters come close to their limits.
+            if random.chance(1, 60) && lab.try_out(&words, Call::Check) == 0 {
+                let limit = u64::from(u32::MAX) - random.below(4);
+                let room = limit.saturating_sub(words[5]);
+                words[5] += room;
+                words[6] += room;
+                assert_eq!(lab.try_out(&words, Call::Check), 0);
+            }
+        }
+        if lab.try_out(&words, Call::Check) == 0 {
+            random_run(lab, &mut random, &mut words, 30);
+        }
+    }
+}

@@ -1,0 +1,229 @@
+//! The kept cases K1 to K12, the listing and the misreadings of document 01,
+//! with the numbers that it gives.
+
+use compare::bench::Call;
+use compare::generate::{end_node, packet_word, Shape};
+use compare::lab::Lab;
+
+const K1: Shape = Shape::new(4, 3, 2, 1, 1);
+const K2: Shape = Shape::new(16, 16, 8, 8, 8);
+
+pub fn all(lab: &mut Lab) {
+    let cases: [crate::Part; 12] = [
+        ("K1 and K2", needs),
+        ("K3 and K4", offered_words),
+        ("K5 to K7", bubble_rule),
+        ("K8", wrong_sizes),
+        ("K9", not_its_way),
+        ("K10", budget_zero),
+        ("K11", full_ring),
+        ("K12", to_oneself),
+        ("the listing", listing),
+        ("y escape with dx left", order_of_escapes),
+        ("a half-way offset keeps its sign", half_way),
+        ("held in injection queues alone", injection_alone),
+    ];
+    for (name, case) in cases {
+        lab.place = name.into();
+        case(lab);
+    }
+}
+
+fn make(lab: &mut Lab, shape: Shape) -> Vec<u64> {
+    let mut words = vec![u64::MAX; shape.need()];
+    let sizes = shape.sizes();
+    assert_eq!(lab.call(&mut words, Call::Make { sizes }).refusal, 0);
+    assert_eq!(
+        words[..8],
+        [shape.x, shape.y, shape.e, shape.a, shape.j, 0, 0, 0]
+    );
+    assert!(words[8..].iter().all(|word| *word == 0));
+    words
+}
+
+/// Puts a packet at the end of a queue and counts it as accepted.
+fn put(shape: &Shape, words: &mut [u64], node: u64, queue: usize, dx: i64, dy: i64) {
+    let at = shape.count_word(node, queue);
+    words[at] += 1;
+    let slot = at + words[at] as usize;
+    words[slot] = packet_word(5, end_node(shape, node, dx, dy), dx, dy);
+    words[5] += 1;
+}
+
+fn move_call(node: u64, queue: usize, output: u64) -> Call {
+    Call::Move {
+        node,
+        queue: queue as u64,
+        output,
+    }
+}
+
+fn offer(node: u64, destination: u64, tag: u32) -> Call {
+    Call::Offer {
+        node,
+        destination,
+        tag,
+    }
+}
+
+fn drain(budget: u32, ledger: usize) -> Call {
+    Call::Drain { budget, ledger }
+}
+
+fn needs(lab: &mut Lab) {
+    for (shape, need) in [(K1, 272), (K2, 20_744)] {
+        let call = Call::Make {
+            sizes: shape.sizes(),
+        };
+        assert_eq!(shape.need(), need);
+        assert_eq!(lab.try_out(&vec![7; need], call), 0);
+        assert_eq!(lab.try_out(&vec![7; need - 1], call), 1);
+        let words = make(lab, shape);
+        assert_eq!(lab.try_out(&words, Call::Check), 0);
+        assert_eq!(lab.try_out(&words[..need - 1], Call::Check), 1);
+    }
+}
+
+fn offered_words(lab: &mut Lab) {
+    for (destination, tag, word) in [(6, 7, 30_065_164_801), (11, 0, 786_431)] {
+        let mut words = make(lab, K1);
+        assert_eq!(lab.call(&mut words, offer(0, destination, tag)).refusal, 0);
+        let look = lab.call(&mut words, Call::Look { node: 0, queue: 0 });
+        assert_eq!(look.out, [9, 1, 0, 0]);
+        assert_eq!(words[9], word);
+        assert_eq!(words[5..8], [1, 0, 0]);
+    }
+}
+
+fn bubble_rule(lab: &mut Lab) {
+    let shape = Shape::new(4, 4, 2, 1, 1);
+    // For each direction its escape queue, and one hop left that way.
+    let ways = [(5, 1, 0), (6, -1, 0), (7, 0, 1), (8, 0, -1)];
+    for (escape, dx, dy) in ways {
+        for (held, own, outside) in [(0, 0, 0), (1, 0, 12), (2, 11, 11)] {
+            let mut sources = vec![(escape, own), (escape - 4, outside), (0, outside)];
+            // Packets that turn into the ring from the other dimension. Only
+            // those whose dx is used up turn from an x escape queue.
+            if dy != 0 {
+                sources.extend([(5, outside), (6, outside), (1, outside), (2, outside)]);
+            } else {
+                sources.extend([(3, outside), (4, outside)]);
+            }
+            for (queue, refusal) in sources {
+                let mut words = make(lab, shape);
+                let target = end_node(&shape, 5, dx, dy);
+                put(&shape, &mut words, 5, queue, dx, dy);
+                for _ in 0..held {
+                    put(&shape, &mut words, target, escape, 0, 0);
+                }
+                let call = move_call(5, queue, escape as u64);
+                assert_eq!(lab.try_out(&words, call), refusal, "{queue} to {escape}");
+                let credit = lab.call(
+                    &mut words,
+                    Call::Credit {
+                        node: 5,
+                        output: escape as u64,
+                    },
+                );
+                assert_eq!((credit.refusal, credit.out[0]), (0, 2 - held));
+            }
+        }
+    }
+}
+
+fn wrong_sizes(lab: &mut Lab) {
+    let words = vec![0; K1.need()];
+    for sizes in [[4, 3, 1, 1, 1], [0, 3, 2, 1, 1], [17, 3, 2, 1, 1]] {
+        assert_eq!(lab.try_out(&words, Call::Make { sizes }), 2);
+        let mut words = make(lab, K1);
+        words[..5].copy_from_slice(&sizes);
+        assert_eq!(lab.try_out(&words, Call::Check), 2);
+        assert_eq!(lab.try_out(&[], Call::Make { sizes }), 2, "2 before 1");
+    }
+}
+
+fn not_its_way(lab: &mut Lab) {
+    let mut words = make(lab, K1);
+    put(&K1, &mut words, 0, 0, 1, 0);
+    put(&K1, &mut words, 1, 0, 0, 0);
+    assert_eq!(lab.try_out(&words, move_call(0, 0, 0)), 10);
+    assert_eq!(lab.try_out(&words, move_call(1, 0, 5)), 10);
+}
+
+fn budget_zero(lab: &mut Lab) {
+    let mut words = make(lab, K1);
+    assert_eq!(lab.call(&mut words, drain(0, 0)).out, [0, 0, 0, 0]);
+    put(&K1, &mut words, 0, 0, 0, 0);
+    assert_eq!(lab.call(&mut words, drain(0, 0)).out, [0, 0, 1, 0]);
+    assert_eq!(lab.call(&mut words, drain(1, 0)).out, [0, 0, 2, 0]);
+}
+
+fn full_ring(lab: &mut Lab) {
+    let shape = Shape::new(2, 1, 2, 1, 1);
+    let mut words = make(lab, shape);
+    for (node, refusal) in [(0, 0), (0, 0), (1, 0), (1, 3)] {
+        put(&shape, &mut words, node, 5, 0, 0);
+        assert_eq!(lab.try_out(&words, Call::Check), refusal);
+    }
+}
+
+fn to_oneself(lab: &mut Lab) {
+    let mut words = make(lab, Shape::new(1, 1, 2, 1, 1));
+    assert_eq!(lab.call(&mut words, offer(0, 0, 3)).refusal, 0);
+    assert_eq!(lab.call(&mut words, Call::First).out, [1, 0, 0, 0]);
+    for output in 1..=8 {
+        assert_eq!(lab.try_out(&words, move_call(0, 0, output)), 10);
+    }
+    let answer = lab.call(&mut words, move_call(0, 0, 0));
+    assert_eq!((answer.refusal, answer.out), (0, [1, 3 << 32, 0, 0]));
+    assert_eq!(words[5..8], [1, 1, 1]);
+    assert_eq!(lab.call(&mut words, Call::First).out, [0; 4]);
+}
+
+fn listing(lab: &mut Lab) {
+    let mut words = vec![0; 8000];
+    let sizes = [4, 1, 2, 1, 1];
+    assert_eq!(lab.call(&mut words, Call::Make { sizes }).refusal, 0);
+    assert_eq!(lab.call(&mut words, offer(0, 2, 7)).refusal, 0);
+    assert_eq!(lab.call(&mut words, offer(0, 1, 8)).refusal, 7);
+    assert_eq!(lab.call(&mut words, move_call(0, 0, 5)).refusal, 0);
+    assert_eq!(lab.call(&mut words, move_call(1, 5, 0)).refusal, 10);
+    let (answer, ledger) = lab.call_with_ledger(&mut words, drain(10, 64));
+    assert_eq!((answer.refusal, answer.out), (0, [2, 1, 0, 0]));
+    assert_eq!(ledger[0], (7 << 32) + (2 << 16));
+}
+
+fn order_of_escapes(lab: &mut Lab) {
+    let shape = Shape::new(4, 4, 2, 1, 1);
+    let mut words = make(lab, shape);
+    put(&shape, &mut words, 0, 0, 1, 1);
+    for (output, refusal) in [(1, 0), (3, 0), (5, 0), (7, 10), (6, 10), (2, 10), (0, 10)] {
+        assert_eq!(lab.try_out(&words, move_call(0, 0, output)), refusal);
+    }
+    // From a y queue the y route comes first, from injection the x route.
+    assert_eq!(lab.call(&mut words, Call::First).out, [1, 0, 0, 1]);
+    let mut words = make(lab, shape);
+    put(&shape, &mut words, 0, 3, 1, 1);
+    assert_eq!(lab.call(&mut words, Call::First).out, [1, 0, 3, 3]);
+}
+
+fn half_way(lab: &mut Lab) {
+    let shape = Shape::new(4, 1, 2, 1, 1);
+    let mut words = make(lab, shape);
+    assert_eq!(lab.call(&mut words, offer(0, 2, 1)).refusal, 0);
+    assert_eq!(words[9], packet_word(1, 2, 2, 0));
+    let mut words = make(lab, shape);
+    put(&shape, &mut words, 0, 0, -2, 0);
+    assert_eq!(lab.try_out(&words, Call::Check), 0);
+    assert_eq!(lab.try_out(&words, move_call(0, 0, 1)), 10);
+    assert_eq!(lab.call(&mut words, move_call(0, 0, 2)).refusal, 0);
+    let at = shape.count_word(3, 2);
+    assert_eq!(words[at..at + 2], [1, packet_word(5, 2, -1, 0)]);
+}
+
+fn injection_alone(lab: &mut Lab) {
+    let mut words = make(lab, K1);
+    put(&K1, &mut words, 11, 0, 0, 0);
+    assert_eq!(lab.call(&mut words, drain(0, 8)).out, [0, 0, 1, 0]);
+    assert_eq!(lab.call(&mut words, drain(9, 8)).out, [1, 1, 0, 0]);
+}

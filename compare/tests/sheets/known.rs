@@ -1,0 +1,115 @@
+//! Sheets whose whole output is written down here: the listing of document 01
+//! and the readings of its open points.
+
+/// A name, the input and the whole output.
+pub type Known = (&'static str, Vec<u8>, Vec<u8>);
+
+const LISTING: &str = "T,4,1,2,1,1\nO,0,2,7\nO,0,1,8\nM,0,0,5\nM,1,5,0\nD,10\n";
+const LISTING_OUT: &str = "T,0 O,0 O,7 M,0 M,10 P,7,2 D,0,2,emptied";
+
+/// Output lines, written with blanks between them, all with CRLF.
+fn printed(lines: &str) -> Vec<u8> {
+    let lines = lines.split_ascii_whitespace();
+    lines
+        .flat_map(|line| format!("{line}\r\n").into_bytes())
+        .collect()
+}
+
+pub fn sheets() -> Vec<Known> {
+    let bad = |count: usize| "?,13 ".repeat(count);
+    let good = "T,4,1,2,1,1";
+    let cases: Vec<(&str, String, String)> = vec![
+        ("listing, LF", LISTING.into(), LISTING_OUT.into()),
+        (
+            "listing, CRLF",
+            LISTING.replace('\n', "\r\n"),
+            LISTING_OUT.into(),
+        ),
+        (
+            "listing, no end on the last line",
+            LISTING.trim_end().into(),
+            LISTING_OUT.into(),
+        ),
+        ("empty input", "".into(), "".into()),
+        ("one LF", "\n".into(), bad(1)),
+        ("one CRLF", "\r\n".into(), bad(1)),
+        ("one CR", "\r".into(), bad(1)),
+        ("three empty lines", "\n\r\n\n".into(), bad(3)),
+        (
+            "LF then CRLF",
+            format!("{good}\nD,1\r\n"),
+            "T,0 D,0,0,emptied".into(),
+        ),
+        ("CR at the end of input", format!("{good}\r"), bad(1)),
+        ("two CR before the LF", format!("{good}\r\r\n"), bad(1)),
+        ("CR in a line", "T,4,1,2\r,1,1\n".into(), bad(1)),
+        ("CR between lines", format!("{good}\rD,1\n"), bad(1)),
+        ("LF then CR", format!("{good}\n\rD,1\n"), "T,0 ?,13".into()),
+        (
+            "64 and 65 bytes, over 64 at the end",
+            format!(
+                "{}\n{}\r\n{}",
+                "D".repeat(64),
+                "D".repeat(65),
+                "D".repeat(66)
+            ),
+            bad(3),
+        ),
+        (
+            "leading zeros",
+            format!("{good}\nD,00\nD,01\nD,0\nO,0,00,1\n"),
+            "T,0 ?,13 ?,13 D,0,0,emptied ?,13".into(),
+        ),
+        (
+            "the largest number and one more",
+            format!("{good}\nD,4294967295\nD,4294967296\nD,18446744073709551616\n"),
+            "T,0 D,0,0,emptied ?,13 ?,13".into(),
+        ),
+        (
+            "blanks, signs, quotes, letters",
+            "T,4,1,2,1, 1\nT ,4,1,2,1,1\nD,+1\nD,-1\n\"D\",1\nd,1\nD,1x\nDD,1\nD, 1\nD,1 \n".into(),
+            bad(10),
+        ),
+        (
+            "fields missing, empty or too many",
+            "T\nT,4,1,2,1\nT,4,1,2,1,1,1\nT,4,1,2,1,\nO,0,0\nM,0,0,0,0\nD\nD,\nD,1,\n,\n,1\n"
+                .into(),
+            bad(11),
+        ),
+        (
+            "before the first T",
+            "O,0,0,0\nM,0,0,0\nM,9,9,9\nD,0\nD,1\n".into(),
+            "O,2 M,2 M,2 D,2 D,2".into(),
+        ),
+        (
+            "a refused T leaves the network",
+            format!("{good}\nO,1,2,3\nT,0,1,2,1,1\nT,16,16,8,8,8\nD,9\n"),
+            "T,0 O,0 T,2 T,1 P,3,2 D,0,2,emptied".into(),
+        ),
+        (
+            "numbers that are too large for the call",
+            format!("{good}\nO,4,0,1\nO,0,4294967295,1\nM,4,9,9\nM,0,9,9\nM,0,8,9\nM,0,8,8\n")
+                + "T,4294967295,1,1,1,1\n",
+            "T,0 O,4 O,4 M,4 M,5 M,6 M,9 T,2".into(),
+        ),
+        (
+            "a delivery by M, and the largest tag",
+            format!("{good}\nO,3,3,4294967295\nM,3,0,1\nM,3,0,0\nM,3,0,0\n"),
+            "T,0 O,0 M,10 P,4294967295,3 M,0 M,9".into(),
+        ),
+        (
+            "stops",
+            format!("{good}\nO,0,1,5\nD,0\nD,1\nD,1\nD,0\n"),
+            "T,0 O,0 D,0,0,spent D,0,1,spent P,5,1 D,0,1,emptied D,0,0,emptied".into(),
+        ),
+        (
+            "networks of exactly 8000 words, of fewer and of more",
+            "T,9,12,8,8,1\nO,107,0,1\nD,9\nT,9,12,8,8,2\nT,16,16,2,2,6\nT,16,16,2,2,7\n".into(),
+            "T,0 O,0 P,1,0 D,0,3,emptied T,1 T,0 T,1".into(),
+        ),
+    ];
+    let known = cases.into_iter();
+    known
+        .map(|(name, input, output)| (name, input.into_bytes(), printed(&output)))
+        .collect()
+}

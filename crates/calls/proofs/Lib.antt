@@ -1,0 +1,1 @@
+-- Proofs of the calls. Ready.antt has what the needs of the turns cite.

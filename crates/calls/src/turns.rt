@@ -1,0 +1,157 @@
+// One turn of a Drain: its stops, tested in document 01's order, or one move. A turn does not search the nodes from the first: a set
+// of nodes goes along that holds every node which may have a permitted move (specs/Ready.antt), so that what a move costs does not
+// grow with the network. The move is First's all the same, and that is what the contracts say.
+use network::Found;
+use network::Stop;
+use packet::torus::Sizes;
+ghost use mathlib.Core.Path.{_≡_};
+ghost use mathlib.Core.Bool.{false};
+ghost use Prim.Native.Nat.{ℕ, _<_};
+ghost use Rattle.network.specs.declared.Found.{Found};
+ghost use Rattle.network.specs.Sizes.{nodes};
+ghost use Rattle.network.specs.CheckLaws.{Network};
+ghost use Rattle.network.specs.RefusalLaws.{Permitted};
+ghost use Rattle.network.specs.Calls.{firstMove};
+ghost use Rattle.packet.specs.Geometry.{shapeOfSizes, RingsFit};
+ghost use Rattle.nodeset.specs.Set.{IsSet};
+ghost use Rattle.calls.specs.Ready.{Covered, Marked, ArrivalMarked, FeederMarked};
+ghost use Rattle.calls.specs.Turns.{turnBy, byWords, turnAnswer, turnWords};
+
+// What a turn came to: a stop, a move to a neighbour, or a delivery with the packet word that it hands out.
+pub enum Turn {
+    Stopped(Stop),
+    Passed,
+    Delivered(u64),
+}
+
+// The node at which a packet that left node n by output o has arrived becomes a member.
+fn mark_arrival(ready: &mut [u64], s: Sizes, n: u64, o: u64)
+    requires { ⌜ IsSet (now ready) ⌝ }
+    requires { ⌜ RingsFit s ⌝ }
+    requires { ⌜ n < nodes (shapeOfSizes s) ⌝ }
+    ensures { λ _. ⌜ ArrivalMarked (shapeOfSizes s) n o (now (ready .entry)) (now (ready .exit)) ⌝ }
+{
+    if o == 0 {
+        return;
+    }
+    let there = packet::torus::neighbour(s, (o - 1) % 4, n);
+    nodeset::insert(ready, there);
+}
+
+// The node whose output leads into queue q of node n, where a slot is free now, becomes a member.
+fn mark_feeder(ready: &mut [u64], s: Sizes, n: u64, q: u64)
+    requires { ⌜ IsSet (now ready) ⌝ }
+    requires { ⌜ RingsFit s ⌝ }
+    requires { ⌜ n < nodes (shapeOfSizes s) ⌝ }
+    ensures { λ _. ⌜ FeederMarked (shapeOfSizes s) n q (now (ready .entry)) (now (ready .exit)) ⌝ }
+{
+    if q == 0 {
+        return;
+    }
+    let d = (q - 1) % 4;
+    let back = d / 2 * 2 + (1 - d % 2);
+    let there = packet::torus::neighbour(s, back, n);
+    nodeset::insert(ready, there);
+}
+
+// The nodes that a move may have given a permitted move become members.
+fn mark(ready: &mut [u64], s: Sizes, n: u64, q: u64, o: u64)
+    requires { ⌜ IsSet (now ready) ⌝ }
+    requires { ⌜ RingsFit s ⌝ }
+    requires { ⌜ n < nodes (shapeOfSizes s) ⌝ }
+    ensures { λ _. ⌜ Marked (shapeOfSizes s) n q o (now (ready .entry)) (now (ready .exit)) ⌝ }
+{
+    nodeset::insert(ready, n);
+    mark_arrival(ready, s, n, o);
+    mark_feeder(ready, s, n, q);
+}
+
+// First's move, found from the lowest node of the set on. Nodes of the set that have none are taken out of it.
+fn next_move(words: &[u64], s: Sizes, ready: &mut [u64]) -> Found
+    requires { ⌜ Network (shapeOfSizes s) (now words) ⌝ }
+    requires { ⌜ Covered (shapeOfSizes s) (now words) (now ready) ⌝ }
+    ensures answer { λ r. ⌜ r ≡ firstMove (shapeOfSizes s) (now (words .entry)) ⌝ }
+    ensures set { λ _. ⌜ Covered (shapeOfSizes s) (now (words .entry)) (now (ready .exit)) ⌝ }
+{
+    let count = packet::torus::nodes(s);
+    let mut from: u64 = 0;
+    while from < count {
+        let node = nodeset::lowest(ready);
+        if count <= node {
+            return Found::Nothing;
+        }
+        let found = rules::first::first_in_node(words, s, node);
+        match found {
+            Found::Refused(_) => {
+                return found;
+            }
+            Found::Nothing => {}
+            Found::Move {
+                node: _,
+                queue: _,
+                output: _,
+            } => {
+                return found;
+            }
+        }
+        nodeset::remove(ready, node);
+        from = node + 1;
+    }
+    Found::Nothing
+}
+
+// The turn by the move that First names: it is made unless it delivers and no ledger word is left.
+fn turn_by_move(
+    words: &mut [u64],
+    s: Sizes,
+    ready: &mut [u64],
+    room: u64,
+    n: u64,
+    q: u64,
+    o: u64,
+) -> Turn
+    requires { ⌜ Network (shapeOfSizes s) (now words) ⌝ }
+    requires { ⌜ Covered (shapeOfSizes s) (now words) (now ready) ⌝ }
+    requires { ⌜ Permitted (shapeOfSizes s) (now words) n q o ⌝ }
+    ensures answer { λ r. ⌜ r ≡ turnBy (shapeOfSizes s) (now (words .entry)) room (Found.Move n q o) ⌝ }
+    ensures words { λ _. ⌜ now (words .exit) ≡ byWords (shapeOfSizes s) (now (words .entry)) room (Found.Move n q o) ⌝ }
+    ensures set { λ _. ⌜ Covered (shapeOfSizes s) (byWords (shapeOfSizes s) (now (words .entry)) room (Found.Move n q o)) (now (ready .exit)) ⌝ }
+{
+    if o != 0 {
+        changes::make_move(words, s, n, q, o);
+        mark(ready, s, n, q, o);
+        return Turn::Passed;
+    }
+    if room == 0 {
+        return Turn::Stopped(Stop::Full);
+    }
+    let p = changes::make_move(words, s, n, q, o);
+    mark(ready, s, n, q, o);
+    Turn::Delivered(p)
+}
+
+// One turn. Nothing is held exactly when as many packets were delivered as accepted.
+fn take_turn(words: &mut [u64], s: Sizes, ready: &mut [u64], budget: u64, room: u64) -> Turn
+    requires { ⌜ Network (shapeOfSizes s) (now words) ⌝ }
+    requires { ⌜ Covered (shapeOfSizes s) (now words) (now ready) ⌝ }
+    ensures answer { λ r. ⌜ r ≡ turnAnswer (shapeOfSizes s) (now (words .entry)) budget room ⌝ }
+    ensures words { λ _. ⌜ now (words .exit) ≡ turnWords (shapeOfSizes s) (now (words .entry)) budget room ⌝ }
+    ensures set { λ _. ⌜ Covered (shapeOfSizes s) (turnWords (shapeOfSizes s) (now (words .entry)) budget room) (now (ready .exit)) ⌝ }
+{
+    if words[5] == words[6] {
+        return Turn::Stopped(Stop::Emptied);
+    }
+    if budget == 0 {
+        return Turn::Stopped(Stop::Spent);
+    }
+    let found = next_move(words, s, ready);
+    match found {
+        Found::Refused(_) => Turn::Stopped(Stop::Emptied),
+        Found::Nothing => Turn::Stopped(Stop::Emptied),
+        Found::Move {
+            node,
+            queue,
+            output,
+        } => turn_by_move(words, s, ready, room, node, queue, output),
+    }
+}

@@ -1,0 +1,68 @@
+-- `changes::write_empty` meets its contract: five words written over cleared ones are the empty network. Assumes nothing.
+use borrow.Author.Needs.{needs}
+use Prim.Native.Nat.{_≤_}
+use native.Mathlib.Omega.{arith}
+use lib.ListN.{length, length-set}
+use Rattle.packet.specs.Geometry.{shapeOfSizes}
+use Rattle.queue.specs.QueueLaws.{small}
+use Rattle.network.specs.Layout.{headerWords}
+use Rattle.changes.proofs.Laws.{need-header, empty-words}
+use Rattle.changes.proofs.write_empty.Statement.{statement}
+use Rattle.changes.proofs.write_empty.Tie as tie
+
+need-requires : tie.Need-need-requires
+need-requires c κs =
+    let s = c .before .args .s in
+    let k = small (s .x) (s .y) (s .escape) (s .adaptive) (s .injection) (c .before .pre .0) in
+    (k .columns, k .rows, k .escape, k .adaptive, k .injection)
+
+clear-requires : tie.Need-clear-requires
+clear-requires c κs = search needs
+
+long : (c : tie.After-clear) → headerWords ≤ length (c .clear .last .0)
+long c =
+    let s = c .before .before .before .before in
+    let h = need-header (shapeOfSizes (s .args .s)) in
+    let l = s .pre .1 in
+    let k = c .clear .kept .0 in
+    omega arith
+
+slice-write-words : tie.Need-slice-write-words
+slice-write-words c = let l = long (c .before .before) in omega arith
+
+slice-write-words-2 : tie.Need-slice-write-words-2
+slice-write-words-2 c = let l = long (c .before .before) in simp length-set (omega arith)
+
+slice-write-words-3 : tie.Need-slice-write-words-3
+slice-write-words-3 c = let l = long (c .before .before) in simp length-set (omega arith)
+
+slice-write-words-4 : tie.Need-slice-write-words-4
+slice-write-words-4 c = let l = long (c .before .before) in simp length-set (omega arith)
+
+slice-write-words-5 : tie.Need-slice-write-words-5
+slice-write-words-5 c = let l = long (c .before .before) in simp length-set (omega arith)
+
+same-length : tie.Need-same-length
+same-length c = search needs
+
+returns : tie.Need-returns
+returns c =
+    let k = c .before .before in
+    let n = k .before .before .need in
+    let a = k .before .before .before .before .args in
+    let s = a .s in
+    empty-words (s .x) (s .y) (s .escape) (s .adaptive) (s .injection) (n .result) (a .words .now) (k .clear .last .0) (n .ensures) (k .clear .ensures)
+
+pub write-empty-spec : {M : Type 1} → statement M
+write-empty-spec =
+    tie.close
+    (tie.spec
+    need-requires
+    clear-requires
+    slice-write-words
+    slice-write-words-2
+    slice-write-words-3
+    slice-write-words-4
+    slice-write-words-5
+    same-length
+    returns)

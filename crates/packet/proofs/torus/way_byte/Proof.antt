@@ -1,0 +1,59 @@
+-- `packet::torus::way_byte` meets its contract. Assumes nothing.
+use mathlib.Core.Path.{_≡_, ap, _∙_}
+use Prim.Native.Nat.{ℕ}
+use borrow.Author.Needs.{needs}
+use Rattle.network.specs.Packet.{byte, shorterWay}
+use Rattle.network.specs.OfferLaws.{offeredWay}
+use Rattle.packet.specs.Geometry.{shapeOfSizes}
+use Rattle.packet.specs.GeometryLaws.{on-ring, rings-way}
+use Rattle.packet.proofs.Numbers.{back, range-back}
+use Rattle.packet.proofs.torus.way_byte.Statement.{statement}
+use Rattle.packet.proofs.torus.way_byte.Tie as tie
+
+same-way : {k a b k′ a′ b′ : ℕ} → k ≡ k′ → a ≡ a′ → b ≡ b′ → shorterWay k a b ≡ shorterWay k′ a′ b′
+same-way ek ea eb = cc
+
+-- the start of the function, from that call
+abbrev start : tie.After-shorter-way → tie.Start
+start c = c .before .before .before .before
+
+-- what the call of `shorter_way` gave
+way-is : (c : tie.After-shorter-way)
+    → c .shorter-way .result
+    ≡ offeredWay (shapeOfSizes (start c .args .s)) (start c .args .n) (start c .args .destination) (start c .args .i)
+way-is c =
+    c .shorter-way .ensures
+    ∙ same-way (c .before .before .before .size .ensures) (c .before .before .coordinate .ensures) (c .before .coordinate2 .ensures)
+
+size-requires : tie.Need-size-requires
+size-requires c κs = search needs
+
+coordinate-requires : tie.Need-coordinate-requires
+coordinate-requires c κs = search needs
+
+coordinate-requires-2 : tie.Need-coordinate-requires-2
+coordinate-requires-2 c κs = search needs
+
+shorter-way-requires : tie.Need-shorter-way-requires
+shorter-way-requires c κs =
+    let a = c .before .before .before .args in
+    let p = c .before .before .before .pre in
+    let from = on-ring (a .i) (a .n) (p .0) (p .1) (c .before .coordinate .ensures) (c .before .before .size .ensures) in
+    let to = on-ring (a .i) (a .destination) (p .0) (p .1) (c .coordinate2 .ensures) (c .before .before .size .ensures) in
+    (from .0, to .0, to .1)
+
+byte-requires : tie.Need-byte-requires
+byte-requires c κs =
+    let a = start c .args in
+    let p = start c .pre in
+    range-back (way-is c) (rings-way (a .n) (a .destination) (a .i) (p .0) (p .1))
+
+returns : tie.Need-returns
+returns c =
+    let a = start (c .before) .args in
+    let p = start (c .before) .pre in
+    c .byte .ensures ∙ ap byte (back (way-is (c .before)) (rings-way (a .n) (a .destination) (a .i) (p .0) (p .1)))
+
+pub way-byte-spec : {M : Type 1} → statement M
+way-byte-spec =
+    tie.close (tie.spec size-requires coordinate-requires coordinate-requires-2 shorter-way-requires byte-requires returns)

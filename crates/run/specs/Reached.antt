@@ -1,0 +1,356 @@
+-- Words that Make and Offer lead to pass the check, so the check shuts out nothing that the calls make, and demand 3 speaks of every run from
+-- there. Order: words that hold nothing; Make; the packet of an offer in the injection queue; Offer. Assumes nothing.
+use mathlib.Core.Path.{_≡_, refl, ap, sym, subst, _∙_}
+use mathlib.Core.Logic.{_≢_}
+use mathlib.Core.Bool.{Bool, true, false, not, _||_}
+use mathlib.Core.List.{List, [], _∷_, _++_}
+use Prim.Native.Nat.{ℕ, suc, _+_, _*_, _-_, _^_, _<_, _≤_}
+use native.Mathlib.Omega.{arith}
+use borrow.Author.Tests.{eq-eqb, leb-false, eqb-false}
+use lib.Dec.{T, leb, eqb}
+use lib.ListN.{length, getD, drop, replicate, length-append, length-replicate, getD-replicate, List·getD-append}
+use lib.Seq.{ext-getD, getD-append-add}
+use Rattle.base.specs.Tests.{allOf}
+use Rattle.base.specs.Sums.{sumOf, sumBelow, sum-zero, sumOf-append}
+use Rattle.base.specs.Parts.{span, length-span, getD-span}
+use Rattle.network.specs.Sizes.{Shape, size, sizesInRange, nodes, queues, directions, dimensions, injectionQueue, escapeQueue, capacity}
+use Rattle.network.specs.SizesLaws.{range-of, capacity-pos}
+use Rattle.network.specs.Packet.{destination, work}
+use Rattle.network.specs.Torus.{along}
+use Rattle.network.specs.TorusLaws.{Torus, inRange-torus, inRange-size, inRange-nodes, along-lt}
+use Rattle.network.specs.Layout.{headerWords, shape, need, nodeWords, queueStart, queueEnd, queueWords, queuePart, packetsOf, held, putQueue, raised, total, accepted, delivered, movesMade, acceptedAt, deliveredAt, movesAt}
+use Rattle.network.specs.LayoutLaws.{Fits, start-header, start-end, end-start, end-need, packetsOf-queueWords, held-put-other, length-put, shape-put, accepted-put, delivered-put, movesMade-put, total-put, length-raised, held-raised, raised-same, raised-other, shape-raised, total-raised}
+use Rattle.network.specs.Check.{reach, isQueueOf, packetFits, ringHasRoom, packetsHeld, workLeft, mostAccepted, mostWork}
+use Rattle.network.specs.CheckLaws.{PacketFits, packet-by, Network}
+use Rattle.network.specs.Refusals.{networkRefusal, makeRefusal, offerRules, offerRefusal}
+use Rattle.network.specs.RefusalLaws.{not-refused, neither, network-passed, network-passes}
+use Rattle.network.specs.OfferLaws.{SizesAtMost16, destination-offered, distance-offered, work-offered, movedBy-offered}
+use Rattle.network.specs.Calls.{shapeOf, emptyNetwork, makeWords, offered, afterOffer, offerWords}
+use Rattle.run.specs.Queues.{AllFit, held-few, fits-words, fit-put, fit-raised, allOf-newest}
+use Rattle.run.specs.Rings.{Room, RingRoom, ring-of, ring-by, escape-lt}
+use Rattle.run.specs.Theorem.{torus}
+
+-- Words that hold nothing ---------------------------------------------------------------------------------------------------------------
+
+-- a part whose words are all 0
+span-zeros : (w : List ℕ) (a e : ℕ) → a ≤ e → e ≤ length w → ((i : ℕ) → a ≤ i → i < e → getD w i 0 ≡ 0) → span w a e ≡ replicate (e - a) 0
+span-zeros w a e h l zeros =
+    ext-getD 0 (span w a e) (replicate (e - a) 0) (length-span w a e h l ∙ sym (length-replicate (e - a) 0))
+    (λ i b.
+    let k : length (span w a e) ≡ e - a = length-span w a e h l in
+    let c : i < e - a = omega arith in
+    getD-span w a e i c ∙ zeros (a + i) (omega arith) (omega arith) ∙ sym (getD-replicate (e - a) i 0 0 c))
+
+-- the counters and every word behind the header are 0
+pub record Blank (S : Shape) (w : List ℕ) : Type 0 where
+  pub in-range : T (sizesInRange S)
+  pub long : need S ≤ length w
+  pub zeros : (i : ℕ) → headerWords ≤ i → i < need S → getD w i 0 ≡ 0
+  pub none-accepted : accepted w ≡ 0
+  pub none-delivered : delivered w ≡ 0
+  pub no-moves : movesMade w ≡ 0
+
+module _ (S : Shape) (w : List ℕ) (tor : Torus S) (B : Blank S w) where
+  blank-part : (n q : ℕ) → n < nodes S → q < queues → queuePart S w n q ≡ queueWords (capacity S q) []
+  unfolding queuePart queueWords
+  blank-part n q hn hq =
+      let s = start-header S n q in
+      let d = end-need S n q hn hq in
+      let l = B .long in
+      let k : queueEnd S n q - queueStart S n q ≡ suc (capacity S q - 0) = (let c = end-start S n q in omega arith) in
+      span-zeros w (queueStart S n q) (queueEnd S n q) (start-end S n q) (omega arith) (λ i a b. B .zeros i (omega arith) (omega arith))
+      ∙ ap (λ (m : ℕ). replicate m 0) k
+
+  blank-held : (n q : ℕ) → n < nodes S → q < queues → held S w n q ≡ []
+  unfolding held
+  blank-held n q hn hq = ap packetsOf (blank-part n q hn hq) ∙ packetsOf-queueWords (capacity S q) []
+
+  blank-total : (f : List ℕ → ℕ) → f [] ≡ 0 → total S w f ≡ 0
+  unfolding total
+  blank-total f z =
+      sum-zero (nodes S) (λ n. sumBelow queues (λ q. f (held S w n q)))
+      (λ n hn. sum-zero queues (λ q. f (held S w n q)) (λ q hq. ap f (blank-held n q hn hq) ∙ z))
+
+  blank-ring : (d n : ℕ) → d < directions → n < nodes S → T (ringHasRoom S w d n)
+  unfolding Room
+  blank-ring d n hd hn =
+      let e : length (held S w (along S d 0 n) (escapeQueue d)) ≡ 0 = ap length (blank-held (along S d 0 n) (escapeQueue d) (along-lt S d 0 n tor hd hn) (escape-lt d hd)) in
+      let c : 0 < capacity S (escapeQueue d) = capacity-pos S (escapeQueue d) (range-of S (B .in-range)) in
+      ring-by S w d n 0 tor hd (omega arith)
+
+  pub blank-network : Network S w
+  unfolding packetsHeld workLeft allOf sumOf
+  blank-network =
+      let a : accepted w ≡ 0 = B .none-accepted in
+      let d : delivered w ≡ 0 = B .none-delivered in
+      let m : movesMade w ≡ 0 = B .no-moves in
+      let h : total S w length ≡ 0 = blank-total length refl in
+      let k : total S w (sumOf work) ≡ 0 = blank-total (sumOf work) refl in
+      record {
+        in-range = B .in-range;
+        long = B .long;
+        queue = λ n q hn hq. fits-words S w n q [] (blank-part n q hn hq) (omega arith) tt;
+        ring = blank-ring;
+        few-accepted = omega arith;
+        counted = omega arith;
+        bounded = omega arith;
+      }
+
+-- Make ----------------------------------------------------------------------------------------------------------------------------------
+
+-- what Make writes, with any words behind it
+module _ (x y e a j : ℕ) (rest : List ℕ) where
+  S : Shape
+  S = shapeOf x y e a j
+
+  made : List ℕ
+  made = emptyNetwork S ++ rest
+
+  header : List ℕ
+  header = x ∷ y ∷ e ∷ a ∷ j ∷ 0 ∷ 0 ∷ 0 ∷ []
+
+  blanks : List ℕ
+  blanks = replicate (nodes S * nodeWords S) 0
+
+  made-is : made ≡ header ++ (blanks ++ rest)
+  unfolding made S header blanks emptyNetwork shapeOf
+  made-is = refl
+
+  blanks-length : length blanks ≡ nodes S * nodeWords S
+  unfolding blanks
+  blanks-length = length-replicate (nodes S * nodeWords S) 0
+
+  made-long : need S ≤ length made
+  unfolding header need
+  made-long =
+      let l : length made ≡ 8 + (length blanks + length rest) =
+      ap length made-is ∙ length-append header (blanks ++ rest) ∙ ap (λ (m : ℕ). 8 + m) (length-append blanks rest) in
+      let r = blanks-length in
+      omega arith
+
+  made-zeros : (i : ℕ) → headerWords ≤ i → i < need S → getD made i 0 ≡ 0
+  unfolding header blanks need
+  made-zeros i l b =
+      let r : length blanks ≡ nodes S * nodeWords S = blanks-length in
+      let at : i ≡ 8 + (i - 8) = omega arith in
+      ap (λ (m : ℕ). getD made m 0) at
+      ∙ ap (λ (w : List ℕ). getD w (8 + (i - 8)) 0) made-is
+      ∙ getD-append-add header (blanks ++ rest) (i - 8) 0
+      ∙ List·getD-append blanks rest 0 (i - 8) (omega arith)
+      ∙ getD-replicate (nodes S * nodeWords S) (i - 8) 0 0 (omega arith)
+
+  made-blank : T (sizesInRange S) → Blank S made
+  unfolding made S header emptyNetwork shapeOf accepted delivered movesMade
+  made-blank t = record { in-range = t; long = made-long; zeros = made-zeros; none-accepted = refl; none-delivered = refl; no-moves = refl }
+
+  made-shape : shape made ≡ S
+  unfolding made S emptyNetwork shapeOf shape
+  made-shape = refl
+
+  made-passes : T (sizesInRange (shapeOf x y e a j)) → networkRefusal (emptyNetwork (shapeOf x y e a j) ++ rest) ≡ 0
+  unfolding made S shapeOf
+  made-passes t = network-passes made (subst (λ (R : Shape). Network R made) (sym made-shape) (blank-network S made (inRange-torus S t refl) (made-blank t)))
+
+-- sizes of two dimensions are a number of columns and one of rows
+two : (ks : List ℕ) → length ks ≡ dimensions → ks ≡ getD ks 0 0 ∷ getD ks 1 0 ∷ []
+two [] l = absurd (let z : 0 ≡ 2 = l in omega arith)
+two (x ∷ []) l = absurd (let z : 1 ≡ 2 = l in omega arith)
+two (x ∷ y ∷ []) l = refl
+two (x ∷ y ∷ z ∷ ks) l = absurd (let n : suc (suc (suc (length ks))) ≡ 2 = l in omega arith)
+
+shape-is : (S : Shape) → length (S .sizes) ≡ dimensions → S ≡ shapeOf (size S 0) (size S 1) (S .escape) (S .adaptive) (S .injection)
+unfolding shapeOf size
+shape-is S l = λ i. record { sizes = two (S .sizes) l i; escape = S .escape; adaptive = S .adaptive; injection = S .injection }
+
+passed : (b : Bool) → not b ≡ false → T b
+passed true e = tt
+passed false e = absurd (mathlib.Core.Bool.true≢false e)
+
+-- "Make: writes an empty network": a Make that is not refused leaves words that pass the check
+pub make-passes : (S : Shape) (w : List ℕ) → length (S .sizes) ≡ dimensions → makeRefusal S w ≡ 0 → networkRefusal (makeWords S w) ≡ 0
+unfolding makeWords makeRefusal
+make-passes S w two-dimensional e =
+    let (range, rest) = not-refused (not (sizesInRange S)) 1 _ e in
+    let whole : S ≡ shapeOf (size S 0) (size S 1) (S .escape) (S .adaptive) (S .injection) = shape-is S two-dimensional in
+    rw (eq-eqb (makeRefusal S w) 0 e)
+    (subst (λ (R : Shape). networkRefusal (emptyNetwork R ++ drop (need S) w) ≡ 0) (sym whole)
+    (made-passes (size S 0) (size S 1) (S .escape) (S .adaptive) (S .injection) (drop (need S) w)
+    (subst (λ (R : Shape). T (sizesInRange R)) whole (passed (sizesInRange S) range))))
+
+-- The packet of an offer ----------------------------------------------------------------------------------------------------------------
+
+module _ (S : Shape) (w : List ℕ) (n dest tag : ℕ) (tor : Torus S) (N : Network S w) (hn : n < nodes S) (hd : dest < nodes S)
+    (free : length (held S w n injectionQueue) < capacity S injectionQueue) (fewer : accepted w < mostAccepted) where
+  p : ℕ
+  p = offered S n dest tag
+
+  few-nodes : nodes S ≤ 2 ^ 16
+  few-nodes = let l = inRange-nodes S (N .in-range) (tor .dims) in omega arith
+
+  small : SizesAtMost16 S
+  small i h = inRange-size S i (N .in-range)
+
+  offered-fits : PacketFits S n injectionQueue p
+  unfolding p reach isQueueOf
+  offered-fits =
+      let there : destination p ≡ dest = destination-offered S n dest tag tor hn hd few-nodes small in
+      record {
+        addressed = rw there hd;
+        arrives = movedBy-offered S n dest tag tor hn hd few-nodes small ∙ sym there;
+        near = λ i h. distance-offered S n dest tag tor hn hd few-nodes small i h;
+        sign = λ ne. absurd (ne refl);
+        lower = λ t. absurd t;
+      }
+
+  place : Fits S w n injectionQueue
+  place = record { node = hn; queue = omega arith; long = N .long }
+
+  joined : List ℕ
+  joined = held S w n injectionQueue ++ (p ∷ [])
+
+  joined-length : length joined ≡ length (held S w n injectionQueue) + 1
+  unfolding joined
+  joined-length = length-append (held S w n injectionQueue) (p ∷ [])
+
+  few : length joined ≤ capacity S injectionQueue
+  few = let l = joined-length in omega arith
+
+  put : List ℕ
+  put = putQueue S w n injectionQueue joined
+
+  after : List ℕ
+  after = raised acceptedAt put
+
+  -- Offer ------------------------------------------------------------------------------------------------------------------------------
+
+  after-fit : AllFit S after
+  unfolding AllFit after put joined
+  after-fit =
+      fit-raised S acceptedAt put (omega arith)
+      (fit-put S w n injectionQueue joined place few
+      (allOf-newest (packetFits S n injectionQueue) (held S w n injectionQueue) p (N .queue n injectionQueue hn (omega arith) .packets) (packet-by S n injectionQueue p offered-fits))
+      (N .queue))
+
+  -- the transit queues hold what they held
+  after-held : (m r : ℕ) → m < nodes S → r < queues → r ≢ injectionQueue → held S after m r ≡ held S w m r
+  unfolding after put
+  after-held m r hm hr ne = held-raised S acceptedAt put m r (omega arith) ∙ held-put-other S w n injectionQueue joined m r place few hm hr (λ e. ne (sym (e .1)))
+
+  after-ring : (d m : ℕ) → d < directions → m < nodes S → T (ringHasRoom S after d m)
+  unfolding Room
+  after-ring d m hd′ hm =
+      let r : RingRoom S w d m = ring-of S w d m (N .ring d m hd′ hm) in
+      let same : held S after (along S d (r .steps) m) (escapeQueue d) ≡ held S w (along S d (r .steps) m) (escapeQueue d) =
+      after-held (along S d (r .steps) m) (escapeQueue d) (along-lt S d (r .steps) m tor hd′ hm) (escape-lt d hd′) (λ z. positive d z) in
+      ring-by S after d m (r .steps) tor hd′ (rw same (r .room))
+    where
+      positive : (d : ℕ) → escapeQueue d ≡ 0 → ⊥
+      positive d z = omega arith
+
+  after-length : length after ≡ length w
+  unfolding after put
+  after-length = length-raised acceptedAt put ∙ length-put S w n injectionQueue joined place few
+
+  header-there : headerWords ≤ length put
+  unfolding put need
+  header-there =
+      let a : headerWords + nodes S * nodeWords S ≤ length w = N .long in
+      let b = length-put S w n injectionQueue joined place few in
+      omega arith
+
+  after-accepted : accepted after ≡ accepted w + 1
+  unfolding accepted after put
+  after-accepted = raised-same acceptedAt put (omega arith) header-there ∙ ap (λ (x : ℕ). x + 1) (accepted-put S w n injectionQueue joined place few)
+
+  after-delivered : delivered after ≡ delivered w
+  unfolding delivered after put
+  after-delivered = raised-other acceptedAt put deliveredAt (λ z. unequal z) ∙ delivered-put S w n injectionQueue joined place few
+    where
+      unequal : deliveredAt ≡ acceptedAt → ⊥
+      unequal z = omega arith
+
+  after-moves : movesMade after ≡ movesMade w
+  unfolding movesMade after put
+  after-moves = raised-other acceptedAt put movesAt (λ z. unequal z) ∙ movesMade-put S w n injectionQueue joined place few
+    where
+      unequal : movesAt ≡ acceptedAt → ⊥
+      unequal z = omega arith
+
+  -- the sums grow by the packet
+  after-total : (f : List ℕ → ℕ) → total S after f + f (held S w n injectionQueue) ≡ total S w f + f joined
+  unfolding after put
+  after-total f = rw (total-raised S acceptedAt put f (omega arith)) (total-put S w n injectionQueue joined f place few)
+
+  after-packets : packetsHeld S after ≡ packetsHeld S w + 1
+  unfolding packetsHeld
+  after-packets = let a = after-total length in let b = joined-length in omega arith
+
+  after-work : workLeft S after ≡ workLeft S w + work p
+  unfolding workLeft joined sumOf
+  after-work =
+      let a : total S after (sumOf work) + sumOf work (held S w n injectionQueue) ≡ total S w (sumOf work) + sumOf work (held S w n injectionQueue ++ (p ∷ [])) = after-total (sumOf work) in
+      let b : sumOf work (held S w n injectionQueue ++ (p ∷ [])) ≡ sumOf work (held S w n injectionQueue) + (work p + 0) = sumOf-append work (held S w n injectionQueue) (p ∷ []) in
+      omega arith
+
+  after-network : Network S after
+  unfolding AllFit p
+  after-network =
+      let x : accepted after ≡ accepted w + 1 = after-accepted in
+      let y : delivered after ≡ delivered w = after-delivered in
+      let z : movesMade after ≡ movesMade w = after-moves in
+      let h : packetsHeld S after ≡ packetsHeld S w + 1 = after-packets in
+      let k : workLeft S after ≡ workLeft S w + work p = after-work in
+      let most : work p ≤ mostWork = work-offered S n dest tag tor hn hd few-nodes small in
+      let c : delivered w + packetsHeld S w ≡ accepted w = N .counted in
+      let b : movesMade w + workLeft S w ≤ mostWork * accepted w = N .bounded in
+      record {
+        in-range = N .in-range;
+        long = rw after-length (N .long);
+        queue = after-fit;
+        ring = after-ring;
+        few-accepted = omega arith;
+        counted = omega arith;
+        bounded = omega arith;
+      }
+
+  after-shape : shape after ≡ shape w
+  unfolding after put
+  after-shape = shape-raised acceptedAt put (omega arith) ∙ shape-put S w n injectionQueue joined place few
+
+-- an offer that no rule refuses, to words that are a network
+pub record Accepting (S : Shape) (w : List ℕ) (n dest : ℕ) : Type 0 where
+  pub node : n < nodes S
+  pub addressed : dest < nodes S
+  pub fewer : accepted w < mostAccepted
+  pub free : length (held S w n injectionQueue) < capacity S injectionQueue
+
+pub accepting : (S : Shape) (w : List ℕ) (n dest : ℕ) → Network S w → offerRules S w n dest ≡ 0 → Accepting S w n dest
+unfolding offerRules
+accepting S w n dest N e =
+    let (a, e₁) = not-refused (leb (nodes S) n || leb (nodes S) dest) 3 _ e in
+    let (b, e₂) = not-refused (eqb (accepted w) mostAccepted) 7 _ e₁ in
+    let (c, e₃) = not-refused (eqb (length (held S w n injectionQueue)) (capacity S injectionQueue)) 6 _ e₂ in
+    let (x, y) = neither-of (leb (nodes S) n) (leb (nodes S) dest) a in
+    let hn : n < nodes S = leb-false (nodes S) n x in
+    let spent : accepted w ≢ mostAccepted = eqb-false (accepted w) mostAccepted b in
+    let full : length (held S w n injectionQueue) ≢ capacity S injectionQueue = eqb-false (length (held S w n injectionQueue)) (capacity S injectionQueue) c in
+    let most : accepted w ≤ mostAccepted = N .few-accepted in
+    let few : length (held S w n injectionQueue) ≤ capacity S injectionQueue =
+    held-few S w n injectionQueue (record { node = hn; queue = omega arith; long = N .long }) (N .queue n injectionQueue hn (omega arith)) in
+    record { node = hn; addressed = leb-false (nodes S) dest y; fewer = omega arith; free = omega arith }
+  where
+    neither-of : (a b : Bool) → a || b ≡ false → (a ≡ false) × (b ≡ false)
+    neither-of true b e = absurd (mathlib.Core.Bool.true≢false e)
+    neither-of false b e = (refl, e)
+
+-- "the packet goes to the end of the node's injection queue and accepted rises by one": an offer that is not refused keeps the check
+pub offer-passes : (w : List ℕ) (n dest tag : ℕ) → offerRefusal w n dest ≡ 0 → networkRefusal (offerWords w n dest tag) ≡ 0
+unfolding offerWords offerRefusal afterOffer after put joined p
+offer-passes w n dest tag e =
+    let (network, rules) = neither (networkRefusal w) (offerRules (shape w) w n dest) e in
+    let N : Network (shape w) w = network-passed w network in
+    let A : Accepting (shape w) w n dest = accepting (shape w) w n dest N rules in
+    let v : List ℕ = afterOffer (shape w) w n dest tag in
+    let same : shape v ≡ shape w = after-shape (shape w) w n dest tag (torus w N) N (A .node) (A .addressed) (A .free) (A .fewer) in
+    let M : Network (shape w) v = after-network (shape w) w n dest tag (torus w N) N (A .node) (A .addressed) (A .free) (A .fewer) in
+    rw (eq-eqb (offerRefusal w n dest) 0 e) (network-passes v (subst (λ (S : Shape). Network S v) (sym same) M))

@@ -1,0 +1,159 @@
+/*
+ * bench.h - the adaptive bubble router bench, for C
+ *
+ * A network is a two-dimensional torus of X columns and Y rows that moves
+ * whole packets. It lives in an array of 64-bit words that you lend to each
+ * call; the library keeps nothing between calls, allocates nothing, and
+ * touches no memory but what the call lends. The words are working memory,
+ * not an exchange format.
+ *
+ * Sizes: X and Y 1 to 16; slots of an escape queue E 2 to 8, of an adaptive
+ * queue A 1 to 8, of an injection queue J 1 to 8.
+ *
+ * Nodes are y * X + x. Every node has nine queues: 0 injection; 1 to 4
+ * adaptive for packets that arrived going x+, x-, y+, y-; 5 to 8 escape in
+ * the same four directions. An output is 0 (delivery) or 1 to 8, which names
+ * the queue at the neighbour in that queue's direction.
+ *
+ * Memory, for every call:
+ *   - a pointer must not be NULL and must be aligned for uint64_t, even if the
+ *     length behind it is 0;
+ *   - the arrays of one call (words, ledger, out) must not overlap;
+ *   - lengths count 64-bit words, not bytes;
+ *   - `out` must have the number of words given for the call (BENCH_MOVE_OUT
+ *     and so on). Those words are written on every call, refused or not, and
+ *     no later ones.
+ *
+ * Every call returns 0, or the number of a refusal. A refused call changes
+ * neither the words nor the ledger and sets all words of `out` to 0. Words
+ * after the last node are never touched.
+ *
+ * Two threads may use the library at once if they lend different memory.
+ *
+ *     uint64_t words[BENCH_WORDS(4, 1, 2, 1, 1)], out[BENCH_DRAIN_OUT], ledger[8];
+ *     size_t len = sizeof words / sizeof words[0];
+ *     bench_make(words, len, 4, 1, 2, 1, 1);
+ *     bench_offer(words, len, 0, 2, 7);
+ *     bench_drain(words, len, 10, ledger, 8, out);
+ *     // out: 3 moves, 1 delivered, BENCH_EMPTIED; BENCH_TAG(ledger[0]) is 7
+ */
+#ifndef BENCH_H
+#define BENCH_H
+
+#include <stddef.h>
+#include <stdint.h>
+
+#ifdef __cplusplus
+extern "C" {
+#endif
+
+/* The words that a network of these sizes needs. */
+#define BENCH_WORDS(x, y, e, a, j) \
+    (8 + (size_t)(x) * (size_t)(y) * (9 + (size_t)(j) + 4 * (size_t)(a) + 4 * (size_t)(e)))
+
+/* The number of words of `out`, call by call. */
+#define BENCH_MOVE_OUT 2
+#define BENCH_CREDIT_OUT 1
+#define BENCH_LOOK_OUT 2
+#define BENCH_FIRST_OUT 4
+#define BENCH_DRAIN_OUT 3
+
+/* The parts of a packet word: the caller's tag, the destination, and the hops
+ * left in x and y, positive for plus. */
+#define BENCH_TAG(word) ((uint32_t)((uint64_t)(word) >> 32))
+#define BENCH_DESTINATION(word) ((uint32_t)((uint64_t)(word) >> 16 & 0xffff))
+#define BENCH_DX(word) ((int)(((uint64_t)(word) >> 8 & 0xff) ^ 0x80) - 0x80)
+#define BENCH_DY(word) ((int)(((uint64_t)(word) & 0xff) ^ 0x80) - 0x80)
+
+/* The refusals. */
+enum {
+    BENCH_SHORT_STORE = 1,    /* fewer than 8 words, or fewer than the sizes need */
+    BENCH_WRONG_SIZE = 2,     /* X, Y, E, A or J out of range */
+    BENCH_NO_NETWORK = 3,     /* the check of the words fails otherwise */
+    BENCH_NO_SUCH_NODE = 4,   /* node or destination not below X * Y */
+    BENCH_NO_SUCH_QUEUE = 5,  /* above 8 */
+    BENCH_NO_SUCH_OUTPUT = 6, /* above 8; for bench_credit also 0 */
+    BENCH_GATE_FULL = 7,      /* the injection queue holds J */
+    BENCH_COUNT_SPENT = 8,    /* 2^32 - 1 packets were accepted */
+    BENCH_NOBODY_THERE = 9,   /* the queue is empty */
+    BENCH_NOT_ITS_WAY = 10,   /* the output is no route of the head */
+    BENCH_NO_SLOT = 11,       /* the target has no free slot */
+    BENCH_NO_BUBBLE = 12      /* two free slots are needed, one is there */
+};
+
+/* Why a drain stopped. */
+enum {
+    BENCH_EMPTIED = 0, /* nothing is held */
+    BENCH_SPENT = 1,   /* something is held, and the budget is used up */
+    BENCH_FULL = 2     /* the next move delivers, and the ledger is full */
+};
+
+/*
+ * Writes an empty network with all counts 0. Tests 2, then 1.
+ */
+uint64_t bench_make(uint64_t *words, size_t len, uint64_t x, uint64_t y, uint64_t e,
+                    uint64_t a, uint64_t j);
+
+/*
+ * Whether the words are a network: 0, or 1, 2, 3. Every call below tests this
+ * first, so it is safe to lend any words to any of them.
+ */
+uint64_t bench_check(const uint64_t *words, size_t len);
+
+/*
+ * Puts a packet at the end of the node's injection queue. It takes the shorter
+ * way in each dimension, and plus where both are equal. Then tests 4, 8, 7.
+ */
+uint64_t bench_offer(uint64_t *words, size_t len, uint64_t node, uint64_t destination,
+                     uint32_t tag);
+
+/*
+ * Moves the head of a queue to an output. Then tests 4, 5, 6, 9, 10, 11, 12.
+ * out[0]: packets handed out, 1 for a delivery (output 0) and else 0.
+ * out[1]: the packet word that was handed out, or 0.
+ */
+uint64_t bench_move(uint64_t *words, size_t len, uint64_t node, uint64_t queue,
+                    uint64_t output, uint64_t out[2]);
+
+/*
+ * The free slots of the queue that an output from 1 to 8 leads to. Then tests
+ * 4, 6.
+ * out[0]: the number of free slots.
+ */
+uint64_t bench_credit(const uint64_t *words, size_t len, uint64_t node, uint64_t output,
+                      uint64_t out[1]);
+
+/*
+ * The packets held in a queue, oldest first, as a part of the words you lent.
+ * Then tests 4, 5.
+ * out[0]: the index in `words` of the first held word; if the queue is empty,
+ *         the index where its first packet would stand.
+ * out[1]: the number held, so that the packets are words[out[0]] to
+ *         words[out[0] + out[1] - 1].
+ */
+uint64_t bench_look(const uint64_t *words, size_t len, uint64_t node, uint64_t queue,
+                    uint64_t out[2]);
+
+/*
+ * The first permitted move in the order node, queue, route.
+ * out[0]: 1 if there is one, which is so whenever a packet is held; else 0.
+ * out[1], out[2], out[3]: its node, queue and output; all 0 if there is none.
+ */
+uint64_t bench_first(const uint64_t *words, size_t len, uint64_t out[4]);
+
+/*
+ * Makes the move that bench_first names, again and again, at most `budget`
+ * times, and writes each delivered word to the next word of the ledger. Later
+ * words of the ledger are untouched.
+ * out[0]: the number of moves made.
+ * out[1]: the number delivered.
+ * out[2]: why it stopped, BENCH_EMPTIED, BENCH_SPENT or BENCH_FULL.
+ */
+uint64_t bench_drain(uint64_t *words, size_t len, uint32_t budget, uint64_t *ledger,
+                     size_t ledger_len, uint64_t out[3]);
+
+#ifdef __cplusplus
+}
+#endif
+
+#endif
