@@ -3,6 +3,7 @@
 // Refusals.antt, Calls.antt).
 pub mod first;
 pub mod flow;
+pub mod moves;
 pub mod refusals;
 pub mod routes;
 

@@ -1,15 +1,13 @@
-// The tests that each call makes after the check, in document 01's order: the number of the first that applies, or 0.
+// The tests that Offer, Credit and Look make after the check, in document 01's order: the number of the first that applies, or 0.
+// Those of Move are in the module `moves`.
 use super::QUEUES;
-use super::flow::flow_rules;
-use super::flow::head;
 use super::flow::held_count;
-use super::routes::is_route;
 use packet::torus::Sizes;
 use packet::torus::nodes;
 use queue::capacity;
 ghost use mathlib.Core.Path.{_≡_};
 ghost use Rattle.network.specs.CheckLaws.{Network};
-ghost use Rattle.network.specs.Refusals.{offerRules, moveRules, creditRules, lookRules};
+ghost use Rattle.network.specs.Refusals.{offerRules, creditRules, lookRules};
 ghost use Rattle.packet.specs.Geometry.{shapeOfSizes, RingsFit};
 
 // The numbers of document 01's table.
@@ -50,29 +48,6 @@ pub fn offer_rules(words: &[u64], s: Sizes, n: u64, destination: u64) -> u64
         return INJECTION_FULL;
     }
     0
-}
-
-pub fn move_rules(words: &[u64], s: Sizes, n: u64, q: u64, o: u64) -> u64
-    requires { ⌜ Network (shapeOfSizes s) (now words) ⌝ }
-    ensures { λ r. ⌜ r ≡ moveRules (shapeOfSizes s) (now (words .entry)) n q o ⌝ }
-{
-    if nodes(s) <= n {
-        return NO_SUCH_NODE;
-    }
-    if QUEUES <= q {
-        return NO_SUCH_QUEUE;
-    }
-    if QUEUES <= o {
-        return NO_SUCH_OUTPUT;
-    }
-    if held_count(words, s, n, q) == 0 {
-        return QUEUE_EMPTY;
-    }
-    let p = head(words, s, n, q);
-    if !is_route(q, p, o) {
-        return NO_ROUTE;
-    }
-    flow_rules(words, s, n, q, o)
 }
 
 pub fn credit_rules(s: Sizes, n: u64, o: u64) -> u64
