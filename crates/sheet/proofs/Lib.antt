@@ -3,3 +3,4 @@ pub mod Numbers
 pub mod Fields
 pub mod Gather
 pub mod Letters
+pub mod Puts

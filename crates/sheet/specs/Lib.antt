@@ -4,4 +4,5 @@ pub mod Lines
 pub mod Commands
 pub mod Reading
 pub mod Output
+pub mod Decimals
 pub mod Examples

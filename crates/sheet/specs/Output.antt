@@ -1,8 +1,9 @@
 -- Document 01, "The bench program": the bytes that are printed. Order: a number; a line of fields; the lines of each answer; where bytes are put.
 -- Assumes nothing.
+use mathlib.Core.Path.{_≡_}
 use mathlib.Core.Bool.{Bool, true, false}
 use mathlib.Core.List.{List, [], _∷_, _++_}
-use Prim.Native.Nat.{ℕ, zero, suc, _+_, _/_, _%_}
+use Prim.Native.Nat.{ℕ, zero, suc, _+_, _/_, _%_, _≤_}
 use Prim.Native.Char.{code}
 use lib.Dec.{ltb}
 use lib.ListN.{length, take, drop}
@@ -67,3 +68,12 @@ drainedLines answer ledger = packetLines (take (drainedDelivered answer) ledger)
 -- `out` with bytes put at a place
 unfoldable pub written : List ℕ → ℕ → List ℕ → List ℕ
 written out at bytes = take at out ++ (bytes ++ drop (at + length bytes) out)
+
+-- there is room for bytes at a place of the buffer
+abbrev pub Room : List ℕ → ℕ → List ℕ → Type 0
+Room out at bytes = at + length bytes ≤ length out
+
+-- what a function that puts bytes at a place leaves in the buffer, and that it answers the place behind them
+pub record Put (before : List ℕ) (at : ℕ) (bytes after : List ℕ) (next : ℕ) : Type 0 where
+  pub leaves : after ≡ written before at bytes
+  pub answers : next ≡ at + length bytes
