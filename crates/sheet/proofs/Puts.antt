@@ -1,14 +1,16 @@
 -- Bytes put into a buffer one after another. Order: lengths; bytes behind bytes; the same of what the writing functions ensure. Assumes nothing.
 use mathlib.Core.Path.{_≡_, refl, ap, ap₂, sym, _∙_}
 use mathlib.Core.List.{List, [], _∷_, _++_, append-nil, append-assoc}
-use Prim.Native.Nat.{ℕ, zero, suc, _+_, _/_, _%_, _<_, _≤_}
+use Prim.Native.Nat.{ℕ, zero, suc, _+_, _*_, _/_, _%_, _^_, _<_, _≤_}
 use native.Mathlib.Nat.{add-zero, add-assoc}
 use native.Mathlib.Numerals.{add-one}
+use native.Mathlib.Decide.{decLt}
 use native.Mathlib.Omega.{arith}
-use lib.ListN.{length, getD, take, drop, set, length-append, length-drop, take-append-drop}
-use lib.Seq.{length-take-le, take-all, take-suc, split-at, take-at, drop-append-add, drop-drop, set-split}
-use Rattle.sheet.specs.Output.{decimal, written, Room, Put}
+use lib.ListN.{length, getD, take, drop, set, length-append, length-take, length-drop, take-append-drop, List·getD-eq-default}
+use lib.Seq.{length-take-le, getD-take, take-all, take-suc, split-at, take-at, drop-append-add, drop-drop, set-split}
+use Rattle.sheet.specs.Output.{decimal, packetLines, written, packetRoom, drainRoom, Room, Put}
 use Rattle.sheet.specs.Decimals.{decimal-one, decimal-more}
+use Rattle.sheet.specs.Lengths.{packets-length}
 
 pub length-written : (out : List ℕ) (at : ℕ) (xs : List ℕ) → Room out at xs → length (written out at xs) ≡ length out
 unfolding written
@@ -52,7 +54,10 @@ unfolding written
 put-one out at b h =
     record { leaves = set-split out at b h ∙ ap (λ n. take at out ++ b ∷ drop n out) (sym (add-one at)); answers = refl }
 
--- there is room for the first bytes, and behind them for the others
+-- there is room for bytes that are at most so many; for the first bytes, and behind them for the others
+pub enough : (out : List ℕ) (at : ℕ) (bytes : List ℕ) (most : ℕ) → length bytes ≤ most → at + most ≤ length out → Room out at bytes
+enough out at bytes most l h = omega arith
+
 pub room-first : (out : List ℕ) (at : ℕ) (xs ys : List ℕ) → Room out at (xs ++ ys) → Room out at xs
 room-first out at xs ys room = let l = length-append xs ys in omega arith
 
@@ -155,3 +160,29 @@ module _ (out : List ℕ) (at : ℕ) (xs ys zs : List ℕ) (room : Room out at (
 
       pub put-three : {out₃ : List ℕ} {at₃ : ℕ} → Put out₂ at₂ zs out₃ at₃ → Put out at (xs ++ (ys ++ zs)) out₃ at₃
       put-three r = put-behind p (put-behind q r second-room) first-room
+
+-- what a Drain prints: the first words of the ledger as packets, then its line
+take-words : (d : ℕ) (l : List ℕ) → ((i : ℕ) → getD l i 0 < 2 ^ 64) → (i : ℕ) → getD (take d l) i 0 < 2 ^ 64
+take-words d l words i = go (decLt i d)
+  where
+    go : Dec (i < d) → getD (take d l) i 0 < 2 ^ 64
+    go (yes h) = rw (getD-take d l i 0 h) (words i)
+    go (no h) = let m = length-take d l in rw (List·getD-eq-default (take d l) 0 {n = i} (omega arith)) (omega arith)
+
+module _ (out : List ℕ) (at : ℕ) (ledger : List ℕ) (d : ℕ) (words : (i : ℕ) → getD ledger i 0 < 2 ^ 64) (within : d ≤ length ledger)
+    (room : at + packetRoom * length ledger + drainRoom ≤ length out) where
+  packets-most : length (packetLines (take d ledger)) ≤ packetRoom * length ledger
+  packets-most =
+      let l = length-take-le d ledger within in
+      let m = packets-length (take d ledger) (take-words d ledger words) in
+      omega arith
+
+  pub packets-room : Room out at (packetLines (take d ledger))
+  packets-room = let m = packets-most in omega arith
+
+  pub drain-room : {out′ : List ℕ} {next : ℕ} → Put out at (packetLines (take d ledger)) out′ next → next + drainRoom ≤ length out′
+  drain-room p =
+      let m = packets-most in
+      let n = p .answers in
+      let l = put-length p packets-room in
+      omega arith

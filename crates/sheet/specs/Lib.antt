@@ -5,4 +5,5 @@ pub mod Commands
 pub mod Reading
 pub mod Output
 pub mod Decimals
+pub mod Lengths
 pub mod Examples

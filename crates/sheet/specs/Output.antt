@@ -69,6 +69,19 @@ drainedLines answer ledger = packetLines (take (drainedDelivered answer) ledger)
 unfoldable pub written : List ℕ → ℕ → List ℕ → List ℕ
 written out at bytes = take at out ++ (bytes ++ drop (at + length bytes) out)
 
+-- room that is enough for each answer, whatever its numbers are: one of 64 bits has at most 20 digits, a tag 10, a destination 5
+abbrev pub answerRoom : ℕ
+answerRoom = 24
+
+abbrev pub packetRoom : ℕ
+packetRoom = 20
+
+abbrev pub movedRoom : ℕ
+movedRoom = 44
+
+abbrev pub drainRoom : ℕ
+drainRoom = 34
+
 -- there is room for bytes at a place of the buffer
 abbrev pub Room : List ℕ → ℕ → List ℕ → Type 0
 Room out at bytes = at + length bytes ≤ length out

@@ -3,11 +3,13 @@
 use network::Drained;
 use network::Moved;
 use network::Stop;
+ghost use mathlib.Core.Path.{_≡_};
 ghost use mathlib.Core.List.{[], _∷_};
-ghost use Prim.Native.Nat.{_≤_};
+ghost use Prim.Native.Nat.{_+_, _*_, _≤_};
 ghost use lib.ListN.{length};
 ghost use Rattle.sheet.specs.Text.{comma, cr, lf};
-ghost use Rattle.sheet.specs.Output.{decimal, fieldsAndEnd, badLine, answerLine, packetLine, packetLines, movedLines, stopWord, drainLine, Room, Put};
+ghost use Rattle.sheet.specs.Output.{decimal, fieldsAndEnd, badLine, answerLine, packetLine, packetLines, movedLines, stopWord, drainLine, drainedLines, answerRoom, packetRoom, movedRoom, drainRoom, Room, Put};
+ghost use Rattle.network.specs.Calls.{drainedDelivered};
 
 // One byte.
 fn put_byte(out: &mut [u8], at: usize, b: u8) -> usize
@@ -33,7 +35,7 @@ fn put_bytes(out: &mut [u8], at: usize, bytes: &[u8]) -> usize
 }
 
 // A number's decimal digits: those of a tenth of it first.
-pub fn put_number(out: &mut [u8], at: usize, n: u64) -> usize
+fn put_number(out: &mut [u8], at: usize, n: u64) -> usize
     requires { ⌜ Room (now out) at (decimal n) ⌝ }
     ensures { λ r. ⌜ Put (now (out .entry)) at (decimal n) (now (out .exit)) r ⌝ }
 {
@@ -71,25 +73,33 @@ fn put_head(out: &mut [u8], at: usize, letter: u8, n: u64) -> usize
     put_field(out, next, n)
 }
 
+// A line of a letter and a number.
+fn put_line(out: &mut [u8], at: usize, letter: u8, n: u64) -> usize
+    requires { ⌜ Room (now out) at (answerLine letter n) ⌝ }
+    ensures { λ r. ⌜ Put (now (out .entry)) at (answerLine letter n) (now (out .exit)) r ⌝ }
+{
+    let next = put_head(out, at, letter, n);
+    put_end(out, next)
+}
+
 // The letter and the refusal, 0 if there is none.
 pub fn put_answer(out: &mut [u8], at: usize, letter: u8, refusal: u64) -> usize
-    requires { ⌜ Room (now out) at (answerLine letter refusal) ⌝ }
+    requires { ⌜ at + answerRoom ≤ length (now out) ⌝ }
     ensures { λ r. ⌜ Put (now (out .entry)) at (answerLine letter refusal) (now (out .exit)) r ⌝ }
 {
-    let next = put_head(out, at, letter, refusal);
-    put_end(out, next)
+    put_line(out, at, letter, refusal)
 }
 
 // The answer to a line that is no command.
 pub fn put_bad(out: &mut [u8], at: usize) -> usize
-    requires { ⌜ Room (now out) at badLine ⌝ }
+    requires { ⌜ at + answerRoom ≤ length (now out) ⌝ }
     ensures { λ r. ⌜ Put (now (out .entry)) at badLine (now (out .exit)) r ⌝ }
 {
     put_answer(out, at, b'?', 13)
 }
 
 // A packet that was delivered, by its word: its tag and its destination.
-pub fn put_packet(out: &mut [u8], at: usize, p: u64) -> usize
+fn put_packet(out: &mut [u8], at: usize, p: u64) -> usize
     requires { ⌜ Room (now out) at (packetLine p) ⌝ }
     ensures { λ r. ⌜ Put (now (out .entry)) at (packetLine p) (now (out .exit)) r ⌝ }
 {
@@ -99,7 +109,7 @@ pub fn put_packet(out: &mut [u8], at: usize, p: u64) -> usize
 }
 
 // The packets that were delivered, in their order.
-pub fn put_packets(out: &mut [u8], at: usize, packets: &[u64]) -> usize
+fn put_packets(out: &mut [u8], at: usize, packets: &[u64]) -> usize
     requires { ⌜ Room (now out) at (packetLines (now packets)) ⌝ }
     ensures { λ r. ⌜ Put (now (out .entry)) at (packetLines (now (packets .entry))) (now (out .exit)) r ⌝ }
 {
@@ -114,15 +124,15 @@ pub fn put_packets(out: &mut [u8], at: usize, packets: &[u64]) -> usize
 
 // What a Move prints.
 pub fn put_moved(out: &mut [u8], at: usize, answer: Moved) -> usize
-    requires { ⌜ Room (now out) at (movedLines answer) ⌝ }
+    requires { ⌜ at + movedRoom ≤ length (now out) ⌝ }
     ensures { λ r. ⌜ Put (now (out .entry)) at (movedLines answer) (now (out .exit)) r ⌝ }
 {
     match answer {
-        Moved::Refused(refusal) => put_answer(out, at, b'M', refusal),
-        Moved::Passed => put_answer(out, at, b'M', 0),
+        Moved::Refused(refusal) => put_line(out, at, b'M', refusal),
+        Moved::Passed => put_line(out, at, b'M', 0),
         Moved::Delivered(p) => {
             let next = put_packet(out, at, p);
-            put_answer(out, next, b'M', 0)
+            put_line(out, next, b'M', 0)
         }
     }
 }
@@ -149,13 +159,13 @@ fn put_last(out: &mut [u8], at: usize, stop: Stop) -> usize
     put_end(out, next)
 }
 
-// The line of a Drain, which comes behind the packets that it delivered. A refused one has no moves and no stop.
-pub fn put_drain(out: &mut [u8], at: usize, answer: Drained) -> usize
-    requires { ⌜ Room (now out) at (drainLine answer) ⌝ }
+// The line of a Drain. A refused one has no moves and no stop.
+fn put_drain(out: &mut [u8], at: usize, answer: Drained) -> usize
+    requires { ⌜ at + drainRoom ≤ length (now out) ⌝ }
     ensures { λ r. ⌜ Put (now (out .entry)) at (drainLine answer) (now (out .exit)) r ⌝ }
 {
     match answer {
-        Drained::Refused(refusal) => put_answer(out, at, b'D', refusal),
+        Drained::Refused(refusal) => put_line(out, at, b'D', refusal),
         Drained::Stopped {
             moves,
             delivered: _,
@@ -166,4 +176,29 @@ pub fn put_drain(out: &mut [u8], at: usize, answer: Drained) -> usize
             put_last(out, next, stop)
         }
     }
+}
+
+// The number of packets that a Drain delivered.
+fn delivered_by(answer: Drained) -> usize
+    ensures { λ r. ⌜ r ≡ drainedDelivered answer ⌝ }
+{
+    match answer {
+        Drained::Refused(_) => 0,
+        Drained::Stopped {
+            moves: _,
+            delivered,
+            stop: _,
+        } => delivered as usize,
+    }
+}
+
+// What a Drain prints: the packets that it delivered, which are the first words of the ledger, then its own line.
+pub fn put_drained(out: &mut [u8], at: usize, answer: Drained, ledger: &[u64]) -> usize
+    requires { ⌜ drainedDelivered answer ≤ length (now ledger) ⌝ }
+    requires { ⌜ at + packetRoom * length (now ledger) + drainRoom ≤ length (now out) ⌝ }
+    ensures { λ r. ⌜ Put (now (out .entry)) at (drainedLines answer (now (ledger .entry))) (now (out .exit)) r ⌝ }
+{
+    let delivered = delivered_by(answer);
+    let next = put_packets(out, at, &ledger[..delivered]);
+    put_drain(out, next, answer)
 }

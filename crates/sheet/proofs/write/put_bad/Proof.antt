@@ -5,8 +5,7 @@ use Rattle.sheet.proofs.write.put_bad.Statement.{statement}
 use Rattle.sheet.proofs.write.put_bad.Tie as tie
 
 put-answer-requires : tie.Need-put-answer-requires
-unfolding badLine answerLine
-put-answer-requires c κs = c .before .before .pre
+put-answer-requires c κs = search needs
 
 same-length : tie.Need-same-length
 same-length c = search needs
