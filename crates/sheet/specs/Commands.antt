@@ -8,7 +8,7 @@ use lib.ListN.{length, getD}
 use Rattle.base.specs.Tests.{allOf}
 use Rattle.sheet.specs.declared.read.Command.{Command}
 use Rattle.sheet.specs.Text.{comma}
-use Rattle.sheet.specs.Lines.{lineLimit}
+use Rattle.sheet.specs.Lines.{lineLimit, Kept, whole, tooLong}
 
 -- "comma-separated lines (RFC 4180, no header, no quotes)": what stands before the first comma, and what stands behind each comma, up to the next.
 -- Without quotes a comma always separates, and every other byte belongs to its field
@@ -64,3 +64,8 @@ wellFormed line = leb (length line) lineLimit && (eqb (length (firstField line))
 -- "Other lines, the empty one and one that is too long included, print ?,13 once each and do nothing."
 unfoldable pub commandOf : List ℕ → Command
 commandOf line = cond (wellFormed line) (commandWith (getD (firstField line) 0 0) (map value (laterFields line))) Command.Bad
+
+-- the command of a line as it is handed on
+unfoldable pub keptCommand : Kept → Command
+keptCommand (whole line) = commandOf line
+keptCommand tooLong = Command.Bad

@@ -1,7 +1,7 @@
 -- Document 01's listing and what it says of other lines, computed from the definitions. Assumes nothing.
 use mathlib.Core.Path.{_≡_, refl}
 use mathlib.Core.Bool.{true, false}
-use mathlib.Core.List.{List, [], _∷_, _++_}
+use mathlib.Core.List.{List, [], _∷_, _++_, map}
 use Prim.Native.Nat.{ℕ, _+_, _*_, _^_}
 use lib.ListN.{replicate}
 use Rattle.base.specs.Tests.{allOf}
@@ -12,7 +12,7 @@ use Rattle.network.specs.Packet.{tag, destination}
 use Rattle.network.specs.Calls.{drainedDelivered}
 use Rattle.sheet.specs.declared.read.Command.{Command}
 use Rattle.sheet.specs.Text.{text}
-use Rattle.sheet.specs.Lines.{withoutCr, lastLine, linesFrom, lines}
+use Rattle.sheet.specs.Lines.{withoutCr, lastLine, linesFrom, lines, Kept, whole, tooLong, kept}
 use Rattle.sheet.specs.Commands.{firstField, laterFields, isDigit, valueFrom, value, noLeadingZero, isNumber, commandWith, wellFormed, commandOf}
 use Rattle.sheet.specs.Output.{decimalWithin, decimal, fieldsAndEnd, line, badLine, answerLine, packetLine, packetLines, movedLines, stopWord, drainLine, drainedLines}
 
@@ -23,6 +23,12 @@ pub record Examples : Type 0 where
       × (lines [] ≡ [])
       × (lines (text "\n\r\n") ≡ [] ∷ [] ∷ [])
       × (lines (text "D\r,1\r\r\nD\r") ≡ text "D\r,1\r" ∷ text "D\r" ∷ [])
+  -- "each at most 64 bytes without its end": 64 and CRLF, 65, 64 with a CR that is not the end's, 65 and CRLF, 65 without an end
+  pub limit : (map kept (lines (replicate 64 48 ++ text "\r\n")) ≡ whole (replicate 64 48) ∷ [])
+      × (map kept (lines (replicate 65 48 ++ text "\n")) ≡ tooLong ∷ [])
+      × (map kept (lines (replicate 64 48 ++ text "\r0\n")) ≡ tooLong ∷ [])
+      × (map kept (lines (replicate 65 48 ++ text "\r\n")) ≡ tooLong ∷ [])
+      × (map kept (lines (replicate 65 48)) ≡ tooLong ∷ [])
   pub listing : (commandOf (text "T,4,1,2,1,1") ≡ Command.Make 4 1 2 1 1)
       × (commandOf (text "O,0,2,7") ≡ Command.Offer 0 2 7)
       × (commandOf (text "M,1,5,0") ≡ Command.Move 1 5 0)
@@ -57,10 +63,11 @@ pub record Examples : Type 0 where
       × (decimal 18446744073709551615 ≡ text "18446744073709551615")
 
 pub examples : Examples
-unfolding allOf tag destination withoutCr lastLine linesFrom lines firstField laterFields isDigit valueFrom value noLeadingZero isNumber commandWith wellFormed commandOf decimalWithin decimal fieldsAndEnd line badLine answerLine packetLine packetLines movedLines stopWord drainLine drainedDelivered drainedLines
+unfolding allOf tag destination withoutCr lastLine linesFrom lines kept firstField laterFields isDigit valueFrom value noLeadingZero isNumber commandWith wellFormed commandOf decimalWithin decimal fieldsAndEnd line badLine answerLine packetLine packetLines movedLines stopWord drainLine drainedDelivered drainedLines
 examples =
     record {
       ends = (refl, refl, refl, refl, refl);
+      limit = (refl, refl, refl, refl, refl);
       listing = (refl, refl, refl, refl);
       numbers = (refl, refl, refl, refl, refl, refl, refl, refl);
       others = (refl, refl, refl, refl, refl, refl, refl, refl, refl, refl);

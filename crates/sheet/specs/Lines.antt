@@ -1,8 +1,10 @@
--- Document 01, "The bench program": the lines of the whole input. Order: the limit; a line's end; the lines. Assumes nothing.
+-- Document 01, "The bench program": the lines of the whole input. Order: the limit; a line's end; the lines; a line
+-- as it is handed on. Assumes nothing.
 use mathlib.Core.Bool.{Bool, true, false, cond}
 use mathlib.Core.List.{List, [], _∷_, _++_}
 use Prim.Native.Nat.{ℕ}
-use lib.Dec.{eqb}
+use lib.Dec.{leb, eqb}
+use lib.ListN.{length}
 use Rattle.sheet.specs.Text.{lf, cr}
 
 -- "each at most 64 bytes without its end"
@@ -27,3 +29,11 @@ linesFrom line (b ∷ bs) = elim (eqb b lf) [ true ↦ withoutCr line ∷ linesF
 
 unfoldable pub lines : List ℕ → List (List ℕ)
 lines input = linesFrom [] input
+
+-- "one that is too long": a line as it is handed on, with its bytes or as too long
+pub data Kept : Type 0 where
+  whole : List ℕ → Kept
+  tooLong : Kept
+
+unfoldable pub kept : List ℕ → Kept
+kept line = cond (leb (length line) lineLimit) (whole line) tooLong
