@@ -3,14 +3,12 @@
 use mathlib.Core.Path.{_≡_, refl, ap, ap₂, sym, _∙_}
 use mathlib.Core.Bool.{Bool, true, false, cond, _&&_, false≢true}
 use mathlib.Core.List.{List, [], _∷_, _++_, map, append-assoc, append-nil}
-use Prim.Native.Nat.{ℕ, zero, suc, _+_, _-_, _<_, _≤_}
-use native.Mathlib.Numerals.{add-one}
+use Prim.Native.Nat.{ℕ, _+_, _-_, _<_, _≤_}
 use native.Mathlib.Omega.{arith}
-use lib.ListN.{length, getD, set, take, drop, length-append, length-map, drop-of-length-le}
+use lib.ListN.{length, set, take, drop, length-append, length-map, drop-of-length-le}
 use lib.Seq.{set-out}
 use Rattle.base.specs.Tests.{allOf}
 use Rattle.sheet.specs.declared.read.Number.{Number}
-use Rattle.sheet.specs.declared.read.Numbers.{Numbers}
 use Rattle.sheet.specs.Commands.{laterFields, isNumber, value}
 use Rattle.sheet.specs.Reading.{numberOf, Separator, firstFive, NumbersOf}
 use Rattle.sheet.proofs.Fields.{endFrom, fieldAt, end-separator, next-field}

@@ -1,8 +1,8 @@
 -- The command of a letter and its numbers, by the tests of `command_with`: the letter, then how many numbers there are. `v` is the first five.
 -- Order: each letter with as many numbers as it takes; each with another number of them; another letter. Assumes nothing.
 use mathlib.Core.Path.{_≡_, refl, ap, sym, _∙_}
-use mathlib.Core.Bool.{Bool, true, false, cond, _&&_, and-false}
-use mathlib.Core.List.{List, [], _∷_, map}
+use mathlib.Core.Bool.{true, false, and-false}
+use mathlib.Core.List.{List, map}
 use Prim.Native.Nat.{ℕ, _+_, _<_, _≤_}
 use native.Mathlib.Omega.{arith}
 use lib.Dec.{leb, eqb}

@@ -24,7 +24,7 @@ laterFields (b ∷ bs) = behind (eqb b comma) (firstField bs) (laterFields bs)
     behind true field fields = field ∷ fields
     behind false field fields = fields
 
--- the number that decimal digits stand for, behind the digits of n
+-- "Numbers on this page are decimal": a digit, and the number that digits stand for where the digits of n stand before them
 unfoldable pub isDigit : ℕ → Bool
 isDigit b = leb (code "0") b && leb b (code "9")
 

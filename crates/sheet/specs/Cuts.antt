@@ -8,14 +8,13 @@ use Prim.Native.Nat.{ℕ, zero, suc, _+_, _-_, _<_, _≤_}
 use native.Mathlib.Decide.{decLe, decLt, ℕ-discrete}
 use native.Mathlib.Numerals.{add-one}
 use native.Mathlib.Omega.{arith}
-use lib.Dec.{leb, ltb, eqb}
+use lib.Dec.{ltb, eqb}
 use lib.ListN.{length, getD, take, set, length-append, length-set}
-use lib.Seq.{length-take-le, take-suc-set, take-append-le, take-take, take-all, getD-take}
+use lib.Seq.{length-take-le, take-suc-set, take-take, getD-take}
 use borrow.Author.Tests.{le-leb, lt-leb, lt-ltb, le-ltb, eq-eqb, ne-eqb}
-use Rattle.sheet.specs.declared.lines.Pending.{Pending}
 use Rattle.sheet.specs.declared.lines.Fed.{Fed}
 use Rattle.sheet.specs.Text.{lf, cr}
-use Rattle.sheet.specs.Lines.{lineLimit, withoutCr, lastLine, linesFrom, lines, Kept, whole, tooLong, kept}
+use Rattle.sheet.specs.Lines.{lineLimit, withoutCr, lastLine, linesFrom, lines, whole, tooLong, kept}
 use Rattle.sheet.specs.Commands.{wellFormed, commandOf, keptCommand}
 use Rattle.sheet.specs.Cutting.{heldBytes, waiting, endedAnswer, fedBuffer, fedAnswer, finishedAnswer, handedOn, pendingAfter, Cutting, feedByte, feedBytes, feedReads, startCutting, finishCutting}
 

@@ -1,6 +1,7 @@
 -- Input cut into lines a byte at a time, as the code does it in bounded memory, and what comes of a whole input that is read in pieces of any size.
 -- That this gives the lines of Lines.antt is the theorem `cut-right` in Cuts.antt. Order: a byte; the end of the input; the lines that come of it.
 -- Assumes nothing.
+use mathlib.Core.Path.{_≡_}
 use mathlib.Core.Bool.{cond}
 use mathlib.Core.List.{List, [], _∷_, _++_}
 use Prim.Native.Nat.{ℕ, _+_, _-_}
@@ -33,6 +34,11 @@ fedBuffer buffer count b = cond (eqb b lf) buffer (cond (ltb count heldBytes) (s
 unfoldable pub fedAnswer : List ℕ → ℕ → ℕ → Fed
 fedAnswer buffer count b =
     cond (eqb b lf) (endedAnswer buffer count) (Fed.More (waiting (cond (ltb count heldBytes) (count + 1) (heldBytes + 1))))
+
+-- what `feed` leaves in the buffer and answers
+pub record Took (before : List ℕ) (count b : ℕ) (after : List ℕ) (answer : Fed) : Type 0 where
+  pub leaves : after ≡ fedBuffer before count b
+  pub answers : answer ≡ fedAnswer before count b
 
 -- the end of the input
 unfoldable pub finishedAnswer : ℕ → Fed

@@ -1,17 +1,14 @@
 -- Laws of decimal digits. Order: a number by its last digit; the digits of a number below a power of ten are few; read as a number, they are that
 -- number again. Assumes nothing.
 use mathlib.Core.Path.{_≡_, refl, ap, sym, _∙_}
-use mathlib.Core.Bool.{Bool, true, false, _&&_}
 use mathlib.Core.List.{List, [], _∷_, _++_}
 use Prim.Native.Nat.{ℕ, zero, suc, _+_, _*_, _-_, _/_, _%_, _^_, _<_, _≤_}
 use native.Mathlib.Nat.{mod-eq-of-lt, pow-suc}
 use native.Mathlib.Decide.{decLt}
 use native.Mathlib.Omega.{arith}
-use lib.Dec.{ltb, leb}
 use lib.ListN.{length, length-append}
-use borrow.Author.Tests.{lt-ltb, le-ltb, le-leb}
-use Rattle.base.specs.Tests.{allOf}
-use Rattle.sheet.specs.Commands.{isDigit, valueFrom, value, noLeadingZero, largestNumber, isNumber}
+use borrow.Author.Tests.{lt-ltb, le-ltb}
+use Rattle.sheet.specs.Commands.{valueFrom, value}
 use Rattle.sheet.specs.Output.{decimalWithin, decimal}
 
 within-one : (k n : ℕ) → n < 10 → decimalWithin (suc k) n ≡ (48 + n) ∷ []

@@ -1,8 +1,7 @@
 -- Document 01's listing and what it says of other lines, computed from the definitions. Assumes nothing.
 use mathlib.Core.Path.{_≡_, refl}
-use mathlib.Core.Bool.{true, false}
-use mathlib.Core.List.{List, [], _∷_, _++_, map}
-use Prim.Native.Nat.{ℕ, _+_, _*_, _^_}
+use mathlib.Core.List.{[], _∷_, _++_, map}
+use Prim.Native.Nat.{_+_, _*_, _^_}
 use lib.ListN.{replicate}
 use Rattle.base.specs.Tests.{allOf}
 use Rattle.network.specs.declared.Moved.{Moved}
@@ -12,9 +11,9 @@ use Rattle.network.specs.Packet.{tag, destination}
 use Rattle.network.specs.Calls.{drainedDelivered}
 use Rattle.sheet.specs.declared.read.Command.{Command}
 use Rattle.sheet.specs.Text.{text}
-use Rattle.sheet.specs.Lines.{withoutCr, lastLine, linesFrom, lines, Kept, whole, tooLong, kept}
+use Rattle.sheet.specs.Lines.{withoutCr, lastLine, linesFrom, lines, whole, tooLong, kept}
 use Rattle.sheet.specs.Commands.{firstField, laterFields, isDigit, valueFrom, value, noLeadingZero, isNumber, commandWith, wellFormed, commandOf}
-use Rattle.sheet.specs.Output.{decimalWithin, decimal, fieldsAndEnd, line, badLine, answerLine, packetLine, packetLines, movedLines, stopWord, drainLine, drainedLines}
+use Rattle.sheet.specs.Output.{decimalWithin, decimal, fieldsAndEnd, line, badLine, answerLine, packetLine, packetLines, movedLines, stopWord, stoppedLine, drainLine, drainedLines}
 
 pub record Examples : Type 0 where
   -- "CRLF or LF"; a last line without an end; nothing after the last end; empty lines; a CR within a line and at the end of the input
@@ -63,7 +62,7 @@ pub record Examples : Type 0 where
       × (decimal 18446744073709551615 ≡ text "18446744073709551615")
 
 pub examples : Examples
-unfolding allOf tag destination withoutCr lastLine linesFrom lines kept firstField laterFields isDigit valueFrom value noLeadingZero isNumber commandWith wellFormed commandOf decimalWithin decimal fieldsAndEnd line badLine answerLine packetLine packetLines movedLines stopWord drainLine drainedDelivered drainedLines
+unfolding allOf tag destination withoutCr lastLine linesFrom lines kept firstField laterFields isDigit valueFrom value noLeadingZero isNumber commandWith wellFormed commandOf decimalWithin decimal fieldsAndEnd line badLine answerLine packetLine packetLines movedLines stopWord stoppedLine drainLine drainedDelivered drainedLines
 examples =
     record {
       ends = (refl, refl, refl, refl, refl);

@@ -1,14 +1,12 @@
 -- How long the lines of an answer are at most, for a caller who lends the buffer. Order: a line of a letter and a number; a packet's; packets'; a
 -- delivery's; a Drain's. Assumes nothing.
-use mathlib.Core.Path.{_≡_, refl, ap, sym, _∙_}
 use mathlib.Core.List.{List, [], _∷_, _++_}
-use Prim.Native.Nat.{ℕ, zero, suc, _+_, _*_, _/_, _%_, _^_, _<_, _≤_}
+use Prim.Native.Nat.{ℕ, suc, _+_, _*_, _/_, _%_, _^_, _<_, _≤_}
 use native.Mathlib.Omega.{arith}
-use lib.ListN.{length, getD, take, length-append}
+use lib.ListN.{length, getD, length-append}
 use Rattle.network.specs.declared.Stop.{Stop}
-use Rattle.network.specs.declared.Drained.{Drained}
 use Rattle.network.specs.Packet.{tag, destination}
-use Rattle.sheet.specs.Output.{decimal, fieldsAndEnd, line, badLine, answerLine, packetLine, packetLines, stopWord, drainLine, answerRoom, packetRoom, movedRoom, drainRoom}
+use Rattle.sheet.specs.Output.{decimal, fieldsAndEnd, line, answerLine, packetLine, packetLines, stopWord, stoppedLine, answerRoom, packetRoom, movedRoom, drainRoom}
 use Rattle.sheet.specs.Decimals.{decimal-length}
 
 pub answer-length : (letter n : ℕ) → n < 2 ^ 64 → length (answerLine letter n) ≤ answerRoom
@@ -45,9 +43,9 @@ stop-length Stop.Emptied = omega arith
 stop-length Stop.Spent = omega arith
 stop-length Stop.Full = omega arith
 
-pub stopped-length : (moves delivered : ℕ) (stop : Stop) → moves < 2 ^ 64 → length (drainLine (Drained.Stopped moves delivered stop)) ≤ drainRoom
-unfolding drainLine line fieldsAndEnd decimal
-stopped-length moves delivered stop h =
+pub stopped-length : (moves : ℕ) (stop : Stop) → moves < 2 ^ 64 → length (stoppedLine moves stop) ≤ drainRoom
+unfolding stoppedLine line fieldsAndEnd
+stopped-length moves stop h =
     let s = stop-length stop in
     let d : length (decimal moves) ≤ 20 = decimal-length 19 moves (omega arith) in
     let z : length (decimal 0) ≤ 1 = decimal-length 0 0 (omega arith) in

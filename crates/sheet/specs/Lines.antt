@@ -1,6 +1,6 @@
 -- Document 01, "The bench program": the lines of the whole input. Order: the limit; a line's end; the lines; a line
 -- as it is handed on. Assumes nothing.
-use mathlib.Core.Bool.{Bool, true, false, cond}
+use mathlib.Core.Bool.{true, false, cond}
 use mathlib.Core.List.{List, [], _∷_, _++_}
 use Prim.Native.Nat.{ℕ}
 use lib.Dec.{leb, eqb}

@@ -1,7 +1,7 @@
 -- Document 01, "The bench program": the bytes that are printed. Order: a number; a line of fields; the lines of each answer; where bytes are put.
 -- Assumes nothing.
 use mathlib.Core.Path.{_≡_}
-use mathlib.Core.Bool.{Bool, true, false}
+use mathlib.Core.Bool.{true, false}
 use mathlib.Core.List.{List, [], _∷_, _++_}
 use Prim.Native.Nat.{ℕ, zero, suc, _+_, _/_, _%_, _≤_}
 use Prim.Native.Char.{code}
@@ -14,8 +14,8 @@ use Rattle.network.specs.Packet.{tag, destination}
 use Rattle.network.specs.Calls.{drainedDelivered}
 use Rattle.sheet.specs.Text.{text, comma, cr, lf}
 
--- "Numbers on this page are decimal", "without leading zeros": the digits of a tenth of the number, if there are any, then the last one. A number
--- has fewer digits than its successor counts
+-- "Numbers on this page are decimal", "without leading zeros": the digits of a tenth of the number, if it has more than one, then the last one.
+-- `digits` bounds how many there are, and n + 1 is always enough
 unfoldable pub decimalWithin : ℕ → ℕ → List ℕ
 decimalWithin zero n = []
 decimalWithin (suc digits) n = elim (ltb n 10) [ true ↦ [] | false ↦ decimalWithin digits (n / 10) ] ++ ((code "0" + n % 10) ∷ [])
@@ -47,20 +47,26 @@ unfoldable pub packetLines : List ℕ → List ℕ
 packetLines [] = []
 packetLines (p ∷ ps) = packetLine p ++ packetLines ps
 
+-- what a Move prints, and below what a Drain prints with its ledger
 unfoldable pub movedLines : Moved → List ℕ
 movedLines (Moved.Refused r) = answerLine (code "M") r
 movedLines Moved.Passed = answerLine (code "M") 0
 movedLines (Moved.Delivered p) = packetLine p ++ answerLine (code "M") 0
 
+-- "why it stopped: emptied .. spent .. full"
 unfoldable pub stopWord : Stop → List ℕ
 stopWord Stop.Emptied = text "emptied"
 stopWord Stop.Spent = text "spent"
 stopWord Stop.Full = text "full"
 
--- "D adds moves and stop", "A refused D prints only the letter and the number."
+-- "D adds moves and stop"
+unfoldable pub stoppedLine : ℕ → Stop → List ℕ
+stoppedLine moves stop = line (text "D") (decimal 0 ∷ decimal moves ∷ stopWord stop ∷ [])
+
+-- "A refused D prints only the letter and the number."
 unfoldable pub drainLine : Drained → List ℕ
 drainLine (Drained.Refused r) = answerLine (code "D") r
-drainLine (Drained.Stopped moves delivered stop) = line (text "D") (decimal 0 ∷ decimal moves ∷ stopWord stop ∷ [])
+drainLine (Drained.Stopped moves delivered stop) = stoppedLine moves stop
 
 unfoldable pub drainedLines : Drained → List ℕ → List ℕ
 drainedLines answer ledger = packetLines (take (drainedDelivered answer) ledger) ++ drainLine answer

@@ -1,10 +1,11 @@
-// Input cut into lines, a byte at a time, so that it does not matter how the bytes come. A buffer that the caller lends holds the
+// Input cut into lines, a byte at a time, so that it does not matter how the bytes come: specs/Cuts.antt proves that the lines
+// are those of the whole input. A buffer that the caller lends holds the
 // bytes since the last end: those of the longest line, and one more, since a CR may belong to the end that is still to come.
 use crate::read::LINE_LIMIT;
 ghost use mathlib.Core.Path.{_≡_};
 ghost use Prim.Native.Nat.{_≤_};
 ghost use lib.ListN.{length};
-ghost use Rattle.sheet.specs.Cutting.{heldBytes, endedAnswer, fedBuffer, fedAnswer, finishedAnswer};
+ghost use Rattle.sheet.specs.Cutting.{heldBytes, endedAnswer, Took, finishedAnswer};
 
 // The bytes that the buffer holds.
 pub const HELD_BYTES: usize = 65;
@@ -48,7 +49,7 @@ fn ended(buf: &[u8], count: usize) -> Fed
 // One byte more. After the end of a line nothing is pending.
 pub fn feed(buf: &mut [u8], pending: Pending, b: u8) -> Fed
     requires { ⌜ heldBytes ≤ length (now buf) ⌝ }
-    ensures { λ r. ⌜ (r ≡ fedAnswer (now (buf .entry)) (pending .count) b) × (now (buf .exit) ≡ fedBuffer (now (buf .entry)) (pending .count) b) ⌝ }
+    ensures { λ r. ⌜ Took (now (buf .entry)) (pending .count) b (now (buf .exit)) r ⌝ }
 {
     let count = pending.count;
     if b == b'\n' {

@@ -8,7 +8,7 @@ ghost use mathlib.Core.List.{[], _∷_};
 ghost use Prim.Native.Nat.{_+_, _*_, _≤_};
 ghost use lib.ListN.{length};
 ghost use Rattle.sheet.specs.Text.{comma, cr, lf};
-ghost use Rattle.sheet.specs.Output.{decimal, fieldsAndEnd, badLine, answerLine, packetLine, packetLines, movedLines, stopWord, drainLine, drainedLines, answerRoom, packetRoom, movedRoom, drainRoom, Room, Put};
+ghost use Rattle.sheet.specs.Output.{decimal, fieldsAndEnd, badLine, answerLine, packetLine, packetLines, movedLines, stopWord, stoppedLine, drainLine, drainedLines, answerRoom, packetRoom, movedRoom, drainRoom, Room, Put};
 ghost use Rattle.network.specs.Calls.{drainedDelivered};
 
 // One byte.
@@ -122,18 +122,24 @@ fn put_packets(out: &mut [u8], at: usize, packets: &[u64]) -> usize
     next
 }
 
+// What a Move that delivers prints.
+fn put_delivery(out: &mut [u8], at: usize, p: u64) -> usize
+    requires { ⌜ at + movedRoom ≤ length (now out) ⌝ }
+    ensures { λ r. ⌜ Put (now (out .entry)) at (movedLines (Moved.Delivered p)) (now (out .exit)) r ⌝ }
+{
+    let next = put_packet(out, at, p);
+    put_line(out, next, b'M', 0)
+}
+
 // What a Move prints.
 pub fn put_moved(out: &mut [u8], at: usize, answer: Moved) -> usize
     requires { ⌜ at + movedRoom ≤ length (now out) ⌝ }
     ensures { λ r. ⌜ Put (now (out .entry)) at (movedLines answer) (now (out .exit)) r ⌝ }
 {
     match answer {
-        Moved::Refused(refusal) => put_line(out, at, b'M', refusal),
-        Moved::Passed => put_line(out, at, b'M', 0),
-        Moved::Delivered(p) => {
-            let next = put_packet(out, at, p);
-            put_line(out, next, b'M', 0)
-        }
+        Moved::Refused(refusal) => put_answer(out, at, b'M', refusal),
+        Moved::Passed => put_answer(out, at, b'M', 0),
+        Moved::Delivered(p) => put_delivery(out, at, p),
     }
 }
 
@@ -159,22 +165,28 @@ fn put_last(out: &mut [u8], at: usize, stop: Stop) -> usize
     put_end(out, next)
 }
 
+// The line of a Drain that was not refused.
+fn put_stopped(out: &mut [u8], at: usize, moves: u64, stop: Stop) -> usize
+    requires { ⌜ at + drainRoom ≤ length (now out) ⌝ }
+    ensures { λ r. ⌜ Put (now (out .entry)) at (stoppedLine moves stop) (now (out .exit)) r ⌝ }
+{
+    let second = put_head(out, at, b'D', 0);
+    let next = put_field(out, second, moves);
+    put_last(out, next, stop)
+}
+
 // The line of a Drain. A refused one has no moves and no stop.
 fn put_drain(out: &mut [u8], at: usize, answer: Drained) -> usize
     requires { ⌜ at + drainRoom ≤ length (now out) ⌝ }
     ensures { λ r. ⌜ Put (now (out .entry)) at (drainLine answer) (now (out .exit)) r ⌝ }
 {
     match answer {
-        Drained::Refused(refusal) => put_line(out, at, b'D', refusal),
+        Drained::Refused(refusal) => put_answer(out, at, b'D', refusal),
         Drained::Stopped {
             moves,
             delivered: _,
             stop,
-        } => {
-            let second = put_head(out, at, b'D', 0);
-            let next = put_field(out, second, moves);
-            put_last(out, next, stop)
-        }
+        } => put_stopped(out, at, moves, stop),
     }
 }
 

@@ -4,8 +4,6 @@ use Rattle.sheet.specs.Cuts.{ended-empty, ended-over, ended-cr, ended-lo
 use borrow.Author.Needs.{needs}
 use Rattle.sheet.proofs.lines.ended.Statement.{statement}
 use Rattle.sheet.proofs.lines.ended.Tie as tie
-use Rattle.sheet.proofs.lines.ended.Reads as reads
-use Rattle.sheet.proofs.lines.ended.Lts as lts
 
 returns : tie.Need-returns
 returns c = sym (ended-empty (c .before .args .buf .now) (c .before .args .count) (c .if1 .taken))
@@ -20,13 +18,22 @@ shared-slice-read-if3 : tie.Need-shared-slice-read-if3
 shared-slice-read-if3 c = search needs
 
 returns-3 : tie.Need-returns-3
-returns-3 c = sym (ended-cr (c .before .before .before .before .args .buf .now) (c .before .before .before .before .args .count) (c .before .before .before .if1 .left) (c .before .before .if2 .left) (c .if3 .taken))
+returns-3 c =
+    let held = c .before .before in
+    let s = held .before .before in
+    sym (ended-cr (s .args .buf .now) (s .args .count) (held .before .if1 .left) (held .if2 .left) (c .if3 .taken))
 
 returns-4 : tie.Need-returns-4
-returns-4 c = sym (ended-long (c .before .before .before .before .before .args .buf .now) (c .before .before .before .before .before .args .count) (c .before .before .before .before .if1 .left) (c .before .before .before .if2 .left) (c .before .if3 .left) (c .if4 .taken))
+returns-4 c =
+    let held = c .before .before .before in
+    let s = held .before .before in
+    sym (ended-long (s .args .buf .now) (s .args .count) (held .before .if1 .left) (held .if2 .left) (c .before .if3 .left) (c .if4 .taken))
 
 returns-5 : tie.Need-returns-5
-returns-5 c = sym (ended-line (c .before .before .before .before .before .args .buf .now) (c .before .before .before .before .before .args .count) (c .before .before .before .before .if1 .left) (c .before .before .before .if2 .left) (c .before .if3 .left) (c .if4 .left))
+returns-5 c =
+    let held = c .before .before .before in
+    let s = held .before .before in
+    sym (ended-line (s .args .buf .now) (s .args .count) (held .before .if1 .left) (held .if2 .left) (c .before .if3 .left) (c .if4 .left))
 
 pub ended-spec : {M : Type 1} → statement M
 ended-spec =

@@ -4,9 +4,6 @@ use Rattle.sheet.specs.Cuts.{fed-end, fed-held, fed-over}
 use borrow.Author.Needs.{needs}
 use Rattle.sheet.proofs.lines.feed.Statement.{statement}
 use Rattle.sheet.proofs.lines.feed.Tie as tie
-use Rattle.sheet.proofs.lines.feed.Reads as reads
-use Rattle.sheet.proofs.lines.feed.Lts as lts
-use Rattle.sheet.proofs.lines.ended.Reads as ended-reads
 
 ended-requires : tie.Need-ended-requires
 ended-requires c κs = search needs
@@ -15,7 +12,10 @@ same-length : tie.Need-same-length
 same-length c = search needs
 
 returns : tie.Need-returns
-returns c = let e = fed-end (c .before .before .before .before .args .buf .now) (c .before .before .before .before .args .pending .count) (c .before .before .before .before .args .b) (c .before .before .if1 .taken) in (c .ended .ensures ∙ sym (e .0), sym (e .1))
+returns c =
+    let s = c .before .before .before .before in
+    let e = fed-end (s .args .buf .now) (s .args .pending .count) (s .args .b) (c .before .before .if1 .taken) in
+    record { leaves = sym (e .1); answers = c .ended .ensures ∙ sym (e .0) }
 
 slice-write-buf : tie.Need-slice-write-buf
 slice-write-buf c = search needs
@@ -27,13 +27,19 @@ same-length-2 : tie.Need-same-length-2
 same-length-2 c = search needs
 
 returns-2 : tie.Need-returns-2
-returns-2 c = let e = fed-held (c .before .before .before .args .buf .now) (c .before .before .before .args .pending .count) (c .before .before .before .args .b) (c .before .if1 .left) (c .if2 .taken) in (sym (e .0), sym (e .1))
+returns-2 c =
+    let s = c .before .before .before in
+    let e = fed-held (s .args .buf .now) (s .args .pending .count) (s .args .b) (c .before .if1 .left) (c .if2 .taken) in
+    record { leaves = sym (e .1); answers = sym (e .0) }
 
 add-t11 : tie.Need-add-t11
 add-t11 c = search needs
 
 returns-3 : tie.Need-returns-3
-returns-3 c = let e = fed-over (c .before .before .before .args .buf .now) (c .before .before .before .args .pending .count) (c .before .before .before .args .b) (c .before .if1 .left) (c .if2 .left) in (sym (e .0), sym (e .1))
+returns-3 c =
+    let s = c .before .before .before in
+    let e = fed-over (s .args .buf .now) (s .args .pending .count) (s .args .b) (c .before .if1 .left) (c .if2 .left) in
+    record { leaves = sym (e .1); answers = sym (e .0) }
 
 pub feed-spec : {M : Type 1} → statement M
 feed-spec =

@@ -3,8 +3,6 @@ use mathlib.Core.Path.{sym}
 use Rattle.sheet.specs.Cuts.{finished-none, finished-long, finished-line}
 use Rattle.sheet.proofs.lines.finish.Statement.{statement}
 use Rattle.sheet.proofs.lines.finish.Tie as tie
-use Rattle.sheet.proofs.lines.finish.Reads as reads
-use Rattle.sheet.proofs.lines.finish.Lts as lts
 
 returns : tie.Need-returns
 returns c = sym (finished-none (c .before .args .pending .count) (c .if1 .taken))

@@ -45,7 +45,9 @@ put-number-put-byte-requires : (t : ℕ) → put-number-lts.Need-put-byte-requir
   put-number-below t,
   put-number.Post,
 ) (put-number-at t) put-number.Post
-put-number-put-byte-requires t c κs = digit-room (c .before .before .before .args .out .now) (c .before .before .before .args .at) (c .before .before .before .args .n) (c .before .before .before .pre .1) (c .before .if1 .taken)
+put-number-put-byte-requires t c κs =
+    let s = c .before .before .before in
+    digit-room (s .args .out .now) (s .args .at) (s .args .n) (s .pre .1) (c .before .if1 .taken)
 
 put-number-same-length : (t : ℕ) → put-number-lts.Need-same-length (
   put-byte-reads.Asked,
@@ -61,7 +63,10 @@ put-number-returns : (t : ℕ) → put-number-lts.Need-returns (
   put-number-below t,
   put-number.Post,
 ) (put-number-at t) put-number.Post
-put-number-returns t c = put-digit (c .before .before .before .before .before .before .args .out .now) (c .before .before .before .before .before .before .args .at) (c .before .before .before .before .before .before .args .n) (c .before .before .before .before .before .before .pre .1) (c .before .before .before .before .if1 .taken) (c .before .before .put-byte .ensures)
+put-number-returns t c =
+    let byte = c .before .before in
+    let s = byte .before .before .before .before in
+    put-digit (s .args .out .now) (s .args .at) (s .args .n) (s .pre .1) (byte .before .before .if1 .taken) (byte .put-byte .ensures)
 
 put-number-put-number-requires : (t : ℕ) → put-number-lts.Need-put-number-requires (
   put-byte-reads.Asked,
@@ -69,7 +74,9 @@ put-number-put-number-requires : (t : ℕ) → put-number-lts.Need-put-number-re
   put-number-below t,
   put-number.Post,
 ) (put-number-at t) put-number.Post
-put-number-put-number-requires t c κs = (omega arith, tenth-room (c .before .before .before .args .out .now) (c .before .before .before .args .at) (c .before .before .before .args .n) (c .before .before .before .pre .1) (c .before .if1 .left))
+put-number-put-number-requires t c κs =
+    let s = c .before .before .before in
+    (omega arith, tenth-room (s .args .out .now) (s .args .at) (s .args .n) (s .pre .1) (c .before .if1 .left))
 
 put-number-cast-put-byte-2 : (t : ℕ) → put-number-lts.Need-cast-put-byte-2 (
   put-byte-reads.Asked,
@@ -93,7 +100,10 @@ put-number-put-byte-requires-2 : (t : ℕ) → put-number-lts.Need-put-byte-requ
   put-number-below t,
   put-number.Post,
 ) (put-number-at t) put-number.Post
-put-number-put-byte-requires-2 t c κs = last-room (c .before .before .before .before .before .before .before .args .out .now) (c .before .before .before .before .before .before .before .args .at) (c .before .before .before .before .before .before .before .args .n) (c .before .before .before .before .before .before .before .pre .1) (c .before .before .before .before .before .if1 .left) (c .before .before .before .put-number .ensures)
+put-number-put-byte-requires-2 t c κs =
+    let tenth = c .before .before .before in
+    let s = tenth .before .before .before .before in
+    last-room (s .args .out .now) (s .args .at) (s .args .n) (s .pre .1) (tenth .before .before .if1 .left) (tenth .put-number .ensures)
 
 put-number-same-length-2 : (t : ℕ) → put-number-lts.Need-same-length-2 (
   put-byte-reads.Asked,
@@ -109,7 +119,11 @@ put-number-returns-2 : (t : ℕ) → put-number-lts.Need-returns-2 (
   put-number-below t,
   put-number.Post,
 ) (put-number-at t) put-number.Post
-put-number-returns-2 t c = put-digits (c .before .before .before .before .before .before .before .before .before .before .args .out .now) (c .before .before .before .before .before .before .before .before .before .before .args .at) (c .before .before .before .before .before .before .before .before .before .before .args .n) (c .before .before .before .before .before .before .before .before .before .before .pre .1) (c .before .before .before .before .before .before .before .before .if1 .left) (c .before .before .before .before .before .before .put-number .ensures) (c .before .before .put-byte2 .ensures)
+put-number-returns-2 t c =
+    let byte = c .before .before in
+    let tenth = byte .before .before .before .before in
+    let s = tenth .before .before .before .before in
+    put-digits (s .args .out .now) (s .args .at) (s .args .n) (s .pre .1) (tenth .before .before .if1 .left) (tenth .put-number .ensures) (byte .put-byte2 .ensures)
 
 pub +put-number-spec : {M : Type 1} → statement M
 +put-number-spec = close μ-put-number λ t. put-number-lts.spec (

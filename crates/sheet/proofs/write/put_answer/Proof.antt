@@ -1,13 +1,17 @@
--- `sheet::write::put_answer` meets its contract. Assumes nothing.
-use Rattle.sheet.proofs.Puts.{enough}
+-- `sheet::write::put_answer` meets its contract: a number of 64 bits has at most 20 digits. Assumes nothing.
+use borrow.Author.Needs.{needs}
 use Rattle.sheet.specs.Output.{answerLine, answerRoom}
 use Rattle.sheet.specs.Lengths.{answer-length}
-use borrow.Author.Needs.{needs}
+use Rattle.sheet.proofs.Puts.{enough}
 use Rattle.sheet.proofs.write.put_answer.Statement.{statement}
 use Rattle.sheet.proofs.write.put_answer.Tie as tie
 
 put-line-requires : tie.Need-put-line-requires
-put-line-requires c κs = enough (c .before .before .args .out .now) (c .before .before .args .at) (answerLine (c .before .before .args .letter) (c .before .before .args .refusal)) answerRoom (answer-length (c .before .before .args .letter) (c .before .before .args .refusal) (c .before .before .fits .refusal .fits)) (c .before .before .pre)
+put-line-requires c κs =
+    let s = c .before .before in
+    enough (s .args .out .now) (s .args .at) (answerLine (s .args .letter) (s .args .refusal)) answerRoom
+    (answer-length (s .args .letter) (s .args .refusal) (s .fits .refusal .fits))
+    (s .pre)
 
 same-length : tie.Need-same-length
 same-length c = search needs

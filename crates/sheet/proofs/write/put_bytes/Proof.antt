@@ -31,7 +31,9 @@ shared-slice-read-put-byte : tie.Need-shared-slice-read-put-byte Inv-loop μ-loo
 shared-slice-read-put-byte c = omega arith
 
 put-byte-requires : tie.Need-put-byte-requires Inv-loop μ-loop
-put-byte-requires c κs = putting-room one every refl behind (c .before .before .before .before .before .before .pre) (c .before .before .before .loop .inv) (c .before .before .loop-test .taken)
+put-byte-requires c κs =
+    let turn = c .before .before in
+    putting-room one every refl behind (turn .before .before .before .before .pre) (turn .before .loop .inv) (turn .loop-test .taken)
 
 add-i : tie.Need-add-i Inv-loop μ-loop
 add-i c = omega arith
@@ -40,13 +42,20 @@ loop-less : tie.Need-loop-less Inv-loop μ-loop
 loop-less c = omega arith
 
 loop-again : tie.Need-loop-again Inv-loop μ-loop
-loop-again c = putting-more one every refl behind (c .before .before .before .before .before .before .before .before .before .pre) (c .before .before .before .before .before .before .loop .inv) (c .before .before .before .before .before .loop-test .taken) (c .before .before .put-byte .ensures)
+loop-again c =
+    let call = c .before .before in
+    let turn = call .before .before .before in
+    putting-more one every refl behind (turn .before .before .before .before .pre) (turn .before .loop .inv) (turn .loop-test .taken) (call .put-byte .ensures)
 
 same-length : tie.Need-same-length Inv-loop μ-loop
-same-length c = put-length (putting-all one every refl behind (c .before .before .before .before .pre) (c .before .loop .inv) (c .loop-test .left)) (c .before .before .before .before .pre)
+same-length c =
+    let s = c .before .before .before .before in
+    put-length (putting-all one every refl behind (s .pre) (c .before .loop .inv) (c .loop-test .left)) (s .pre)
 
 returns : tie.Need-returns Inv-loop μ-loop
-returns c = putting-all one every refl behind (c .before .before .before .before .pre) (c .before .loop .inv) (c .loop-test .left)
+returns c =
+    let s = c .before .before .before .before in
+    putting-all one every refl behind (s .pre) (c .before .loop .inv) (c .loop-test .left)
 
 pub put-bytes-spec : {M : Type 1} → statement M
 put-bytes-spec =

@@ -1,26 +1,34 @@
--- `sheet::write::put_line` meets its contract. A letter and a number, then the end. Assumes nothing.
+-- `sheet::write::put_line` meets its contract: a letter and a number, then the end. Assumes nothing.
 use mathlib.Core.List.{[], _∷_}
-use Rattle.sheet.proofs.Puts.{room-first, room-behind, put-behind}
-use Rattle.sheet.specs.Output.{decimal, answerLine, line, fieldsAndEnd}
-use Rattle.sheet.specs.Text.{comma, cr, lf}
 use borrow.Author.Needs.{needs}
+use Rattle.sheet.specs.Text.{comma, cr, lf}
+use Rattle.sheet.specs.Output.{decimal, fieldsAndEnd, line, answerLine, Room}
+use Rattle.sheet.proofs.Puts.{room-first, room-behind, put-behind}
 use Rattle.sheet.proofs.write.put_line.Statement.{statement}
 use Rattle.sheet.proofs.write.put_line.Tie as tie
 
-put-head-requires : tie.Need-put-head-requires
+room : (s : tie.Start) → Room (s .args .out .now) (s .args .at) (s .args .letter ∷ comma ∷ decimal (s .args .n))
 unfolding answerLine line fieldsAndEnd
-put-head-requires c κs = room-first (c .before .before .args .out .now) (c .before .before .args .at) (c .before .before .args .letter ∷ comma ∷ decimal (c .before .before .args .n)) (cr ∷ lf ∷ []) (c .before .before .pre)
+room s = room-first (s .args .out .now) (s .args .at) (s .args .letter ∷ comma ∷ decimal (s .args .n)) (cr ∷ lf ∷ []) (s .pre)
+
+put-head-requires : tie.Need-put-head-requires
+put-head-requires c κs = room (c .before .before)
 
 put-end-requires : tie.Need-put-end-requires
 unfolding answerLine line fieldsAndEnd
-put-end-requires c κs = room-behind (cr ∷ lf ∷ []) (c .before .before .before .put-head .ensures) (c .before .before .before .before .before .before .pre)
+put-end-requires c κs =
+    let head = c .before .before .before in
+    room-behind (cr ∷ lf ∷ []) (head .put-head .ensures) (head .before .before .before .pre)
 
 same-length : tie.Need-same-length
 same-length c = search needs
 
 returns : tie.Need-returns
 unfolding answerLine line fieldsAndEnd
-returns c = put-behind (c .before .before .before .before .before .before .put-head .ensures) (c .before .before .put-end .ensures) (room-first (c .before .before .before .before .before .before .before .before .before .args .out .now) (c .before .before .before .before .before .before .before .before .before .args .at) (c .before .before .before .before .before .before .before .before .before .args .letter ∷ comma ∷ decimal (c .before .before .before .before .before .before .before .before .before .args .n)) (cr ∷ lf ∷ []) (c .before .before .before .before .before .before .before .before .before .pre))
+returns c =
+    let end = c .before .before in
+    let head = end .before .before .before .before in
+    put-behind (head .put-head .ensures) (end .put-end .ensures) (room (head .before .before .before))
 
 pub put-line-spec : {M : Type 1} → statement M
 put-line-spec = tie.close (tie.spec put-head-requires put-end-requires same-length returns)

@@ -34,7 +34,9 @@ shared-slice-read-put-packet : tie.Need-shared-slice-read-put-packet Inv-loop μ
 shared-slice-read-put-packet c = omega arith
 
 put-packet-requires : tie.Need-put-packet-requires Inv-loop μ-loop
-put-packet-requires c κs = putting-room packetLine packetLines none behind (c .before .before .before .before .before .before .pre) (c .before .before .before .loop .inv) (c .before .before .loop-test .taken)
+put-packet-requires c κs =
+    let turn = c .before .before in
+    putting-room packetLine packetLines none behind (turn .before .before .before .before .pre) (turn .before .loop .inv) (turn .loop-test .taken)
 
 add-i : tie.Need-add-i Inv-loop μ-loop
 add-i c = omega arith
@@ -43,13 +45,20 @@ loop-less : tie.Need-loop-less Inv-loop μ-loop
 loop-less c = omega arith
 
 loop-again : tie.Need-loop-again Inv-loop μ-loop
-loop-again c = putting-more packetLine packetLines none behind (c .before .before .before .before .before .before .before .before .before .pre) (c .before .before .before .before .before .before .loop .inv) (c .before .before .before .before .before .loop-test .taken) (c .before .before .put-packet .ensures)
+loop-again c =
+    let call = c .before .before in
+    let turn = call .before .before .before in
+    putting-more packetLine packetLines none behind (turn .before .before .before .before .pre) (turn .before .loop .inv) (turn .loop-test .taken) (call .put-packet .ensures)
 
 same-length : tie.Need-same-length Inv-loop μ-loop
-same-length c = put-length (putting-all packetLine packetLines none behind (c .before .before .before .before .pre) (c .before .loop .inv) (c .loop-test .left)) (c .before .before .before .before .pre)
+same-length c =
+    let s = c .before .before .before .before in
+    put-length (putting-all packetLine packetLines none behind (s .pre) (c .before .loop .inv) (c .loop-test .left)) (s .pre)
 
 returns : tie.Need-returns Inv-loop μ-loop
-returns c = putting-all packetLine packetLines none behind (c .before .before .before .before .pre) (c .before .loop .inv) (c .loop-test .left)
+returns c =
+    let s = c .before .before .before .before in
+    putting-all packetLine packetLines none behind (s .pre) (c .before .loop .inv) (c .loop-test .left)
 
 pub put-packets-spec : {M : Type 1} → statement M
 put-packets-spec =
