@@ -1,0 +1,74 @@
+-- Document 01's listing and what it says of other lines, computed from the definitions. Assumes nothing.
+use mathlib.Core.Path.{_≡_, refl}
+use mathlib.Core.List.{[], _∷_, _++_, map}
+use Prim.Native.Nat.{_+_, _*_, _^_}
+use lib.ListN.{replicate}
+use Rattle.base.specs.Tests.{allOf}
+use Rattle.network.specs.declared.Moved.{Moved}
+use Rattle.network.specs.declared.Stop.{Stop}
+use Rattle.network.specs.declared.Drained.{Drained}
+use Rattle.network.specs.Packet.{tag, destination}
+use Rattle.network.specs.Calls.{drainedDelivered}
+use Rattle.sheet.specs.declared.read.Command.{Command}
+use Rattle.sheet.specs.Text.{text}
+use Rattle.sheet.specs.Lines.{withoutCr, lastLine, linesFrom, lines, whole, tooLong, kept}
+use Rattle.sheet.specs.Commands.{firstField, laterFields, isDigit, valueFrom, value, noLeadingZero, isNumber, commandWith, wellFormed, commandOf}
+use Rattle.sheet.specs.Output.{decimalWithin, decimal, fieldsAndEnd, line, badLine, answerLine, packetLine, packetLines, movedLines, stopWord, stoppedLine, drainLine, drainedLines}
+
+pub record Examples : Type 0 where
+  -- "CRLF or LF"; a last line without an end; nothing after the last end; empty lines; a CR within a line and at the end of the input
+  pub ends : (lines (text "D,1\r\nD,2\nD,3") ≡ text "D,1" ∷ text "D,2" ∷ text "D,3" ∷ [])
+      × (lines (text "D,1\n") ≡ text "D,1" ∷ [])
+      × (lines [] ≡ [])
+      × (lines (text "\n\r\n") ≡ [] ∷ [] ∷ [])
+      × (lines (text "D\r,1\r\r\nD\r") ≡ text "D\r,1\r" ∷ text "D\r" ∷ [])
+  -- "each at most 64 bytes without its end": 64 and CRLF, 65, 64 with a CR that is not the end's, 65 and CRLF, 65 without an end
+  pub limit : (map kept (lines (replicate 64 48 ++ text "\r\n")) ≡ whole (replicate 64 48) ∷ [])
+      × (map kept (lines (replicate 65 48 ++ text "\n")) ≡ tooLong ∷ [])
+      × (map kept (lines (replicate 64 48 ++ text "\r0\n")) ≡ tooLong ∷ [])
+      × (map kept (lines (replicate 65 48 ++ text "\r\n")) ≡ tooLong ∷ [])
+      × (map kept (lines (replicate 65 48)) ≡ tooLong ∷ [])
+  pub listing : (commandOf (text "T,4,1,2,1,1") ≡ Command.Make 4 1 2 1 1)
+      × (commandOf (text "O,0,2,7") ≡ Command.Offer 0 2 7)
+      × (commandOf (text "M,1,5,0") ≡ Command.Move 1 5 0)
+      × (commandOf (text "D,10") ≡ Command.Drain 10)
+  pub numbers : (commandOf (text "D,4294967295") ≡ Command.Drain 4294967295)
+      × (commandOf (text "D,4294967296") ≡ Command.Bad)
+      × (commandOf (text "D,0") ≡ Command.Drain 0)
+      × (commandOf (text "D,00") ≡ Command.Bad)
+      × (commandOf (text "D,01") ≡ Command.Bad)
+      × (commandOf (text "D,") ≡ Command.Bad)
+      × (commandOf (text "D,+1") ≡ Command.Bad)
+      × (commandOf (text "D, 1") ≡ Command.Bad)
+  pub others : (commandOf [] ≡ Command.Bad)
+      × (commandOf (text "D") ≡ Command.Bad)
+      × (commandOf (text "D,1,") ≡ Command.Bad)
+      × (commandOf (text "D,1,2") ≡ Command.Bad)
+      × (commandOf (text "d,1") ≡ Command.Bad)
+      × (commandOf (text "DD,1") ≡ Command.Bad)
+      × (commandOf (text ",1") ≡ Command.Bad)
+      × (commandOf (text "\"D\",1") ≡ Command.Bad)
+      × (commandOf (text "D,1\r") ≡ Command.Bad)
+      × (commandOf (text "M,0,0") ≡ Command.Bad)
+  pub printed : (answerLine 84 0 ≡ text "T,0\r\n")
+      × (answerLine 79 7 ≡ text "O,7\r\n")
+      × (movedLines (Moved.Refused 10) ≡ text "M,10\r\n")
+      × (movedLines Moved.Passed ≡ text "M,0\r\n")
+      × (movedLines (Moved.Delivered (7 * 2 ^ 32 + 2 * 2 ^ 16)) ≡ text "P,7,2\r\nM,0\r\n")
+      × (drainedLines (Drained.Stopped 2 1 Stop.Emptied) ((7 * 2 ^ 32 + 2 * 2 ^ 16) ∷ 0 ∷ []) ≡ text "P,7,2\r\nD,0,2,emptied\r\n")
+      × (drainedLines (Drained.Stopped 0 0 Stop.Spent) (0 ∷ []) ≡ text "D,0,0,spent\r\n")
+      × (drainedLines (Drained.Refused 3) (0 ∷ []) ≡ text "D,3\r\n")
+      × (badLine ≡ text "?,13\r\n")
+      × (decimal 18446744073709551615 ≡ text "18446744073709551615")
+
+pub examples : Examples
+unfolding allOf tag destination withoutCr lastLine linesFrom lines kept firstField laterFields isDigit valueFrom value noLeadingZero isNumber commandWith wellFormed commandOf decimalWithin decimal fieldsAndEnd line badLine answerLine packetLine packetLines movedLines stopWord stoppedLine drainLine drainedDelivered drainedLines
+examples =
+    record {
+      ends = (refl, refl, refl, refl, refl);
+      limit = (refl, refl, refl, refl, refl);
+      listing = (refl, refl, refl, refl);
+      numbers = (refl, refl, refl, refl, refl, refl, refl, refl);
+      others = (refl, refl, refl, refl, refl, refl, refl, refl, refl, refl);
+      printed = (refl, refl, refl, refl, refl, refl, refl, refl, refl, refl);
+    }
