@@ -153,7 +153,7 @@ rows s r =
       of =
           λ n h.
           let o = mul-one (coordinate (shapeOfSizes s) 0 n) in
-          let e = node-is s n (coordinate (shapeOfSizes s) 0 n) (coordinate (shapeOfSizes s) 1 n) r h refl refl in
+          let e = node-is {s = s} {x = coordinate (shapeOfSizes s) 0 n} {y = coordinate (shapeOfSizes s) 1 n} n r h refl refl in
           let c = coordinate-lt (shapeOfSizes s) 1 n (rings-torus s r) (omega arith) in
           let z = size-y s 1 refl in
           (coordinate (shapeOfSizes s) 1 n, omega arith, omega arith);
@@ -175,7 +175,7 @@ columns s r =
       of =
           λ n h.
           let o = mul-one (coordinate (shapeOfSizes s) 0 n) in
-          let e = node-is s n (coordinate (shapeOfSizes s) 0 n) (coordinate (shapeOfSizes s) 1 n) r h refl refl in
+          let e = node-is {s = s} {x = coordinate (shapeOfSizes s) 0 n} {y = coordinate (shapeOfSizes s) 1 n} n r h refl refl in
           let c = coordinate-lt (shapeOfSizes s) 0 n (rings-torus s r) (omega arith) in
           let z = size-x s 0 refl in
           (coordinate (shapeOfSizes s) 0 n, omega arith, omega arith);

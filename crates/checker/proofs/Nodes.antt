@@ -37,7 +37,7 @@ module _ (s : Sizes) (x y : ℕ) (on : OnTorus s x y) where
       → column ≡ (x + (a * 1 + b * (s .x - 1))) % s .x → row ≡ (y + (c * 1 + d * (s .y - 1))) % s .y
       → row * s .x + column ≡ movedBy (shapeOfSizes s) p (nodeAt s x y)
   led p a b c d column row ea eb ec ed e f =
-      node-is s (movedBy (shapeOfSizes s) p (nodeAt s x y)) column row (on .rings)
+      node-is {s = s} {x = column} {y = row} (movedBy (shapeOfSizes s) p (nodeAt s x y)) (on .rings)
       (movedBy-lt (shapeOfSizes s) (nodeAt s x y) p (rings-torus s (on .rings)) node-lt)
       (at 0 x (s .x) a b column (omega arith) column-is (size-x s 0 refl) ea eb e)
       (at 1 y (s .y) c d row (omega arith) row-is (size-y s 1 refl) ec ed f)
