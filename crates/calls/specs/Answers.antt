@@ -1,23 +1,27 @@
 -- What each call answers and leaves, test by test: the definitions of Calls.antt at each place where the code returns. `S` are the sizes that the code
 -- has read from the words. Order: Make; Offer; Move; Credit; Look; First; Drain. Assumes nothing.
-use mathlib.Core.Path.{_≡_, refl, ap, sym, _∙_, subst}
+use mathlib.Core.Path.{_≡_, refl, ap, ap₂, sym, _∙_, subst}
 use mathlib.Core.Logic.{_≢_}
-use mathlib.Core.Bool.{Bool, true, false, cond, not}
+use mathlib.Core.Bool.{Bool, true, false, cond, not, _||_}
 use mathlib.Core.List.{List, [], _∷_, _++_, map}
-use Prim.Native.Nat.{ℕ, _<_, _≤_}
-use borrow.Author.Tests.{eq-eqb, ne-eqb, lt-ltb, le-ltb}
-use lib.Dec.{eqb}
-use lib.ListN.{length, drop}
+use Prim.Native.Nat.{ℕ, zero, suc, _+_, _*_, _-_, _<_, _≤_}
+use native.Mathlib.Omega.{arith}
+use borrow.Author.Tests.{eq-eqb, ne-eqb, lt-ltb, le-ltb, leb-false, eqb-false}
+use lib.Dec.{eqb, leb}
+use lib.ListN.{length, take, drop}
+use lib.Seq.{take-take, drop-drop}
 use Rattle.network.specs.declared.Moved.{Moved}
 use Rattle.network.specs.declared.Credit.{Credit}
 use Rattle.network.specs.declared.Found.{Found}
 use Rattle.network.specs.declared.Drained.{Drained}
 use Rattle.network.specs.declared.Stop.{Stop}
-use Rattle.network.specs.Sizes.{Shape, sizesInRange}
-use Rattle.network.specs.Layout.{shape, need, held}
+use Rattle.network.specs.Sizes.{Shape, sizesInRange, nodes, queues, capacity}
+use Rattle.network.specs.Layout.{shape, nodeWords, need, queueStart, queueEnd, queueLength, queuePart, countOf, packetsOf, held}
+use Rattle.network.specs.LayoutLaws.{Fits, length-queuePart, length-packetsOf, end-length}
+use Rattle.network.specs.CheckLaws.{Network, QueueFits}
 use Rattle.network.specs.Routes.{deliver, freeSlots}
 use Rattle.network.specs.Refusals.{networkRefusal, makeRefusal, offerRules, offerRefusal, moveRules, moveRefusal, creditRules, creditRefusal, lookRules, lookRefusal, head, elseBy}
-use Rattle.network.specs.RefusalLaws.{elseBy-zero, elseBy-first}
+use Rattle.network.specs.RefusalLaws.{elseBy-zero, elseBy-first, neither, not-refused, network-passed}
 use Rattle.network.specs.Calls.{Delivery, Progress, emptyNetwork, makeWords, afterOffer, offerWords, afterMove, moveWords, moveAnswer, creditAnswer, lookPart, firstMove, firstAnswer, drainFrom, drained, drainWords, drainLedger, drainAnswer}
 
 -- an answer, and the words that are left
@@ -171,3 +175,107 @@ drain-done S w budget ledger v written ds m why z e r x =
     let whole : drainFrom (shape w) budget (length ledger) w ≡ record { words = v; deliveries = ds; moves = m; stop = why } =
     ap (λ (T : Shape). drainFrom T budget (length ledger) w) (sym e) ∙ r in
     record { says = rw (eq-eqb (networkRefusal w) 0 z, whole); leaves = rw (eq-eqb (networkRefusal w) 0 z, whole); writes = rw (eq-eqb (networkRefusal w) 0 z, whole) x }
+
+-- what the code has shown where it goes on ----------------------------------------------------------------------------------------------
+
+pub still-broken : (w : List ℕ) (r : ℕ) → r ≡ networkRefusal w → r ≢ 0 → networkRefusal w ≢ 0
+still-broken w r e ne z = ne (e ∙ z)
+
+pub sound : (S : Shape) (w : List ℕ) (r : ℕ) → r ≡ networkRefusal w → r ≡ 0 → S ≡ shape w → Network S w
+sound S w r e z s = subst (λ (T : Shape). Network T w) (sym s) (network-passed w (sym e ∙ z))
+
+pub long-enough : (w : List ℕ) (r : ℕ) → r ≡ networkRefusal w → r ≡ 0 → 8 ≤ length w
+unfolding need
+long-enough w r e z =
+    let l : 8 + nodes (shape w) * nodeWords (shape w) ≤ length w = network-passed w (sym e ∙ z) .long in
+    omega arith
+
+pub credit-place : (S : Shape) (n o : ℕ) → creditRules S n o ≡ 0 → (n < nodes S) × (0 < o) × (o < queues)
+unfolding creditRules
+credit-place S n o e =
+    let (a, e₁) = not-refused (leb (nodes S) n) 3 _ e in
+    let (b, e₂) = not-refused (eqb o deliver || leb queues o) 5 _ e₁ in
+    (leb-false (nodes S) n a, positive o (eqb-false o deliver (neither-l (eqb o deliver) (leb queues o) b)), leb-false queues o (neither-r (eqb o deliver) (leb queues o) b))
+  where
+    neither-l : (x y : Bool) → (x || y) ≡ false → x ≡ false
+    neither-l true y z = z
+    neither-l false y z = refl
+
+    neither-r : (x y : Bool) → (x || y) ≡ false → y ≡ false
+    neither-r true y z = absurd (mathlib.Core.Bool.true≢false z)
+    neither-r false y z = z
+
+    positive : (k : ℕ) → (k ≡ 0 → ⊥) → 0 < k
+    positive k ne = omega arith
+
+pub look-place : (S : Shape) (n q : ℕ) → lookRules S n q ≡ 0 → (n < nodes S) × (q < queues)
+unfolding lookRules
+look-place S n q e =
+    let (a, e₁) = not-refused (leb (nodes S) n) 3 _ e in
+    let (b, e₂) = not-refused (leb queues q) 4 _ e₁ in
+    (leb-false (nodes S) n a, leb-false queues q b)
+
+-- a Look that is not refused: the words are a network, and node and queue are there
+pub record Looking (S : Shape) (w : List ℕ) (n q : ℕ) : Type 0 where
+  pub network : Network S w
+  pub node : n < nodes S
+  pub queue : q < queues
+
+pub looking : (S : Shape) (w : List ℕ) (n q r : ℕ) → r ≡ lookRefusal w n q → r ≡ 0 → S ≡ shape w → Looking S w n q
+unfolding lookRefusal
+looking S w n q r e z s =
+    let (a, b) = neither (networkRefusal w) (lookRules (shape w) n q) (sym e ∙ z) in
+    let (hn, hq) = look-place (shape w) n q b in
+    record {
+      network = subst (λ (T : Shape). Network T w) (sym s) (network-passed w a);
+      node = subst (λ (T : Shape). n < nodes T) (sym s) hn;
+      queue = hq;
+    }
+
+pub looking-long : (w : List ℕ) (n q r : ℕ) → r ≡ lookRefusal w n q → r ≡ 0 → 8 ≤ length w
+unfolding lookRefusal
+looking-long w n q r e z = long-enough w (networkRefusal w) refl (neither (networkRefusal w) (lookRules (shape w) n q) (sym e ∙ z) .0)
+
+-- a part of a part
+part-of : (start count a b c : ℕ) (w : List ℕ) → start ≡ a → count ≡ b → b ≤ c - 1
+    → take (start + 1 + count - (start + 1)) (drop (start + 1) w) ≡ take b (drop 1 (take (a + c - a) (drop a w)))
+part-of start count a b c w es ec h =
+    let n : start + 1 + count - (start + 1) ≡ b = omega arith in
+    let m : a + c - a ≡ c = omega arith in
+    ap₂ (λ (x y : ℕ). take x (drop y w)) n (ap (λ (x : ℕ). x + 1) es)
+    ∙ ap (take b) (sym (drop-drop 1 a w))
+    ∙ sym (take-inside b c (drop a w) h)
+    ∙ ap (λ (x : ℕ). take b (drop 1 (take x (drop a w)))) (sym m)
+  where
+    take-inside : (b c : ℕ) (l : List ℕ) → b ≤ c - 1 → take b (drop 1 (take c l)) ≡ take b (drop 1 l)
+    take-inside b zero l h = nothing b (omega arith)
+      where
+        nothing : (b : ℕ) → b ≡ 0 → take b (drop 1 (take 0 l)) ≡ take b (drop 1 l)
+        nothing b z = rw z
+    take-inside b (suc c) [] h = refl
+    take-inside b (suc c) (x ∷ l) h = take-take b c l (omega arith)
+
+-- the held words of a queue as a part of the words
+pub held-part : (S : Shape) (w : List ℕ) (n q start count : ℕ) → Looking S w n q → start ≡ queueStart S n q → count ≡ length (held S w n q)
+    → take (start + 1 + count - (start + 1)) (drop (start + 1) w) ≡ held S w n q
+unfolding held packetsOf queuePart queueLength queueEnd
+held-part S w n q start count k es ec =
+    let fits : Fits S w n q = record { node = k .node; queue = k .queue; long = k .network .long } in
+    let f : QueueFits S w n q = k .network .queue n q (k .node) (k .queue) in
+    let l : length (queuePart S w n q) ≡ 1 + capacity S q = length-queuePart S w n q fits in
+    let c : length (packetsOf (queuePart S w n q)) ≡ countOf (queuePart S w n q) = length-packetsOf (capacity S q) (queuePart S w n q) l (f .few) in
+    part-of start count (queueStart S n q) (countOf (queuePart S w n q)) (1 + capacity S q) w es (ec ∙ c) (within (countOf (queuePart S w n q)) (capacity S q) (f .few))
+  where
+    within : (x k : ℕ) → x ≤ k → x ≤ 1 + k - 1
+    within x k h = omega arith
+
+pub held-end : (S : Shape) (w : List ℕ) (n q start count : ℕ) → Looking S w n q → start ≡ queueStart S n q → count ≡ length (held S w n q) → start + 1 + count ≤ length w
+unfolding held queueLength queueEnd
+held-end S w n q start count k es ec =
+    let fits : Fits S w n q = record { node = k .node; queue = k .queue; long = k .network .long } in
+    let f : QueueFits S w n q = k .network .queue n q (k .node) (k .queue) in
+    let l : length (queuePart S w n q) ≡ 1 + capacity S q = length-queuePart S w n q fits in
+    let c : length (packetsOf (queuePart S w n q)) ≡ countOf (queuePart S w n q) = length-packetsOf (capacity S q) (queuePart S w n q) l (f .few) in
+    let few : countOf (queuePart S w n q) ≤ capacity S q = f .few in
+    let e : queueStart S n q + (1 + capacity S q) ≤ length w = end-length S w n q fits in
+    omega arith

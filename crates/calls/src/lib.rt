@@ -1,1 +1,150 @@
+// The calls of document 01 on lent words. Each does its own checking: it refuses by the number of the first rule that applies, and
+// then has written nothing; else its answer and every word are what the definitions of the crate `network` say (specs/Calls.antt). All
+// tests come first, then one change that cannot fail. No call asks anything of its caller.
 pub mod turns;
+
+use network::Credit;
+use network::Drained;
+use network::Found;
+use network::Moved;
+use packet::torus::Sizes;
+ghost use mathlib.Core.Path.{_≡_};
+ghost use lib.ListN.{length};
+ghost use Rattle.network.specs.Refusals.{networkRefusal, makeRefusal, offerRefusal, lookRefusal};
+ghost use Rattle.network.specs.Calls.{shapeOf, makeWords, offerWords, moveWords, moveAnswer, creditAnswer, lookPart, firstAnswer, drainWords, drainLedger, drainAnswer};
+
+// Make: writes an empty network of these sizes, all counts 0.
+pub fn make(words: &mut [u64], x: u64, y: u64, e: u64, a: u64, j: u64) -> u64
+    ensures answer { λ r. ⌜ r ≡ makeRefusal (shapeOf x y e a j) (now (words .entry)) ⌝ }
+    ensures words { λ _. ⌜ now (words .exit) ≡ makeWords (shapeOf x y e a j) (now (words .entry)) ⌝ }
+{
+    let s = Sizes {
+        x: x,
+        y: y,
+        escape: e,
+        adaptive: a,
+        injection: j,
+    };
+    if !checker::in_range(s) {
+        return 2;
+    }
+    if words.len() < queue::need(x, y, e, a, j) {
+        return 1;
+    }
+    changes::write_empty(words, s);
+    0
+}
+
+// Check: 0 or the refusal.
+pub fn check(words: &[u64]) -> u64
+    ensures { λ r. ⌜ r ≡ networkRefusal (now (words .entry)) ⌝ }
+{
+    checker::network_refusal(words)
+}
+
+// Offer: the packet goes to the end of the node's injection queue and accepted rises by one.
+pub fn offer(words: &mut [u64], node: u64, destination: u64, tag: u32) -> u64
+    ensures answer { λ r. ⌜ r ≡ offerRefusal (now (words .entry)) node destination ⌝ }
+    ensures words { λ _. ⌜ now (words .exit) ≡ offerWords (now (words .entry)) node destination tag ⌝ }
+{
+    let broken = checker::network_refusal(words);
+    if broken != 0 {
+        return broken;
+    }
+    let s = checker::sizes_of(words);
+    let refusal = rules::refusals::offer_rules(words, s, node, destination);
+    if refusal != 0 {
+        return refusal;
+    }
+    changes::accept(words, s, node, destination, tag);
+    0
+}
+
+// Move: the head of a queue goes to the target that the output names, or is delivered by output 0.
+pub fn move_packet(words: &mut [u64], node: u64, queue: u64, output: u64) -> Moved
+    ensures answer { λ r. ⌜ r ≡ moveAnswer (now (words .entry)) node queue output ⌝ }
+    ensures words { λ _. ⌜ now (words .exit) ≡ moveWords (now (words .entry)) node queue output ⌝ }
+{
+    let broken = checker::network_refusal(words);
+    if broken != 0 {
+        return Moved::Refused(broken);
+    }
+    let s = checker::sizes_of(words);
+    let refusal = rules::moves::move_rules(words, s, node, queue, output);
+    if refusal != 0 {
+        return Moved::Refused(refusal);
+    }
+    let p = changes::make_move(words, s, node, queue, output);
+    if output == 0 {
+        return Moved::Delivered(p);
+    }
+    Moved::Passed
+}
+
+// Credit: the free slots of the target that the output names.
+pub fn credit(words: &[u64], node: u64, output: u64) -> Credit
+    ensures { λ r. ⌜ r ≡ creditAnswer (now (words .entry)) node output ⌝ }
+{
+    let broken = checker::network_refusal(words);
+    if broken != 0 {
+        return Credit::Refused(broken);
+    }
+    let s = checker::sizes_of(words);
+    let refusal = rules::refusals::credit_rules(s, node, output);
+    if refusal != 0 {
+        return Credit::Refused(refusal);
+    }
+    Credit::Free(rules::flow::free_slots(words, s, node, output))
+}
+
+// Look's companion: the refusal's number, 0 if there is none.
+pub fn look_refusal(words: &[u64], node: u64, queue: u64) -> u64
+    ensures { λ r. ⌜ r ≡ lookRefusal (now (words .entry)) node queue ⌝ }
+{
+    let broken = checker::network_refusal(words);
+    if broken != 0 {
+        return broken;
+    }
+    rules::refusals::look_rules(checker::sizes_of(words), node, queue)
+}
+
+// Look: the held words of a queue, as the part of the lent words where they stand; an empty part on a refusal.
+pub fn look(words: &[u64], node: u64, queue: u64) -> &[u64]
+    ensures { λ r. ⌜ now r ≡ lookPart (now (words .entry)) node queue ⌝ }
+{
+    if look_refusal(words, node, queue) != 0 {
+        return &words[0..0];
+    }
+    let s = checker::sizes_of(words);
+    let start = queue::queue_start(s.escape, s.adaptive, s.injection, node, queue);
+    let count = rules::flow::held_count(words, s, node, queue);
+    let from = start + 1;
+    let to = from + count as usize;
+    &words[from..to]
+}
+
+// First: the first permitted move in the order node, queue, route; or none.
+pub fn first(words: &[u64]) -> Found
+    ensures { λ r. ⌜ r ≡ firstAnswer (now (words .entry)) ⌝ }
+{
+    let broken = checker::network_refusal(words);
+    if broken != 0 {
+        return Found::Refused(broken);
+    }
+    rules::first::first_move(words, checker::sizes_of(words))
+}
+
+// Drain: First's move again and again, each delivered word to the next word of the ledger, until nothing is held, or the budget is
+// used, or the next move delivers and no ledger word is left. The words are checked once.
+pub fn drain(words: &mut [u64], budget: u32, ledger: &mut [u64]) -> Drained
+    ensures answer { λ r. ⌜ r ≡ drainAnswer (now (words .entry)) budget (length (now (ledger .entry))) ⌝ }
+    ensures words { λ _. ⌜ now (words .exit) ≡ drainWords (now (words .entry)) budget (length (now (ledger .entry))) ⌝ }
+    ensures ledger { λ _. ⌜ now (ledger .exit) ≡ drainLedger (now (words .entry)) budget (now (ledger .entry)) ⌝ }
+{
+    let broken = checker::network_refusal(words);
+    if broken != 0 {
+        return Drained::Refused(broken);
+    }
+    let s = checker::sizes_of(words);
+    turns::drain_network(words, s, budget, ledger)
+}
