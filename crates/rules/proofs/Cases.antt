@@ -1,22 +1,22 @@
 -- The routes of a head by cases: which offsets are 0, and which dimension is the incoming one. Order: the headings of two dimensions; the
 -- routes; they are outputs; as the code has them; a list searched from the front. Assumes nothing.
-use mathlib.Core.Path.{_≡_, refl, ap, ap₂, sym, _∙_}
-use mathlib.Core.Bool.{Bool, true, false, cond, _||_}
+use mathlib.Core.Path.{_≡_, ap, ap₂, sym, _∙_}
+use mathlib.Core.Bool.{true, false, cond, _||_}
 use mathlib.Core.List.{List, [], _∷_, _++_, map}
 use mathlib.Core.Logic.{_⊎_, inl, inr, _≢_}
-use Prim.Native.Nat.{ℕ, zero, suc, _+_, _<_, _≤_}
+use Prim.Native.Nat.{ℕ, suc, _+_, _<_}
 use native.Mathlib.Numerals.{add-one}
 use native.Mathlib.Decide.{ℕ-discrete}
 use native.Mathlib.Omega.{arith}
 use borrow.Author.Tests.{eq-eqb, ne-eqb}
-use lib.Dec.{T, eqb}
+use lib.Dec.{T}
 use lib.ListN.{length, getD, take, drop}
 use lib.Seq.{drop-cons, drop-length, length-take-le, getD-take}
 use Rattle.base.specs.Sums.{sumBelow}
 use Rattle.base.specs.Tests.{elem}
 use Rattle.network.specs.Sizes.{queues, adaptiveQueue, escapeQueue, dimensions}
 use Rattle.network.specs.Packet.{distance, heading, hopsLeft}
-use Rattle.network.specs.PacketLaws.{heading-lt}
+use Rattle.network.specs.PacketLaws.{heading-lt, distance-le-hopsLeft}
 use Rattle.network.specs.Routes.{inOrder, without, incoming, incomingFirst, headings, routes, deliver}
 use Rattle.network.specs.RoutesLaws.{Onward, route-of, incoming-lt}
 use Rattle.rules.specs.declared.routes.HeadRoutes.{HeadRoutes}
@@ -72,7 +72,7 @@ unfolding routes
 onward q p ne = rw (ne-eqb (hopsLeft p) 0 ne)
 
 some : (i p : ℕ) → i < dimensions → distance i p ≢ 0 → hopsLeft p ≢ 0
-some i p h ne z = ne (let l = Rattle.network.specs.PacketLaws.distance-le-hopsLeft i p h in omega arith)
+some i p h ne z = ne (let l = distance-le-hopsLeft i p h in omega arith)
 
 pub by-both-x : (q p : ℕ) → distance 0 p ≢ 0 → distance 1 p ≢ 0 → incoming q ≡ 0
     → routes q p ≡ adaptiveQueue (heading 0 p) ∷ adaptiveQueue (heading 1 p) ∷ escapeQueue (heading 0 p) ∷ []

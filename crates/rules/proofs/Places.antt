@@ -5,16 +5,15 @@ use mathlib.Core.List.{List}
 use Prim.Native.Nat.{ℕ, _+_, _-_, _<_, _≤_}
 use native.Mathlib.Nat.{add-zero}
 use native.Mathlib.Omega.{arith}
-use lib.ListN.{length, getD, take, drop}
+use lib.ListN.{length, getD, drop}
 use lib.Seq.{getD-take, getD-drop}
-use Rattle.base.specs.Parts.{span, getD-span}
+use Rattle.base.specs.Parts.{getD-span}
 use Rattle.network.specs.Sizes.{Shape, nodes, queues, capacity}
 use Rattle.network.specs.SizesLaws.{range-of, capacity-pos}
 use Rattle.network.specs.Layout.{queueStart, queueEnd, queueLength, queuePart, countOf, packetsOf, held}
 use Rattle.network.specs.LayoutLaws.{end-start, end-length}
 use Rattle.network.specs.CheckLaws.{Network}
 use Rattle.network.specs.Refusals.{head}
-use Rattle.network.specs.Calls.{shapeOf}
 use Rattle.packet.specs.Geometry.{shapeOfSizes}
 use Rattle.packet.specs.declared.torus.Sizes.{Sizes}
 use Rattle.queue.specs.Queue.{Checked}

@@ -2,14 +2,14 @@
 -- Order: numbers searched in order; the routes of a head; a queue as the code reads it; the invariants of the three loops.
 -- Assumes nothing.
 use mathlib.Core.Path.{_≡_, refl, ap, sym, _∙_, subst}
-use mathlib.Core.Bool.{Bool, true, false, cond}
+use mathlib.Core.Bool.{Bool, false, cond}
 use mathlib.Core.List.{List, [], _∷_}
-use mathlib.Core.Logic.{_⊎_, inl, inr, _≢_}
+use mathlib.Core.Logic.{_≢_}
 use Prim.Native.Nat.{ℕ, zero, suc, _+_, _*_, _-_, _<_, _≤_}
-use native.Mathlib.Nat.{suc-mul, zero-mul}
+use native.Mathlib.Nat.{suc-mul, zero-mul, not-suc-le-zero, le-of-suc-le-suc, pos-of-ne-zero}
 use native.Mathlib.Numerals.{add-one}
 use native.Mathlib.Omega.{arith}
-use borrow.Author.Tests.{eq-eqb, ne-eqb, lt-leb}
+use borrow.Author.Tests.{eq-eqb, ne-eqb}
 use lib.Dec.{T, eqb, eqb-refl}
 use lib.ListN.{length, getD, drop}
 use lib.Seq.{drop-cons, drop-length}
@@ -21,7 +21,7 @@ use Rattle.network.specs.Layout.{nodeWords, queueStart, queueEnd, queueLength, 
 use Rattle.network.specs.LayoutLaws.{end-next, node-words}
 use Rattle.network.specs.Routes.{routes}
 use Rattle.network.specs.Refusals.{head, flowRules, moveRules}
-use Rattle.network.specs.RefusalLaws.{Permitted, permitted-of, permitted-by, flow-of, flow-by}
+use Rattle.network.specs.RefusalLaws.{permitted-of, permitted-by, flow-of, flow-by}
 use Rattle.network.specs.Calls.{firstOutput, firstInQueue, orElse, search, firstInNode, firstMove}
 use Rattle.packet.specs.Geometry.{shapeOfSizes}
 use Rattle.packet.specs.declared.torus.Sizes.{Sizes}
@@ -55,9 +55,9 @@ module _ (f : ℕ → Found) (i total : ℕ) where
 
 elem-getD : (os : List ℕ) (k : ℕ) → k < length os → T (elem (getD os k 0) os)
 unfolding elem
-elem-getD [] k h = absurd (native.Mathlib.Nat.not-suc-le-zero h)
+elem-getD [] k h = absurd (not-suc-le-zero h)
 elem-getD (o ∷ os) zero h = or-l (eqb o o) (elem o os) (eqb-refl o)
-elem-getD (o ∷ os) (suc k) h = or-r (eqb (getD os k 0) o) (elem (getD os k 0) os) (elem-getD os k (native.Mathlib.Nat.le-of-suc-le-suc h))
+elem-getD (o ∷ os) (suc k) h = or-r (eqb (getD os k 0) o) (elem (getD os k 0) os) (elem-getD os k (le-of-suc-le-suc h))
 
 module _ (S : Shape) (w : List ℕ) (n q : ℕ) where
   -- an empty queue has no permitted move
@@ -129,7 +129,7 @@ module _ {s : Sizes} {w : List ℕ} {n q start : ℕ} {r : HeadRoutes} (k : Read
 
   routes-are : AreRoutes q (head (held (shapeOfSizes s) w n q)) r
   routes-are =
-      let some : 0 < length (held (shapeOfSizes s) w n q) = native.Mathlib.Nat.pos-of-ne-zero holds in
+      let some : 0 < length (held (shapeOfSizes s) w n q) = pos-of-ne-zero holds in
       subst (λ (p : ℕ). AreRoutes q p r) (head-at s w n q (k .queue) start (k .at) some) (k .are)
 
   listed : (j : ℕ) → j < r .count → j < length (headRoutes s w n q)

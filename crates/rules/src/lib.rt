@@ -3,7 +3,6 @@
 // Refusals.antt, Calls.antt).
 pub mod first;
 pub mod flow;
-pub mod moves;
 pub mod refusals;
 pub mod routes;
 

@@ -1,13 +1,15 @@
-// The tests that Offer, Credit and Look make after the check, in document 01's order: the number of the first that applies, or 0.
-// Those of Move are in the module `moves`.
+// The tests that each call makes after the check, in document 01's order: the number of the first that applies, or 0.
 use super::QUEUES;
+use super::flow::flow_rules;
+use super::flow::head;
 use super::flow::held_count;
+use super::routes::is_route;
 use packet::torus::Sizes;
 use packet::torus::nodes;
 use queue::capacity;
 ghost use mathlib.Core.Path.{_≡_};
 ghost use Rattle.network.specs.CheckLaws.{Network};
-ghost use Rattle.network.specs.Refusals.{offerRules, creditRules, lookRules};
+ghost use Rattle.network.specs.Refusals.{offerRules, moveRules, creditRules, lookRules};
 ghost use Rattle.packet.specs.Geometry.{shapeOfSizes, RingsFit};
 
 // The numbers of document 01's table.
@@ -29,6 +31,11 @@ pub const NO_SLOT: u64 = 11;
 
 pub const NO_BUBBLE: u64 = 12;
 
+// The word of the header that counts the packets accepted, and its largest number, 2^32 - 1.
+const ACCEPTED_AT: usize = 5;
+
+const MOST_ACCEPTED: u64 = 4294967295;
+
 pub fn offer_rules(words: &[u64], s: Sizes, n: u64, destination: u64) -> u64
     requires { ⌜ Network (shapeOfSizes s) (now words) ⌝ }
     ensures { λ r. ⌜ r ≡ offerRules (shapeOfSizes s) (now (words .entry)) n destination ⌝ }
@@ -40,14 +47,39 @@ pub fn offer_rules(words: &[u64], s: Sizes, n: u64, destination: u64) -> u64
     if count <= destination {
         return NO_SUCH_NODE;
     }
-    if words[5] == 4294967295 {
+    let accepted = words[ACCEPTED_AT];
+    let slots = capacity(s.escape, s.adaptive, s.injection, 0);
+    let held = held_count(words, s, n, 0);
+    if accepted == MOST_ACCEPTED {
         return COUNT_SPENT;
     }
-    let slots = capacity(s.escape, s.adaptive, s.injection, 0);
-    if held_count(words, s, n, 0) == slots {
+    if held == slots {
         return INJECTION_FULL;
     }
     0
+}
+
+pub fn move_rules(words: &[u64], s: Sizes, n: u64, q: u64, o: u64) -> u64
+    requires { ⌜ Network (shapeOfSizes s) (now words) ⌝ }
+    ensures { λ r. ⌜ r ≡ moveRules (shapeOfSizes s) (now (words .entry)) n q o ⌝ }
+{
+    if nodes(s) <= n {
+        return NO_SUCH_NODE;
+    }
+    if QUEUES <= q {
+        return NO_SUCH_QUEUE;
+    }
+    if QUEUES <= o {
+        return NO_SUCH_OUTPUT;
+    }
+    if held_count(words, s, n, q) == 0 {
+        return QUEUE_EMPTY;
+    }
+    let p = head(words, s, n, q);
+    if !is_route(q, p, o) {
+        return NO_ROUTE;
+    }
+    flow_rules(words, s, n, q, o)
 }
 
 pub fn credit_rules(s: Sizes, n: u64, o: u64) -> u64

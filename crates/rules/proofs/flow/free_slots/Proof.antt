@@ -1,11 +1,11 @@
 -- `rules::flow::free_slots` meets its contract: the target is a node, and its queue holds no more than its slots. Assumes nothing.
 use mathlib.Core.Path.{_≡_, ap, ap₂, _∙_}
 use mathlib.Core.List.{List}
-use Prim.Native.Nat.{ℕ, _-_, _<_, _≤_}
+use Prim.Native.Nat.{ℕ, _-_, _≤_}
 use native.Mathlib.Omega.{arith}
 use borrow.Author.Needs.{needs}
 use lib.ListN.{length}
-use Rattle.network.specs.Sizes.{nodes, queues, capacity, directionOf}
+use Rattle.network.specs.Sizes.{capacity, directionOf}
 use Rattle.network.specs.Layout.{held}
 use Rattle.network.specs.TorusLaws.{neighbour-lt}
 use Rattle.network.specs.Routes.{target, freeSlots}

@@ -1,7 +1,7 @@
 -- `rules::flow::slots_needed` meets its contract. Assumes nothing.
-use mathlib.Core.Path.{_≡_, ap₂, sym}
+use mathlib.Core.Path.{_≡_, refl, ap₂, sym}
 use mathlib.Core.Bool.{Bool, true, false, cond, not, _&&_}
-use Prim.Native.Nat.{ℕ, _<_, _≤_}
+use Prim.Native.Nat.{ℕ, _≤_}
 use borrow.Author.Tests.{eq-eqb, ne-eqb, lt-ltb, le-ltb}
 use lib.Dec.{eqb}
 use Rattle.network.specs.Sizes.{isEscape}
@@ -15,7 +15,7 @@ unfolding slotsNeeded
 needed q o a b e f = sym (ap₂ (λ (x y : Bool). cond (x && not y) 2 1) e f)
 
 adaptive : (q o : ℕ) → o ≤ 4 → 1 ≡ slotsNeeded q o
-adaptive q o h = needed q o false (eqb q o) (le-ltb 4 o h) mathlib.Core.Path.refl
+adaptive q o h = needed q o false (eqb q o) (le-ltb 4 o h) refl
 
 returns : tie.Need-returns
 returns c = adaptive (c .before .args .q) (c .before .args .o) (c .if1 .taken)

@@ -1,9 +1,8 @@
--- `rules::moves::move_rules` meets its contract. Assumes nothing.
-use mathlib.Core.Path.{_≡_, refl, ap, sym, _∙_}
+-- `rules::refusals::move_rules` meets its contract. Assumes nothing.
+use mathlib.Core.Path.{_≡_, refl, sym, _∙_}
 use mathlib.Core.Bool.{Bool, true, false, not}
 use mathlib.Core.List.{List}
-use Prim.Native.Nat.{ℕ, _<_, _≤_}
-use native.Mathlib.Omega.{arith}
+use Prim.Native.Nat.{ℕ}
 use borrow.Author.Needs.{needs}
 use borrow.Author.Tests.{eq-eqb, ne-eqb, le-leb, lt-leb, not-true, not-false}
 use lib.Dec.{leb, eqb}
@@ -15,8 +14,8 @@ use Rattle.network.specs.Routes.{routes}
 use Rattle.network.specs.Refusals.{refuse, head, flowRules, moveRules, noSuchNode, noSuchQueue, noSuchOutput, queueEmpty, noRoute}
 use Rattle.packet.specs.Geometry.{shapeOfSizes}
 use Rattle.packet.specs.GeometryLaws.{inRange-rings}
-use Rattle.rules.proofs.moves.move_rules.Statement.{statement}
-use Rattle.rules.proofs.moves.move_rules.Tie as tie
+use Rattle.rules.proofs.refusals.move_rules.Statement.{statement}
+use Rattle.rules.proofs.refusals.move_rules.Tie as tie
 
 -- by what the tests said
 tested : (S : Shape) (w : List ℕ) (n q o count held-there p flow : ℕ) (route a b d e : Bool) → count ≡ nodes S
