@@ -70,7 +70,7 @@ pub fn move_packet(words: &mut [u64], node: u64, queue: u64, output: u64) -> Mov
         return Moved::Refused(broken);
     }
     let s = checker::sizes_of(words);
-    let refusal = rules::moves::move_rules(words, s, node, queue, output);
+    let refusal = rules::refusals::move_rules(words, s, node, queue, output);
     if refusal != 0 {
         return Moved::Refused(refusal);
     }
