@@ -52,9 +52,9 @@ pub fn offer(words: &mut [u64], node: u64, destination: u64, tag: u32) -> u64
         return broken;
     }
     let s = checker::sizes_of(words);
-    let refusal = rules::refusals::offer_rules(words, s, node, destination);
-    if refusal != 0 {
-        return refusal;
+    let turned_away = rules::refusals::offer_rules(words, s, node, destination);
+    if turned_away != 0 {
+        return turned_away;
     }
     changes::accept(words, s, node, destination, tag);
     0
@@ -70,9 +70,9 @@ pub fn move_packet(words: &mut [u64], node: u64, queue: u64, output: u64) -> Mov
         return Moved::Refused(broken);
     }
     let s = checker::sizes_of(words);
-    let refusal = rules::refusals::move_rules(words, s, node, queue, output);
-    if refusal != 0 {
-        return Moved::Refused(refusal);
+    let barred = rules::refusals::move_rules(words, s, node, queue, output);
+    if barred != 0 {
+        return Moved::Refused(barred);
     }
     let p = changes::make_move(words, s, node, queue, output);
     if output == 0 {
@@ -90,9 +90,9 @@ pub fn credit(words: &[u64], node: u64, output: u64) -> Credit
         return Credit::Refused(broken);
     }
     let s = checker::sizes_of(words);
-    let refusal = rules::refusals::credit_rules(s, node, output);
-    if refusal != 0 {
-        return Credit::Refused(refusal);
+    let unknown = rules::refusals::credit_rules(s, node, output);
+    if unknown != 0 {
+        return Credit::Refused(unknown);
     }
     Credit::Free(rules::flow::free_slots(words, s, node, output))
 }
