@@ -1,6 +1,2 @@
--- How Drain's loop goes: one turn after the other.
-pub mod Turns
-pub mod Ready
-pub mod Turned
-pub mod Drains
+-- What the calls answer and leave, test by test.
 pub mod Answers

@@ -1,7 +1,6 @@
 // The calls of document 01 on lent words. Each does its own checking: it refuses by the number of the first rule that applies, and
 // then has written nothing; else its answer and every word are what the definitions of the crate `network` say (specs/Calls.antt). All
 // tests come first, then one change that cannot fail. No call asks anything of its caller.
-pub mod turns;
 
 use network::Credit;
 use network::Drained;

@@ -1,4 +1,4 @@
--- `calls::turns::drain_network` meets its contract. The loop's invariant: what the turns so far have come to (SoFar), and the set of nodes covers all
+-- `turns::drain_network` meets its contract. The loop's invariant: what the turns so far have come to (SoFar), and the set of nodes covers all
 -- that have a permitted move. The measure is what is left of the budget. Assumes nothing.
 use borrow.Author.Needs.{needs}
 use mathlib.Core.Path.{_≡_, refl, ap, sym, _∙_, subst}
@@ -10,14 +10,14 @@ use lib.ListN.{length, length-set}
 use denote.Ref.{now}
 use Rattle.packet.specs.Geometry.{shapeOfSizes}
 use Rattle.packet.specs.GeometryLaws.{inRange-rings, rings-torus, rings-nodes}
-use Rattle.calls.specs.Ready.{Covered, covered-filled}
+use Rattle.turns.specs.Ready.{Covered, covered-filled}
 use Rattle.nodeset.specs.Set.{Filled}
-use Rattle.calls.specs.Drains.{SoFar, so-far-start, next-passed, next-delivered, end-of-it, passed-budget, delivered-budget}
-use Rattle.calls.proofs.turns.drain_network.Statement.{statement}
-use Rattle.calls.proofs.turns.drain_network.Tie as tie
-use Rattle.calls.proofs.turns.drain_network.Reads as reads
-use Rattle.calls.proofs.turns.drain_network.Lts as lts
-use Rattle.calls.proofs.turns.take_turn.Reads as take-turn-reads
+use Rattle.turns.specs.Drains.{SoFar, so-far-start, next-passed, next-delivered, end-of-it, passed-budget, delivered-budget}
+use Rattle.turns.proofs.drain_network.Statement.{statement}
+use Rattle.turns.proofs.drain_network.Tie as tie
+use Rattle.turns.proofs.drain_network.Reads as reads
+use Rattle.turns.proofs.drain_network.Lts as lts
+use Rattle.turns.proofs.take_turn.Reads as take-turn-reads
 use Rattle.nodeset.proofs.fill.Reads as fill-reads
 use Rattle.packet.proofs.torus.nodes.Reads as nodes-reads
 

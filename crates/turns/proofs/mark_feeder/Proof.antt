@@ -1,14 +1,14 @@
--- `calls::turns::mark_feeder` meets its contract. Assumes nothing.
+-- `turns::mark_feeder` meets its contract. Assumes nothing.
 use borrow.Author.Needs.{needs}
 use Prim.Native.Nat.{_+_, _*_, _-_, _/_, _%_}
 use native.Mathlib.Omega.{arith}
 use denote.Ref.{now}
 use Rattle.packet.specs.Geometry.{shapeOfSizes}
-use Rattle.calls.specs.Ready.{neighbour-small, before-is, feeder-marked}
-use Rattle.calls.proofs.turns.mark_feeder.Statement.{statement}
-use Rattle.calls.proofs.turns.mark_feeder.Tie as tie
-use Rattle.calls.proofs.turns.mark_feeder.Reads as reads
-use Rattle.calls.proofs.turns.mark_feeder.Lts as lts
+use Rattle.turns.specs.Ready.{neighbour-small, before-is, feeder-marked}
+use Rattle.turns.proofs.mark_feeder.Statement.{statement}
+use Rattle.turns.proofs.mark_feeder.Tie as tie
+use Rattle.turns.proofs.mark_feeder.Reads as reads
+use Rattle.turns.proofs.mark_feeder.Lts as lts
 use Rattle.nodeset.proofs.insert.Reads as insert-reads
 use Rattle.packet.proofs.torus.neighbour.Reads as neighbour-reads
 

@@ -15,9 +15,9 @@ ghost use Rattle.network.specs.RefusalLaws.{Permitted};
 ghost use Rattle.network.specs.Calls.{firstMove};
 ghost use Rattle.packet.specs.Geometry.{shapeOfSizes, RingsFit};
 ghost use Rattle.nodeset.specs.Set.{IsSet};
-ghost use Rattle.calls.specs.Ready.{Covered, Marked, ArrivalMarked, FeederMarked};
-ghost use Rattle.calls.specs.Drains.{DrainedTo};
-ghost use Rattle.calls.specs.Turns.{turnBy, byWords, turnAnswer, turnWords};
+ghost use Rattle.turns.specs.Ready.{Covered, Marked, ArrivalMarked, FeederMarked};
+ghost use Rattle.turns.specs.Drains.{DrainedTo};
+ghost use Rattle.turns.specs.Turns.{turnBy, byWords, turnAnswer, turnWords};
 
 // What a turn came to: a stop, a move to a neighbour, or a delivery with the packet word that it hands out.
 pub enum Turn {

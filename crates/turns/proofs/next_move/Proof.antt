@@ -1,4 +1,4 @@
--- `calls::turns::next_move` meets its contract. The loop's invariant: no node before `from` is left in the set, and the set still covers every
+-- `turns::next_move` meets its contract. The loop's invariant: no node before `from` is left in the set, and the set still covers every
 -- node that has a permitted move. Assumes nothing.
 use borrow.Author.Needs.{needs}
 use mathlib.Core.Path.{_≡_, refl, sym, _∙_, subst}
@@ -10,11 +10,11 @@ use denote.Ref.{now}
 use Rattle.network.specs.Sizes.{nodes}
 use Rattle.packet.specs.Geometry.{shapeOfSizes}
 use Rattle.packet.specs.GeometryLaws.{inRange-rings, rings-nodes}
-use Rattle.calls.specs.Ready.{Searched, searched-start, searched-next, searched-up, searched-all, lowest-first, lowest-none, refused-some, move-some}
-use Rattle.calls.proofs.turns.next_move.Statement.{statement}
-use Rattle.calls.proofs.turns.next_move.Tie as tie
-use Rattle.calls.proofs.turns.next_move.Reads as reads
-use Rattle.calls.proofs.turns.next_move.Lts as lts
+use Rattle.turns.specs.Ready.{Searched, searched-start, searched-next, searched-up, searched-all, lowest-first, lowest-none, refused-some, move-some}
+use Rattle.turns.proofs.next_move.Statement.{statement}
+use Rattle.turns.proofs.next_move.Tie as tie
+use Rattle.turns.proofs.next_move.Reads as reads
+use Rattle.turns.proofs.next_move.Lts as lts
 use Rattle.nodeset.proofs.lowest.Reads as lowest-reads
 use Rattle.nodeset.proofs.remove.Reads as remove-reads
 use Rattle.packet.proofs.torus.nodes.Reads as nodes-reads

@@ -1,16 +1,16 @@
--- `calls::turns::mark` meets its contract. Assumes nothing.
+-- `turns::mark` meets its contract. Assumes nothing.
 use borrow.Author.Needs.{needs}
 use native.Mathlib.Nat.{lt-of-lt-of-le}
 use denote.Ref.{now}
 use Rattle.packet.specs.Geometry.{shapeOfSizes}
 use Rattle.packet.specs.GeometryLaws.{rings-nodes}
-use Rattle.calls.specs.Ready.{marked}
-use Rattle.calls.proofs.turns.mark.Statement.{statement}
-use Rattle.calls.proofs.turns.mark.Tie as tie
-use Rattle.calls.proofs.turns.mark.Reads as reads
-use Rattle.calls.proofs.turns.mark.Lts as lts
-use Rattle.calls.proofs.turns.mark_arrival.Reads as mark-arrival-reads
-use Rattle.calls.proofs.turns.mark_feeder.Reads as mark-feeder-reads
+use Rattle.turns.specs.Ready.{marked}
+use Rattle.turns.proofs.mark.Statement.{statement}
+use Rattle.turns.proofs.mark.Tie as tie
+use Rattle.turns.proofs.mark.Reads as reads
+use Rattle.turns.proofs.mark.Lts as lts
+use Rattle.turns.proofs.mark_arrival.Reads as mark-arrival-reads
+use Rattle.turns.proofs.mark_feeder.Reads as mark-feeder-reads
 use Rattle.nodeset.proofs.insert.Reads as insert-reads
 
 -- src/turns.rt:63:5

@@ -18,8 +18,8 @@ use Rattle.network.specs.Sizes.{Shape}
 use Rattle.network.specs.TorusLaws.{Torus}
 use Rattle.network.specs.CheckLaws.{Network}
 use Rattle.network.specs.Calls.{Delivery, Progress, stopped, oneMore, drainFrom}
-use Rattle.calls.specs.declared.turns.Turn.{Turn}
-use Rattle.calls.specs.Turns.{turnAnswer, turnWords, afterTurns, after-none, after-more, ByTurn, stops, passes, delivers, by-turn, stopped-words}
+use Rattle.turns.specs.declared.Turn.{Turn}
+use Rattle.turns.specs.Turns.{turnAnswer, turnWords, afterTurns, after-none, after-more, ByTurn, stops, passes, delivers, by-turn, stopped-words}
 
 abbrev pub packets : List Delivery → List ℕ
 packets ds = map (λ (d : Delivery). d .packet) ds

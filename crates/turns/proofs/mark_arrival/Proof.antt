@@ -1,14 +1,14 @@
--- `calls::turns::mark_arrival` meets its contract. Assumes nothing.
+-- `turns::mark_arrival` meets its contract. Assumes nothing.
 use borrow.Author.Needs.{needs}
 use Prim.Native.Nat.{_-_, _%_}
 use native.Mathlib.Omega.{arith}
 use denote.Ref.{now}
 use Rattle.packet.specs.Geometry.{shapeOfSizes}
-use Rattle.calls.specs.Ready.{neighbour-small, target-is, arrival-marked}
-use Rattle.calls.proofs.turns.mark_arrival.Statement.{statement}
-use Rattle.calls.proofs.turns.mark_arrival.Tie as tie
-use Rattle.calls.proofs.turns.mark_arrival.Reads as reads
-use Rattle.calls.proofs.turns.mark_arrival.Lts as lts
+use Rattle.turns.specs.Ready.{neighbour-small, target-is, arrival-marked}
+use Rattle.turns.proofs.mark_arrival.Statement.{statement}
+use Rattle.turns.proofs.mark_arrival.Tie as tie
+use Rattle.turns.proofs.mark_arrival.Reads as reads
+use Rattle.turns.proofs.mark_arrival.Lts as lts
 use Rattle.nodeset.proofs.insert.Reads as insert-reads
 use Rattle.packet.proofs.torus.neighbour.Reads as neighbour-reads
 

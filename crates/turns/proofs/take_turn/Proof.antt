@@ -1,4 +1,4 @@
--- `calls::turns::take_turn` meets its contract. Assumes nothing.
+-- `turns::take_turn` meets its contract. Assumes nothing.
 use borrow.Author.Needs.{needs}
 use mathlib.Core.Path.{_≡_, sym, _∙_}
 use native.Mathlib.Omega.{arith}
@@ -6,14 +6,14 @@ use denote.Ref.{now}
 use Rattle.network.specs.Layout.{accepted, delivered}
 use Rattle.network.specs.declared.Found.{Found}
 use Rattle.packet.specs.Geometry.{shapeOfSizes}
-use Rattle.calls.specs.Turns.{first-permitted}
-use Rattle.calls.specs.Turned.{turned-emptied, turned-spent, turned-nowhere, turned-by, by-nothing, by-refused, header-long}
-use Rattle.calls.proofs.turns.take_turn.Statement.{statement}
-use Rattle.calls.proofs.turns.take_turn.Tie as tie
-use Rattle.calls.proofs.turns.take_turn.Reads as reads
-use Rattle.calls.proofs.turns.take_turn.Lts as lts
-use Rattle.calls.proofs.turns.next_move.Reads as next-move-reads
-use Rattle.calls.proofs.turns.turn_by_move.Reads as turn-by-move-reads
+use Rattle.turns.specs.Turns.{first-permitted}
+use Rattle.turns.specs.Turned.{turned-emptied, turned-spent, turned-nowhere, turned-by, by-nothing, by-refused, header-long}
+use Rattle.turns.proofs.take_turn.Statement.{statement}
+use Rattle.turns.proofs.take_turn.Tie as tie
+use Rattle.turns.proofs.take_turn.Reads as reads
+use Rattle.turns.proofs.take_turn.Lts as lts
+use Rattle.turns.proofs.next_move.Reads as next-move-reads
+use Rattle.turns.proofs.turn_by_move.Reads as turn-by-move-reads
 
 -- src/turns.rt:141:8
 slice-read-if1 : tie.Need-slice-read-if1

@@ -24,7 +24,7 @@ use Rattle.network.specs.RefusalLaws.{Permitted}
 use Rattle.network.specs.FirstLaws.{Finds, nothing, named, first-finds}
 use Rattle.network.specs.Calls.{Delivery, Progress, afterMove, firstMove, stopped, oneMore, deliverNext, moveNext, drainFrom}
 use Rattle.run.specs.Step.{Ran, step}
-use Rattle.calls.specs.declared.turns.Turn.{Turn}
+use Rattle.turns.specs.declared.Turn.{Turn}
 
 -- what a turn comes to, by the move that First names: the stops come first
 unfoldable pub turnBy : Shape → List ℕ → ℕ → Found → Turn

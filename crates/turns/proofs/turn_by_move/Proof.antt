@@ -1,14 +1,14 @@
--- `calls::turns::turn_by_move` meets its contract. Assumes nothing.
+-- `turns::turn_by_move` meets its contract. Assumes nothing.
 use borrow.Author.Needs.{needs}
 use denote.Ref.{now}
 use Rattle.packet.specs.Geometry.{shapeOfSizes}
 use Rattle.packet.specs.GeometryLaws.{inRange-rings, rings-torus}
-use Rattle.calls.specs.Turned.{turned-passed, turned-delivered, turned-full}
-use Rattle.calls.proofs.turns.turn_by_move.Statement.{statement}
-use Rattle.calls.proofs.turns.turn_by_move.Tie as tie
-use Rattle.calls.proofs.turns.turn_by_move.Reads as reads
-use Rattle.calls.proofs.turns.turn_by_move.Lts as lts
-use Rattle.calls.proofs.turns.mark.Reads as mark-reads
+use Rattle.turns.specs.Turned.{turned-passed, turned-delivered, turned-full}
+use Rattle.turns.proofs.turn_by_move.Statement.{statement}
+use Rattle.turns.proofs.turn_by_move.Tie as tie
+use Rattle.turns.proofs.turn_by_move.Reads as reads
+use Rattle.turns.proofs.turn_by_move.Lts as lts
+use Rattle.turns.proofs.mark.Reads as mark-reads
 use Rattle.changes.proofs.make_move.Reads as make-move-reads
 
 -- src/turns.rt:121:9

@@ -1,1 +1,0 @@
--- Proofs of the calls. Ready.antt has what the needs of the turns cite.
