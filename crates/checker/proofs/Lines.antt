@@ -31,7 +31,7 @@ use Rattle.checker.specs.Limits.{nodeAt, OnTorus}
 use Rattle.checker.specs.Tally.{Enough}
 use Rattle.checker.specs.Lines.{ringRoom, RingIn, linesRoom, LinesIn}
 use Rattle.checker.proofs.Bools.{same-test, fails-at, all-more, passes-at, none-more}
-use Rattle.checker.proofs.Hops.{moved-back, moved-on}
+use Rattle.checker.proofs.Hops.{moved-is}
 use Rattle.checker.proofs.Nodes.{node-lt, column-is, row-is}
 
 -- The walk along a line of queues, and along the lines ------------------------------------------------------------------------------------
@@ -212,20 +212,17 @@ steps S d a b h k = go (isPlus d)
         on (no g) = (b + m - a, omega arith, plain (b + m - a) (b + m) (omega arith) ∙ add-mod-right b m ∙ mod-eq-of-lt k)
     go false = on (decLe b a)
       where
-        plain : (c : ℕ) → a + (0 * 1 + c * (m - 1)) ≡ a + c * (m - 1)
-        plain c = omega arith
+        -- so many steps back
+        plain : (c e : ℕ) → c ≤ m → a + m - c ≡ e → (a + c * (m - 1)) % m ≡ e % m
+        plain c e h q =
+            let l : a + 0 + m - c ≡ e = omega arith in
+            ap (λ (x : ℕ). x % m) (let f : a + c * (m - 1) ≡ a + (0 * 1 + c * (m - 1)) = omega arith in f)
+            ∙ sym (moved-is a 0 c m (omega arith) h)
+            ∙ ap (λ (x : ℕ). x % m) l
 
         on : Dec (b ≤ a) → (c : ℕ) × (c < m) × ((a + c * (m - 1)) % m ≡ b)
-        on (yes l) = (
-          a - b,
-          omega arith,
-          ap (λ (x : ℕ). x % m) (sym (plain (a - b))) ∙ moved-on a 0 (a - b) m (omega arith) (omega arith) ∙ ap (λ (x : ℕ). x % m) (let e : a + 0 - (a - b) ≡ b = omega arith in e) ∙ mod-eq-of-lt k,
-        )
-        on (no g) = (
-          a + m - b,
-          omega arith,
-          ap (λ (x : ℕ). x % m) (sym (plain (a + m - b))) ∙ sym (moved-back a 0 (a + m - b) m (omega arith) (omega arith)) ∙ omega arith,
-        )
+        on (yes l) = (a - b, omega arith, plain (a - b) (b + m) (omega arith) (omega arith) ∙ add-mod-right b m ∙ mod-eq-of-lt k)
+        on (no g) = (a + m - b, omega arith, plain (a + m - b) b (omega arith) (omega arith) ∙ mod-eq-of-lt k)
 
 -- the node so many steps on is the one with the coordinate reached
 along-put : (S : Shape) (d c n : ℕ) → along S d c n ≡ putDigit (S .sizes) (dimensionOf d) ((coordinate S (dimensionOf d) n + c * stride S d) % size S (dimensionOf d)) n

@@ -48,20 +48,13 @@ pub fn limits_of(s: Sizes, q: u64) -> Limits
     )
 }
 
-// The coordinate c of a ring of k nodes, moved by so many hops forward and so many back, fewer than the ring's nodes: no division is needed.
+// The coordinate c of a ring of k nodes, moved by so many hops forward and so many back, fewer than the ring's nodes. The remainder of such small
+// numbers costs less than a branch that packets take either way.
 fn moved(c: u64, k: u64, forward: u64, back: u64) -> u64
     requires { ⌜ (c < k) × (k ≤ 16) × (forward < k) × (back < k) ⌝ }
     ensures { λ r. ⌜ r ≡ (c + (forward * 1 + back * (k - 1))) % k ⌝ }
 {
-    let ahead = c + forward;
-    if ahead < back {
-        return ahead + k - back;
-    }
-    let on = ahead - back;
-    if k <= on {
-        return on - k;
-    }
-    on
+    (c + forward + k - back) % k
 }
 
 fn below_limits(l: Limits, p: u64) -> bool
