@@ -1,6 +1,6 @@
 -- A packet's clauses of the check are the limits on its hops, with the node that they lead to. Order: the limits by the queue's direction; limits
 -- are small; the limits from the clauses, and the clauses from the limits; a coordinate moved. `d` is a direction, `i` a dimension. Assumes nothing.
-use mathlib.Core.Path.{_≡_, refl, ap, ap₂, sym, _∙_}
+use mathlib.Core.Path.{_≡_, refl, ap, sym, _∙_}
 use mathlib.Core.Logic.{_⊎_, inl, inr, _≢_}
 use mathlib.Core.Bool.{Bool, true, false, cond, not, _&&_}
 use Prim.Native.Nat.{ℕ, zero, suc, _+_, _*_, _-_, _/_, _%_, _<_, _≤_}

@@ -1,25 +1,23 @@
 -- The rings of a direction as lines in the words. Order: the walk along a line of queues, and along the lines; a ring's nodes by their coordinate; the
 -- steps from one to another; each ring once; where the numbers held stand; what the code computes. `i` is a dimension, `d` a direction. Assumes nothing.
 use mathlib.Core.Path.{_≡_, refl, ap, ap₂, sym, subst, _∙_}
-use mathlib.Core.Logic.{_⊎_, inl, inr, _≢_}
 use mathlib.Core.Bool.{Bool, true, false, cond, _&&_, _||_}
 use mathlib.Core.List.{List}
-use Prim.Native.Nat.{ℕ, zero, suc, _+_, _*_, _-_, _/_, _%_, _<_, _≤_}
+use Prim.Native.Nat.{ℕ, zero, suc, _+_, _*_, _-_, _%_, _<_, _≤_}
 use native.Mathlib.Nat.{le-step, lt-suc-self, mod-lt, mod-eq-of-lt, add-mod-right, mul-one, one-mul, add-mul, mul-assoc, zero-mul, mul-le-mul-left, mul-le-mul-right, min-eq-left, min-eq-right}
-use native.Mathlib.Decide.{ℕ-discrete, decLe, decLt}
+use native.Mathlib.Decide.{decLe, decLt}
 use native.Mathlib.Omega.{arith}
-use borrow.Author.Tests.{eq-eqb, ne-eqb, lt-ltb, le-ltb}
-use lib.Dec.{T, ltb, eqb}
+use borrow.Author.Tests.{lt-ltb, le-ltb}
+use lib.Dec.{T, ltb}
 use lib.ListN.{length, getD, take, drop, length-take, length-drop}
 use Rattle.base.specs.Tests.{allBelow, someBelow, all-at, all-by, some-at, some-by}
-use Rattle.base.specs.Sums.{sumBelow}
 use Rattle.base.specs.Parts.{getD-span}
 use Rattle.base.specs.Digits.{digit, putDigit, turn}
-use Rattle.network.specs.Sizes.{Shape, size, nodes, queues, dimensions, directions, dimensionOf, isPlus, escapeQueue, capacity}
+use Rattle.network.specs.Sizes.{Shape, size, nodes, directions, dimensionOf, isPlus, escapeQueue, capacity}
 use Rattle.network.specs.SizesLaws.{escape-capacity}
 use Rattle.network.specs.PacketLaws.{dimension-lt}
 use Rattle.network.specs.Torus.{coordinate, stride, along}
-use Rattle.network.specs.TorusLaws.{Torus, size-pos, coordinate-lt, along-lt}
+use Rattle.network.specs.TorusLaws.{Torus, size-pos, coordinate-lt}
 use Rattle.network.specs.Layout.{need, nodeWords, queueStart, queueEnd, queueLength, queuePart, countOf, packetsOf, held}
 use Rattle.network.specs.LayoutLaws.{Fits, end-start, end-length, length-queuePart}
 use Rattle.network.specs.Check.{hasRoom, ringHasRoom}
