@@ -1,10 +1,10 @@
 -- A packet's clauses of the check are the limits on its hops, with the node that they lead to. Order: the limits by the queue's direction; limits
 -- are small; the limits from the clauses, and the clauses from the limits; a coordinate moved. `d` is a direction, `i` a dimension. Assumes nothing.
-use mathlib.Core.Path.{_≡_, refl, ap, ap₂, sym, _∙_}
+use mathlib.Core.Path.{_≡_, refl, ap, sym, _∙_}
 use mathlib.Core.Logic.{_⊎_, inl, inr, _≢_}
 use mathlib.Core.Bool.{Bool, true, false, cond, not, _&&_}
 use Prim.Native.Nat.{ℕ, zero, suc, _+_, _*_, _-_, _/_, _%_, _<_, _≤_}
-use native.Mathlib.Nat.{lt-of-lt-of-le, mul-suc, suc-mul, mod-eq-of-lt, mod-eq-sub-mod, add-mul-mod-self-right}
+use native.Mathlib.Nat.{lt-of-lt-of-le, mul-suc, add-mod-right, add-mul-mod-self-right}
 use native.Mathlib.Decide.{ℕ-discrete, decLt}
 use native.Mathlib.Omega.{arith}
 use borrow.Author.Tests.{eq-eqb, ne-eqb, lt-ltb, le-ltb}
@@ -340,23 +340,8 @@ module _ (S : Shape) (n q p : ℕ) where
 -- A coordinate moved ------------------------------------------------------------------------------------------------------------------
 
 -- b steps back are b rounds forward but for b steps
-rounds : (b k : ℕ) → 0 < k → b * k ≡ b * (k - 1) + b
-rounds b k h = ap (λ (x : ℕ). b * x) (let e : k ≡ suc (k - 1) = omega arith in e) ∙ mul-suc b (k - 1)
-
-pub moved-back : (c f b k : ℕ) → c + f < b → b < k → c + f + k - b ≡ (c + (f * 1 + b * (k - 1))) % k
-moved-back c f b k h l =
-    let r = rounds b k (omega arith) in
-    let s : b * k ≡ (b - 1) * k + k = ap (λ (x : ℕ). x * k) (let e : b ≡ suc (b - 1) = omega arith in e) ∙ suc-mul (b - 1) k in
-    let t : c + (f * 1 + b * (k - 1)) ≡ c + f + k - b + (b - 1) * k = omega arith in
-    sym (mod-eq-of-lt (let m : c + f + k - b < k = omega arith in m))
-    ∙ sym (add-mul-mod-self-right (c + f + k - b) (b - 1) k)
-    ∙ ap (λ (x : ℕ). x % k) (sym t)
-
-pub moved-on : (c f b k : ℕ) → b ≤ c + f → 0 < k → (c + (f * 1 + b * (k - 1))) % k ≡ (c + f - b) % k
-moved-on c f b k h l =
-    let r = rounds b k l in
-    let t : c + (f * 1 + b * (k - 1)) ≡ c + f - b + b * k = omega arith in
-    ap (λ (x : ℕ). x % k) t ∙ add-mul-mod-self-right (c + f - b) b k
-
-pub once-round : (m k : ℕ) → k ≤ m → m < k + k → m - k ≡ m % k
-once-round m k h l = sym (mod-eq-sub-mod h ∙ mod-eq-of-lt (let a : m - k < k = omega arith in a))
+pub moved-is : (c f b k : ℕ) → 0 < k → b ≤ k → (c + f + k - b) % k ≡ (c + (f * 1 + b * (k - 1))) % k
+moved-is c f b k h l =
+    let r : b * k ≡ b * (k - 1) + b = ap (λ (x : ℕ). b * x) (let e : k ≡ suc (k - 1) = omega arith in e) ∙ mul-suc b (k - 1) in
+    let t : c + f + k - b + b * k ≡ c + (f * 1 + b * (k - 1)) + k = omega arith in
+    sym (add-mul-mod-self-right (c + f + k - b) b k) ∙ ap (λ (x : ℕ). x % k) t ∙ add-mod-right (c + (f * 1 + b * (k - 1))) k

@@ -1,25 +1,23 @@
 -- The rings of a direction as lines in the words. Order: the walk along a line of queues, and along the lines; a ring's nodes by their coordinate; the
 -- steps from one to another; each ring once; where the numbers held stand; what the code computes. `i` is a dimension, `d` a direction. Assumes nothing.
 use mathlib.Core.Path.{_≡_, refl, ap, ap₂, sym, subst, _∙_}
-use mathlib.Core.Logic.{_⊎_, inl, inr, _≢_}
 use mathlib.Core.Bool.{Bool, true, false, cond, _&&_, _||_}
 use mathlib.Core.List.{List}
-use Prim.Native.Nat.{ℕ, zero, suc, _+_, _*_, _-_, _/_, _%_, _<_, _≤_}
+use Prim.Native.Nat.{ℕ, zero, suc, _+_, _*_, _-_, _%_, _<_, _≤_}
 use native.Mathlib.Nat.{le-step, lt-suc-self, mod-lt, mod-eq-of-lt, add-mod-right, mul-one, one-mul, add-mul, mul-assoc, zero-mul, mul-le-mul-left, mul-le-mul-right, min-eq-left, min-eq-right}
-use native.Mathlib.Decide.{ℕ-discrete, decLe, decLt}
+use native.Mathlib.Decide.{decLe, decLt}
 use native.Mathlib.Omega.{arith}
-use borrow.Author.Tests.{eq-eqb, ne-eqb, lt-ltb, le-ltb}
-use lib.Dec.{T, ltb, eqb}
+use borrow.Author.Tests.{lt-ltb, le-ltb}
+use lib.Dec.{T, ltb}
 use lib.ListN.{length, getD, take, drop, length-take, length-drop}
 use Rattle.base.specs.Tests.{allBelow, someBelow, all-at, all-by, some-at, some-by}
-use Rattle.base.specs.Sums.{sumBelow}
 use Rattle.base.specs.Parts.{getD-span}
 use Rattle.base.specs.Digits.{digit, putDigit, turn}
-use Rattle.network.specs.Sizes.{Shape, size, nodes, queues, dimensions, directions, dimensionOf, isPlus, escapeQueue, capacity}
+use Rattle.network.specs.Sizes.{Shape, size, nodes, directions, dimensionOf, isPlus, escapeQueue, capacity}
 use Rattle.network.specs.SizesLaws.{escape-capacity}
 use Rattle.network.specs.PacketLaws.{dimension-lt}
 use Rattle.network.specs.Torus.{coordinate, stride, along}
-use Rattle.network.specs.TorusLaws.{Torus, size-pos, coordinate-lt, along-lt}
+use Rattle.network.specs.TorusLaws.{Torus, size-pos, coordinate-lt}
 use Rattle.network.specs.Layout.{need, nodeWords, queueStart, queueEnd, queueLength, queuePart, countOf, packetsOf, held}
 use Rattle.network.specs.LayoutLaws.{Fits, end-start, end-length, length-queuePart}
 use Rattle.network.specs.Check.{hasRoom, ringHasRoom}
@@ -31,7 +29,7 @@ use Rattle.checker.specs.Limits.{nodeAt, OnTorus}
 use Rattle.checker.specs.Tally.{Enough}
 use Rattle.checker.specs.Lines.{ringRoom, RingIn, linesRoom, LinesIn}
 use Rattle.checker.proofs.Bools.{same-test, fails-at, all-more, passes-at, none-more}
-use Rattle.checker.proofs.Hops.{moved-back, moved-on}
+use Rattle.checker.proofs.Hops.{moved-is}
 use Rattle.checker.proofs.Nodes.{node-lt, column-is, row-is}
 
 -- The walk along a line of queues, and along the lines ------------------------------------------------------------------------------------
@@ -212,20 +210,17 @@ steps S d a b h k = go (isPlus d)
         on (no g) = (b + m - a, omega arith, plain (b + m - a) (b + m) (omega arith) ∙ add-mod-right b m ∙ mod-eq-of-lt k)
     go false = on (decLe b a)
       where
-        plain : (c : ℕ) → a + (0 * 1 + c * (m - 1)) ≡ a + c * (m - 1)
-        plain c = omega arith
+        -- so many steps back
+        plain : (c e : ℕ) → c ≤ m → a + m - c ≡ e → (a + c * (m - 1)) % m ≡ e % m
+        plain c e h q =
+            let l : a + 0 + m - c ≡ e = omega arith in
+            ap (λ (x : ℕ). x % m) (let f : a + c * (m - 1) ≡ a + (0 * 1 + c * (m - 1)) = omega arith in f)
+            ∙ sym (moved-is a 0 c m (omega arith) h)
+            ∙ ap (λ (x : ℕ). x % m) l
 
         on : Dec (b ≤ a) → (c : ℕ) × (c < m) × ((a + c * (m - 1)) % m ≡ b)
-        on (yes l) = (
-          a - b,
-          omega arith,
-          ap (λ (x : ℕ). x % m) (sym (plain (a - b))) ∙ moved-on a 0 (a - b) m (omega arith) (omega arith) ∙ ap (λ (x : ℕ). x % m) (let e : a + 0 - (a - b) ≡ b = omega arith in e) ∙ mod-eq-of-lt k,
-        )
-        on (no g) = (
-          a + m - b,
-          omega arith,
-          ap (λ (x : ℕ). x % m) (sym (plain (a + m - b))) ∙ sym (moved-back a 0 (a + m - b) m (omega arith) (omega arith)) ∙ omega arith,
-        )
+        on (yes l) = (a - b, omega arith, plain (a - b) (b + m) (omega arith) (omega arith) ∙ add-mod-right b m ∙ mod-eq-of-lt k)
+        on (no g) = (a + m - b, omega arith, plain (a + m - b) b (omega arith) (omega arith) ∙ mod-eq-of-lt k)
 
 -- the node so many steps on is the one with the coordinate reached
 along-put : (S : Shape) (d c n : ℕ) → along S d c n ≡ putDigit (S .sizes) (dimensionOf d) ((coordinate S (dimensionOf d) n + c * stride S d) % size S (dimensionOf d)) n

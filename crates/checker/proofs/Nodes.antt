@@ -1,13 +1,13 @@
 -- A node by its column x and its row y. Assumes nothing.
 use mathlib.Core.Path.{_≡_, refl, ap, ap₂, sym, _∙_}
-use Prim.Native.Nat.{ℕ, suc, _+_, _*_, _-_, _/_, _%_, _<_, _≤_}
+use Prim.Native.Nat.{ℕ, suc, _+_, _*_, _-_, _%_, _<_, _≤_}
 use native.Mathlib.Nat.{mul-add-mod-self-right, mul-add-div-right, mod-eq-of-lt, div-eq-of-lt, mul-le-mul-right, suc-mul, mul-comm, add-zero}
 use native.Mathlib.Omega.{arith}
 use Rattle.network.specs.Sizes.{size, nodes}
 use Rattle.network.specs.Packet.{hops}
 use Rattle.network.specs.Torus.{coordinate, movedBy}
 use Rattle.network.specs.TorusLaws.{coordinate-movedBy, movedBy-lt}
-use Rattle.packet.specs.Geometry.{shapeOfSizes, RingsFit}
+use Rattle.packet.specs.Geometry.{shapeOfSizes}
 use Rattle.packet.specs.GeometryLaws.{rings-torus, rings-nodes, nodes-is, size-x, size-y, coordinate-x, coordinate-y, node-is}
 use Rattle.packet.specs.declared.torus.Sizes.{Sizes}
 use Rattle.checker.specs.Limits.{nodeAt, OnTorus}

@@ -15,7 +15,6 @@ use Rattle.network.specs.Packet.{work}
 use Rattle.network.specs.Layout.{countOf, packetsOf, unusedOf, queueLength}
 use Rattle.network.specs.TorusLaws.{Torus}
 use Rattle.network.specs.Check.{packetFits}
-use Rattle.checker.specs.declared.queues.Tally.{Tally}
 use Rattle.checker.specs.declared.packets.Limits.{Limits}
 use Rattle.checker.specs.Limits.{limitsOf, fitsWithin}
 use Rattle.checker.specs.Tally.{tally, partFits}

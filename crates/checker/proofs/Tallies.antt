@@ -1,19 +1,17 @@
 -- Tallies: what one says; a list's elements tested and summed one by one; so many queues or nodes tested and summed one by one. Assumes nothing.
 use mathlib.Core.Path.{_≡_, refl, ap, ap₂, sym, _∙_}
-use mathlib.Core.Bool.{Bool, true, false, not, _&&_, true≢false, false≢true}
-use mathlib.Core.Logic.{_⊎_, inl, inr}
+use mathlib.Core.Bool.{Bool, true, false, _&&_, true≢false}
 use mathlib.Core.List.{List, [], _∷_}
 use Prim.Native.Nat.{ℕ, zero, suc, _+_, _*_, _-_, _<_, _≤_}
 use native.Mathlib.Numerals.{add-one}
 use native.Mathlib.Nat.{le-step, suc-mul}
 use native.Mathlib.Omega.{arith}
-use lib.Dec.{T}
 use lib.ListN.{length, getD, drop, drop-of-length-le}
 use lib.Seq.{drop-cons, getD-take, getD-drop}
-use Rattle.base.specs.Tests.{allBelow, allOf, all-at, T-true, true-T, passed?, T-false}
+use Rattle.base.specs.Tests.{allBelow, allOf}
 use Rattle.base.specs.Sums.{sumBelow, sumOf}
 use Rattle.network.specs.Packet.{distance, hopsLeft, work}
-use Rattle.network.specs.PacketLaws.{ByteRange, distance-is, hops-plus, hops-minus, offset-range}
+use Rattle.network.specs.PacketLaws.{distance-is, hops-plus, hops-minus, offset-range}
 use Rattle.network.specs.Layout.{countOf, packetsOf}
 use Rattle.network.specs.LayoutLaws.{length-packetsOf}
 use Rattle.checker.specs.declared.queues.Tally.{Tally}

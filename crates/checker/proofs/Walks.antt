@@ -1,9 +1,9 @@
 -- The queues of a node one by one, and the nodes of a network one by one. Order: what every queue comes to; a node's queues, with the place of the
 -- next one; a network's nodes, with the next one's place. `S` are sizes, `w` the words. Assumes nothing.
-use mathlib.Core.Path.{_≡_, refl, ap, ap₂, sym, _∙_}
+use mathlib.Core.Path.{_≡_, ap, ap₂, sym, _∙_}
 use mathlib.Core.Bool.{Bool, true, false}
 use mathlib.Core.List.{List}
-use Prim.Native.Nat.{ℕ, zero, suc, _+_, _*_, _-_, _<_, _≤_}
+use Prim.Native.Nat.{ℕ, suc, _+_, _*_, _<_, _≤_}
 use native.Mathlib.Numerals.{add-one}
 use native.Mathlib.Nat.{min-le-right, lt-of-mul-lt-mul-right, mul-comm, suc-mul, mul-le-mul-right}
 use native.Mathlib.Omega.{arith}
@@ -15,7 +15,7 @@ use Rattle.network.specs.Sizes.{Shape, nodes, queues, capacity}
 use Rattle.network.specs.SizesLaws.{range-of, capacity-most}
 use Rattle.network.specs.Packet.{work}
 use Rattle.network.specs.Layout.{need, nodeWords, queueStart, queueEnd, queueLength, queuePart, countOf, packetsOf, held, total}
-use Rattle.network.specs.LayoutLaws.{Fits, start-end, end-next, end-length, length-queuePart}
+use Rattle.network.specs.LayoutLaws.{Fits, end-next, end-length, length-queuePart}
 use Rattle.network.specs.Check.{queueFits, queuesFit, packetsHeld, workLeft}
 use Rattle.packet.specs.Geometry.{shapeOfSizes, RingsFit}
 use Rattle.packet.specs.GeometryLaws.{nodes-is, rings-nodes}

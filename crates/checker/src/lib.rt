@@ -1,9 +1,9 @@
 // The call Check: are these words a network, and if not, which test refuses them. Every other call but Make makes these tests first.
 // Order: the refusal; the sizes; the clauses of the check; the counters. The queues' clauses are in the module `queues`, a packet's in `packets`,
 // the rings' in `rings`.
-pub mod packets;
-pub mod queues;
-pub mod rings;
+mod packets;
+mod queues;
+mod rings;
 
 use packet::torus::Sizes;
 use queues::queues_fit;

@@ -8,11 +8,11 @@ ghost use Rattle.network.specs.Torus.{movedBy};
 ghost use Rattle.packet.specs.Geometry.{shapeOfSizes};
 ghost use Rattle.checker.specs.Limits.{limit, limitsOf, LimitsFit, belowLimits, fitsWithin, nodeAt, OnTorus, NoRound};
 
-// A packet has fewer hops left in each direction than this.
+// A packet has fewer hops left in each direction than this: field d is for direction d.
 pub struct Limits(pub u64, pub u64, pub u64, pub u64);
 
-// Where queue q sets the limit for direction d. In the queue's own direction that is half of the ring, the other way along its dimension
-// there is no hop, and in an escape queue there is none in a lower dimension. Everywhere else half of the ring is reached.
+// The limit that queue q sets for direction d. In the queue's own direction hops stay below half of the ring, the other way along its dimension
+// there are none, and in an escape queue there are none along a lower dimension. All others reach half of the ring.
 fn limit(s: Sizes, q: u64, d: u64) -> u64
     requires { ⌜ d < directions ⌝ }
     ensures { λ r. ⌜ r ≡ limit (shapeOfSizes s) q d ⌝ }
@@ -48,22 +48,16 @@ pub fn limits_of(s: Sizes, q: u64) -> Limits
     )
 }
 
-// The coordinate c of a ring of k nodes, moved by so many hops forward and so many back, fewer than the ring's nodes: no division is needed.
+// The coordinate c of a ring of k nodes, moved by so many hops forward and so many back, fewer than the ring's nodes. The remainder of such small
+// numbers costs less than a branch that packets take either way.
 fn moved(c: u64, k: u64, forward: u64, back: u64) -> u64
     requires { ⌜ (c < k) × (k ≤ 16) × (forward < k) × (back < k) ⌝ }
     ensures { λ r. ⌜ r ≡ (c + (forward * 1 + back * (k - 1))) % k ⌝ }
 {
-    let ahead = c + forward;
-    if ahead < back {
-        return ahead + k - back;
-    }
-    let on = ahead - back;
-    if k <= on {
-        return on - k;
-    }
-    on
+    (c + forward + k - back) % k
 }
 
+// Whether its hops are below the limits.
 fn below_limits(l: Limits, p: u64) -> bool
     ensures { λ r. ⌜ r ≡ belowLimits l p ⌝ }
 {

@@ -2,7 +2,7 @@
 use borrow.Author.Needs.{needs}
 use borrow.Author.Tests.{not-true, not-false}
 use mathlib.Core.Path.{_≡_, sym, _∙_}
-use mathlib.Core.Bool.{Bool, true, false, _&&_}
+use mathlib.Core.Bool.{true, _&&_}
 use Rattle.base.specs.Tests.{allOf}
 use Rattle.network.specs.Sizes.{within, sizesInRange}
 use Rattle.network.specs.Calls.{shapeOf}

@@ -1,7 +1,7 @@
 -- `checker::network_refusal` meets its contract: the first test that applies decides. Assumes nothing.
 use borrow.Author.Needs.{needs}
 use borrow.Author.Tests.{not-true, not-false, lt-ltb, le-ltb}
-use mathlib.Core.Path.{_≡_, refl, ap, sym, subst, _∙_}
+use mathlib.Core.Path.{_≡_, refl, ap, sym, _∙_}
 use mathlib.Core.Bool.{Bool, true, false, not}
 use mathlib.Core.List.{List}
 use Prim.Native.Nat.{ℕ, _<_, _≤_}
@@ -14,8 +14,7 @@ use Rattle.network.specs.Layout.{shape, headerWords, need}
 use Rattle.network.specs.Check.{isNetwork}
 use Rattle.network.specs.Refusals.{refuse, networkRefusal, shortStore, wrongSize, noNetwork}
 use Rattle.packet.specs.Geometry.{shapeOfSizes}
-use Rattle.queue.specs.QueueLaws.{Small, small}
-use Rattle.checker.specs.Tally.{Enough}
+use Rattle.queue.specs.QueueLaws.{small}
 use Rattle.checker.proofs.network_refusal.Statement.{statement}
 use Rattle.checker.proofs.network_refusal.Tie as tie
 

@@ -7,9 +7,11 @@ use Prim.Native.Nat.{ℕ, _+_, _-_, _<_, _≤_}
 use native.Mathlib.Omega.{arith}
 use lib.ListN.{length}
 use Rattle.base.specs.Parts.{span}
+use Rattle.network.specs.Sizes.{Shape, nodes, capacity}
 use Rattle.network.specs.Layout.{queuePart}
 use Rattle.packet.specs.Geometry.{shapeOfSizes}
 use Rattle.checker.specs.Limits.{nodeAt}
+use Rattle.checker.specs.declared.queues.Tally.{Tally}
 use Rattle.checker.specs.Tally.{tally}
 use Rattle.checker.proofs.Nodes.{node-lt}
 use Rattle.checker.proofs.Walks.{NodeWalk, node-start, node-end, node-part, node-tally, node-more, node-small, node-stop, node-done, part-length, part-small, part-end, fits, holds, works}
@@ -28,13 +30,36 @@ loop-holds c = node-start _ _ _ _ (c .before .pre .2)
 capacity-requires : tie.Need-capacity-requires Inv-loop μ-loop
 capacity-requires c κs = search needs
 
--- where q's words end, and that they are among the words
-ends : (c : tie.After-capacity Inv-loop μ-loop) → c .before .before .loop .at + c .capacity .result + 1 ≤ length (c .before .before .before .before .args .words .now)
+-- the sizes, the words and the node, and what is known of queue q
+abbrev S : tie.Start Inv-loop μ-loop → Shape
+S st = shapeOfSizes (st .args .s)
+
+abbrev w : tie.Start Inv-loop μ-loop → List ℕ
+w st = st .args .words .now
+
+abbrev n : tie.Start Inv-loop μ-loop → ℕ
+n st = nodeAt (st .args .s) (st .args .x) (st .args .y)
+
+abbrev Part : tie.Start Inv-loop μ-loop → ℕ → ℕ → ℕ → Type 0
+Part st q at end = span (w st) at end ≡ queuePart (S st) (w st) (n st) q
+
+abbrev Found : tie.Start Inv-loop μ-loop → ℕ → Tally → Type 0
+Found st q t = t ≡ tally (fits (S st) (w st) (n st) q) (holds (S st) (w st) (n st) q) (works (S st) (w st) (n st) q)
+
+-- the node is one of the network's
+is-node : (st : tie.Start Inv-loop μ-loop) → n st < nodes (S st)
+is-node st = node-lt (st .args .s) (st .args .x) (st .args .y) (st .pre .0)
+
+-- its capacity
+slots : (c : tie.After-capacity Inv-loop μ-loop) → c .capacity .result ≡ capacity (S (c .before .before .before .before)) (c .before .before .loop .q)
+slots c = c .capacity .ensures (c .before .before .before .before .args .s .x) (c .before .before .before .before .args .s .y)
+
+-- its words end among the words
+ends : (c : tie.After-capacity Inv-loop μ-loop) → c .before .before .loop .at + c .capacity .result + 1 ≤ length (w (c .before .before .before .before))
 ends c =
-    let a = c .before .before .before .before .args in
-    let p = c .before .before .before .before .pre in
-    let e = node-end (shapeOfSizes (a .s)) (a .words .now) (nodeAt (a .s) (a .x) (a .y)) _ _ _ _ (c .capacity .result) (c .before .before .loop .inv) (c .capacity .ensures (a .s .x) (a .s .y)) in
-    let l = part-end (shapeOfSizes (a .s)) (a .words .now) (p .1) (nodeAt (a .s) (a .x) (a .y)) (node-lt (a .s) (a .x) (a .y) (p .0)) (c .before .before .loop .q) (c .before .loop-test .taken) in
+    let st = c .before .before .before .before in
+    let e = node-end (S st) (w st) (n st) _ _ _ _ (c .capacity .result) (c .before .before .loop .inv) (slots c) in
+    let l = part-end (S st) (w st) (st .pre .1) (n st) (is-node st) (c .before .before .loop .q) (c .before .loop-test .taken) in
     omega arith
 
 add-end : tie.Need-add-end Inv-loop μ-loop
@@ -55,62 +80,48 @@ part-queue-fits-start c = omega arith
 part-queue-fits-end : tie.Need-part-queue-fits-end Inv-loop μ-loop
 part-queue-fits-end c = omega (arith, ends c)
 
--- q's words
 part : (c : tie.After-capacity Inv-loop μ-loop)
-    → span (c .before .before .before .before .args .words .now) (c .before .before .loop .at) (c .before .before .loop .at + c .capacity .result + 1)
-    ≡ queuePart (shapeOfSizes (c .before .before .before .before .args .s)) (c .before .before .before .before .args .words .now)
-    (nodeAt (c .before .before .before .before .args .s) (c .before .before .before .before .args .x) (c .before .before .before .before .args .y)) (c .before .before .loop .q)
-part c =
-    let a = c .before .before .before .before .args in
-    node-part _ _ _ _ _ _ _ (c .capacity .result) (c .before .before .loop .inv) (c .capacity .ensures (a .s .x) (a .s .y))
+    → Part (c .before .before .before .before) (c .before .before .loop .q) (c .before .before .loop .at) (c .before .before .loop .at + c .capacity .result + 1)
+part c = node-part _ _ _ _ _ _ _ (c .capacity .result) (c .before .before .loop .inv) (slots c)
 
 queue-fits-requires : tie.Need-queue-fits-requires Inv-loop μ-loop
 queue-fits-requires c κs =
-    let a = c .before .before .before .before .before .args in
-    let p = c .before .before .before .before .before .pre in
-    let n = node-lt (a .s) (a .x) (a .y) (p .0) in
+    let st = c .before .before .before .before .before in
+    let q = c .before .before .before .loop .q in
     let h = c .before .before .loop-test .taken in (
-      p .0,
-      ap length (part (c .before)) ∙ part-length (shapeOfSizes (a .s)) (a .words .now) (p .1) (nodeAt (a .s) (a .x) (a .y)) n (c .before .before .before .loop .q) h,
-      subst (λ (l : List ℕ). length l ≤ 9) (sym (part (c .before))) (part-small (shapeOfSizes (a .s)) (a .words .now) (p .1) (nodeAt (a .s) (a .x) (a .y)) n (c .before .before .before .loop .q) h),
+      st .pre .0,
+      ap length (part (c .before)) ∙ part-length (S st) (w st) (st .pre .1) (n st) (is-node st) q h,
+      subst (λ (l : List ℕ). length l ≤ 9) (sym (part (c .before))) (part-small (S st) (w st) (st .pre .1) (n st) (is-node st) q h),
     )
 
 unfit-requires : tie.Need-unfit-requires Inv-loop μ-loop
 unfit-requires c κs = search needs
 
--- what the call says of q
-found : (c : tie.After-queue-fits Inv-loop μ-loop)
-    → c .queue-fits .result ≡ tally
-    (fits (shapeOfSizes (c .before .before .before .before .before .before .args .s)) (c .before .before .before .before .before .before .args .words .now) (nodeAt (c .before .before .before .before .before .before .args .s) (c .before .before .before .before .before .before .args .x) (c .before .before .before .before .before .before .args .y)) (c .before .before .before .before .loop .q))
-    (holds (shapeOfSizes (c .before .before .before .before .before .before .args .s)) (c .before .before .before .before .before .before .args .words .now) (nodeAt (c .before .before .before .before .before .before .args .s) (c .before .before .before .before .before .before .args .x) (c .before .before .before .before .before .before .args .y)) (c .before .before .before .before .loop .q))
-    (works (shapeOfSizes (c .before .before .before .before .before .before .args .s)) (c .before .before .before .before .before .before .args .words .now) (nodeAt (c .before .before .before .before .before .before .args .s) (c .before .before .before .before .before .before .args .x) (c .before .before .before .before .before .before .args .y)) (c .before .before .before .before .loop .q))
+found : (c : tie.After-queue-fits Inv-loop μ-loop) → Found (c .before .before .before .before .before .before) (c .before .before .before .before .loop .q) (c .queue-fits .result)
 found c = node-tally _ _ _ _ _ _ (part (c .before .before)) (c .queue-fits .ensures)
 
 returns : tie.Need-returns Inv-loop μ-loop
 returns c =
     node-stop _ _ _ _ _ _ (found (c .before .before .before)) (not-true _ (c .before .if1 .taken)) (c .before .before .before .before .before .before .loop-test .taken) (c .unfit .ensures)
 
--- the walk goes on
-next : (c : tie.Else1 Inv-loop μ-loop)
-    → NodeWalk (shapeOfSizes (c .before .before .before .before .before .before .before .before .args .s)) (c .before .before .before .before .before .before .before .before .args .words .now)
-    (nodeAt (c .before .before .before .before .before .before .before .before .args .s) (c .before .before .before .before .before .before .before .before .args .x) (c .before .before .before .before .before .before .before .before .args .y))
-    (c .before .before .before .before .before .before .loop .q + 1)
-    (c .before .before .before .before .before .before .loop .at + c .before .before .before .before .capacity .result + 1)
-    (c .before .before .before .before .before .before .loop .held + c .before .before .queue-fits .result .held)
-    (c .before .before .before .before .before .before .loop .work + c .before .before .queue-fits .result .work)
-next c =
-    let a = c .before .before .before .before .before .before .before .before .args in
-    node-more _ _ _ _ _ _ _ (c .before .before .before .before .capacity .result) (c .before .before .queue-fits .result)
-    (c .before .before .before .before .before .before .loop .inv) (c .before .before .before .before .capacity .ensures (a .s .x) (a .s .y)) (found (c .before .before))
-    (not-false _ (c .if1 .left)) (c .before .before .before .before .before .loop-test .taken)
+-- the walk goes on, and its sums are small
+module _ (c : tie.Else1 Inv-loop μ-loop) where
+  st : tie.Start Inv-loop μ-loop
+  st = c .before .before .before .before .before .before .before .before
 
-small : (c : tie.Else1 Inv-loop μ-loop)
-    → (c .before .before .before .before .before .before .loop .held + c .before .before .queue-fits .result .held ≤ 72)
-    × (c .before .before .before .before .before .before .loop .work + c .before .before .queue-fits .result .work ≤ 36792)
-small c =
-    let a = c .before .before .before .before .before .before .before .before .args in
-    let p = c .before .before .before .before .before .before .before .before .pre in
-    node-small _ _ _ (p .1) (node-lt (a .s) (a .x) (a .y) (p .0)) _ _ _ _ (next c)
+  next : NodeWalk (S st) (w st) (n st) (c .before .before .before .before .before .before .loop .q + 1)
+      (c .before .before .before .before .before .before .loop .at + c .before .before .before .before .capacity .result + 1)
+      (c .before .before .before .before .before .before .loop .held + c .before .before .queue-fits .result .held)
+      (c .before .before .before .before .before .before .loop .work + c .before .before .queue-fits .result .work)
+  unfolding st
+  next =
+      node-more _ _ _ _ _ _ _ (c .before .before .before .before .capacity .result) (c .before .before .queue-fits .result)
+      (c .before .before .before .before .before .before .loop .inv) (slots (c .before .before .before .before)) (found (c .before .before))
+      (not-false _ (c .if1 .left)) (c .before .before .before .before .before .loop-test .taken)
+
+  small : (c .before .before .before .before .before .before .loop .held + c .before .before .queue-fits .result .held ≤ 72)
+      × (c .before .before .before .before .before .before .loop .work + c .before .before .queue-fits .result .work ≤ 36792)
+  small = node-small _ _ _ (st .pre .1) (is-node st) _ _ _ _ next
 
 add-held : tie.Need-add-held Inv-loop μ-loop
 add-held c = omega (arith, small (c .before))
@@ -125,6 +136,7 @@ loop-less : tie.Need-loop-less Inv-loop μ-loop
 loop-less c = omega (arith, c .before .before .before .before .before .before .before .loop-test .taken)
 
 loop-again : tie.Need-loop-again Inv-loop μ-loop
+unfolding st
 loop-again c = next (c .before .before)
 
 returns-2 : tie.Need-returns-2 Inv-loop μ-loop

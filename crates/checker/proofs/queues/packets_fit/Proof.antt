@@ -2,13 +2,11 @@
 -- missing from the sum. Assumes nothing.
 use borrow.Author.Needs.{needs}
 use borrow.Author.Tests.{not-true, not-false}
-use mathlib.Core.Path.{_≡_, refl, ap, ap₂, sym, _∙_}
-use mathlib.Core.Bool.{Bool, true}
-use mathlib.Core.List.{List}
-use Prim.Native.Nat.{ℕ, _+_, _-_, _<_, _≤_}
+use mathlib.Core.Path.{refl, ap, sym, _∙_}
+use mathlib.Core.Bool.{Bool}
+use Prim.Native.Nat.{_-_, _≤_}
 use native.Mathlib.Omega.{arith}
-use lib.ListN.{length, getD}
-use Rattle.base.specs.Tests.{allOf}
+use lib.ListN.{length}
 use Rattle.base.specs.Sums.{sumOf}
 use Rattle.network.specs.Packet.{work}
 use Rattle.network.specs.Layout.{countOf, packetsOf}

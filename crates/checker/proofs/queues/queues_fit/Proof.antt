@@ -1,14 +1,14 @@
 -- `checker::queues::queues_fit` meets its contract. The loop's invariant: the nodes before n are tested and summed. Assumes nothing.
 use borrow.Author.Needs.{needs}
 use borrow.Author.Tests.{not-true, not-false}
-use mathlib.Core.Path.{_≡_, sym, _∙_}
-use Prim.Native.Nat.{ℕ, _+_, _-_, _<_, _≤_}
+use mathlib.Core.Path.{_≡_}
+use Prim.Native.Nat.{_+_, _-_, _<_, _≤_}
 use native.Mathlib.Omega.{arith}
 use Rattle.network.specs.Sizes.{nodes}
 use Rattle.network.specs.Layout.{nodeWords}
 use Rattle.packet.specs.Geometry.{shapeOfSizes, RingsFit}
 use Rattle.packet.specs.GeometryLaws.{inRange-rings, rings-nodes}
-use Rattle.queue.specs.QueueLaws.{Small, small}
+use Rattle.queue.specs.QueueLaws.{small}
 use Rattle.checker.specs.Limits.{OnTorus}
 use Rattle.checker.proofs.Walks.{NetWalk, net-start, net-on, net-first, net-tally, net-within, net-more, net-small, net-stop, net-done}
 use Rattle.checker.proofs.queues.queues_fit.Statement.{statement}
