@@ -1,0 +1,1 @@
+-- Proofs of the library for C: each function has a folder.

@@ -1,0 +1,106 @@
+// The calls for C, with the signatures of include/bench.h. Each returns the refusal's number, 0 if there is none, and writes all
+// words of `out`, 0 on a refusal. A pointer and a length are a slice here, an `out[2]` an array of two. No call asks anything of its
+// caller but what bench.h says of the memory.
+pub mod outs;
+
+ghost use mathlib.Core.Path.{_≡_};
+ghost use lib.ListN.{length};
+ghost use Rattle.network.specs.Refusals.{networkRefusal, makeRefusal, offerRefusal, lookRefusal};
+ghost use Rattle.network.specs.Calls.{shapeOf, makeWords, offerWords, moveWords, moveAnswer, movedNumber, creditAnswer, creditNumber, firstAnswer, foundNumber, drainWords, drainLedger, drainAnswer, drainedNumber};
+ghost use Rattle.bench_c.specs.Outs.{movedOut, creditOut, lookOut, foundOut, drainedOut};
+
+#[no_mangle]
+pub extern "C" fn bench_make(words: &mut [u64], x: u64, y: u64, e: u64, a: u64, j: u64) -> u64
+    ensures answer { λ r. ⌜ r ≡ makeRefusal (shapeOf x y e a j) (now (words .entry)) ⌝ }
+    ensures words { λ _. ⌜ now (words .exit) ≡ makeWords (shapeOf x y e a j) (now (words .entry)) ⌝ }
+{
+    calls::make(words, x, y, e, a, j)
+}
+
+#[no_mangle]
+pub extern "C" fn bench_check(words: &[u64]) -> u64
+    ensures { λ r. ⌜ r ≡ networkRefusal (now (words .entry)) ⌝ }
+{
+    calls::check(words)
+}
+
+#[no_mangle]
+pub extern "C" fn bench_offer(words: &mut [u64], node: u64, destination: u64, tag: u32) -> u64
+    ensures answer { λ r. ⌜ r ≡ offerRefusal (now (words .entry)) node destination ⌝ }
+    ensures words { λ _. ⌜ now (words .exit) ≡ offerWords (now (words .entry)) node destination tag ⌝ }
+{
+    calls::offer(words, node, destination, tag)
+}
+
+// out: how many packets were handed out, and the packet word.
+#[no_mangle]
+pub extern "C" fn bench_move(
+    words: &mut [u64],
+    node: u64,
+    queue: u64,
+    output: u64,
+    out: &mut [u64; 2],
+) -> u64
+    ensures answer { λ r. ⌜ r ≡ movedNumber (moveAnswer (now (words .entry)) node queue output) ⌝ }
+    ensures words { λ _. ⌜ now (words .exit) ≡ moveWords (now (words .entry)) node queue output ⌝ }
+    ensures out { λ _. ⌜ now (out .exit) ≡ movedOut (moveAnswer (now (words .entry)) node queue output) ⌝ }
+{
+    let m = calls::move_packet(words, node, queue, output);
+    outs::moved(out, m)
+}
+
+// out: the free slots.
+#[no_mangle]
+pub extern "C" fn bench_credit(words: &[u64], node: u64, output: u64, out: &mut [u64; 1]) -> u64
+    ensures answer { λ r. ⌜ r ≡ creditNumber (creditAnswer (now (words .entry)) node output) ⌝ }
+    ensures out { λ _. ⌜ now (out .exit) ≡ creditOut (creditAnswer (now (words .entry)) node output) ⌝ }
+{
+    let c = calls::credit(words, node, output);
+    outs::credit(out, c)
+}
+
+// out: the index of the first held word, and how many are held. C has no slices to give back, so this is where Look's part stands.
+#[no_mangle]
+pub extern "C" fn bench_look(words: &[u64], node: u64, queue: u64, out: &mut [u64; 2]) -> u64
+    ensures answer { λ r. ⌜ r ≡ lookRefusal (now (words .entry)) node queue ⌝ }
+    ensures out { λ _. ⌜ now (out .exit) ≡ lookOut (now (words .entry)) node queue ⌝ }
+{
+    let refusal = calls::look_refusal(words, node, queue);
+    if refusal != 0 {
+        *out = [0, 0];
+        return refusal;
+    }
+    let s = checker::sizes_of(words);
+    let start = queue::queue_start(s.escape, s.adaptive, s.injection, node, queue);
+    let count = rules::flow::held_count(words, s, node, queue);
+    let from = (start + 1) as u64;
+    *out = [from, count];
+    0
+}
+
+// out: whether there is a move, then its node, queue and output.
+#[no_mangle]
+pub extern "C" fn bench_first(words: &[u64], out: &mut [u64; 4]) -> u64
+    ensures answer { λ r. ⌜ r ≡ foundNumber (firstAnswer (now (words .entry))) ⌝ }
+    ensures out { λ _. ⌜ now (out .exit) ≡ foundOut (firstAnswer (now (words .entry))) ⌝ }
+{
+    let f = calls::first(words);
+    outs::found(out, f)
+}
+
+// out: the moves made, the number delivered, and why it stopped: 0 emptied, 1 spent, 2 full.
+#[no_mangle]
+pub extern "C" fn bench_drain(
+    words: &mut [u64],
+    budget: u32,
+    ledger: &mut [u64],
+    out: &mut [u64; 3],
+) -> u64
+    ensures answer { λ r. ⌜ r ≡ drainedNumber (drainAnswer (now (words .entry)) budget (length (now (ledger .entry)))) ⌝ }
+    ensures words { λ _. ⌜ now (words .exit) ≡ drainWords (now (words .entry)) budget (length (now (ledger .entry))) ⌝ }
+    ensures ledger { λ _. ⌜ now (ledger .exit) ≡ drainLedger (now (words .entry)) budget (now (ledger .entry)) ⌝ }
+    ensures out { λ _. ⌜ now (out .exit) ≡ drainedOut (drainAnswer (now (words .entry)) budget (length (now (ledger .entry)))) ⌝ }
+{
+    let d = calls::drain(words, budget, ledger);
+    outs::drained(out, d)
+}

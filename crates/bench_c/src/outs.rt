@@ -1,0 +1,100 @@
+// An answer as C gets it: its number is returned, and its values go to the words of `out` (specs/Outs.antt), each of them in every case.
+use network::Credit;
+use network::Drained;
+use network::Found;
+use network::Moved;
+use network::Stop;
+ghost use mathlib.Core.Path.{_≡_};
+ghost use Rattle.network.specs.Calls.{movedNumber, creditNumber, foundNumber, drainedNumber};
+ghost use Rattle.bench_c.specs.Outs.{movedOut, creditOut, foundOut, stopNumber, drainedOut};
+
+pub fn moved(out: &mut [u64; 2], m: Moved) -> u64
+    ensures answer { λ r. ⌜ r ≡ movedNumber m ⌝ }
+    ensures out { λ _. ⌜ now (out .exit) ≡ movedOut m ⌝ }
+{
+    match m {
+        Moved::Refused(r) => {
+            *out = [0, 0];
+            r
+        }
+        Moved::Passed => {
+            *out = [0, 0];
+            0
+        }
+        Moved::Delivered(p) => {
+            *out = [1, p];
+            0
+        }
+    }
+}
+
+pub fn credit(out: &mut [u64; 1], c: Credit) -> u64
+    ensures answer { λ r. ⌜ r ≡ creditNumber c ⌝ }
+    ensures out { λ _. ⌜ now (out .exit) ≡ creditOut c ⌝ }
+{
+    match c {
+        Credit::Refused(r) => {
+            *out = [0];
+            r
+        }
+        Credit::Free(n) => {
+            *out = [n];
+            0
+        }
+    }
+}
+
+pub fn found(out: &mut [u64; 4], f: Found) -> u64
+    ensures answer { λ r. ⌜ r ≡ foundNumber f ⌝ }
+    ensures out { λ _. ⌜ now (out .exit) ≡ foundOut f ⌝ }
+{
+    match f {
+        Found::Refused(r) => {
+            *out = [0, 0, 0, 0];
+            r
+        }
+        Found::Nothing => {
+            *out = [0, 0, 0, 0];
+            0
+        }
+        Found::Move {
+            node: n,
+            queue: q,
+            output: o,
+        } => {
+            *out = [1, n, q, o];
+            0
+        }
+    }
+}
+
+pub fn stop_number(s: Stop) -> u64
+    ensures { λ r. ⌜ r ≡ stopNumber s ⌝ }
+{
+    match s {
+        Stop::Emptied => 0,
+        Stop::Spent => 1,
+        Stop::Full => 2,
+    }
+}
+
+pub fn drained(out: &mut [u64; 3], d: Drained) -> u64
+    ensures answer { λ r. ⌜ r ≡ drainedNumber d ⌝ }
+    ensures out { λ _. ⌜ now (out .exit) ≡ drainedOut d ⌝ }
+{
+    match d {
+        Drained::Refused(r) => {
+            *out = [0, 0, 0];
+            r
+        }
+        Drained::Stopped {
+            moves: m,
+            delivered: n,
+            stop: s,
+        } => {
+            let why = stop_number(s);
+            *out = [m, n, why];
+            0
+        }
+    }
+}
