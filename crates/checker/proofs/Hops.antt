@@ -44,7 +44,13 @@ module _ (S : Shape) (q d : ℕ) where
   limit-lower ne t l =
       let nd : directionOf q ≢ d = λ e. differ (directionOf q) d l e in
       let ni : dimensionOf (directionOf q) ≢ dimensionOf d = λ e. apart (dimensionOf (directionOf q)) (dimensionOf d) l e in
-      rw (ne-eqb q injectionQueue ne, ne-eqb (directionOf q) d nd, ne-eqb (dimensionOf (directionOf q)) (dimensionOf d) ni, T-true (isEscape q) t, lt-ltb (dimensionOf d) (dimensionOf (directionOf q)) l)
+      rw (
+        ne-eqb q injectionQueue ne,
+        ne-eqb (directionOf q) d nd,
+        ne-eqb (dimensionOf (directionOf q)) (dimensionOf d) ni,
+        T-true (isEscape q) t,
+        lt-ltb (dimensionOf d) (dimensionOf (directionOf q)) l,
+      )
     where
       differ : (a b : ℕ) → dimensionOf b < dimensionOf a → a ≡ b → ⊥
       differ a b l e = omega arith
@@ -219,7 +225,9 @@ both-ways d p = by (ℕ-discrete (d % 2) 0) (distance-is (dimensionOf d) p)
 module _ (S : Shape) (n q p : ℕ) where
   hops-below : PacketFits S n q p → (d : ℕ) → d < directions → hops d p < limit S q d
   unfolding half
-  hops-below f d h = go (ℕ-discrete q injectionQueue) (ℕ-discrete (directionOf q) d) (ℕ-discrete (dimensionOf (directionOf q)) (dimensionOf d)) (passed? (isEscape q)) (decLt (dimensionOf d) (dimensionOf (directionOf q)))
+  hops-below f d h =
+      go (ℕ-discrete q injectionQueue) (ℕ-discrete (directionOf q) d) (ℕ-discrete (dimensionOf (directionOf q)) (dimensionOf d)) (passed? (isEscape q))
+      (decLt (dimensionOf d) (dimensionOf (directionOf q)))
     where
       -- what half of the ring bounds
       far : hops d p < half S (dimensionOf d) + 1
@@ -310,10 +318,14 @@ module _ (S : Shape) (n q p : ℕ) where
               omega arith
 
       far : (i : ℕ) → i < dimensions → distance i p ≤ size S i / 2
-      far i k =
-          distance-below i
-          (let a = h (plus i) (omega arith) in let b = limit-most S q (plus i) in let s : half S (dimensionOf (plus i)) ≡ half S i = ap (half S) (let t : dimensionOf (plus i) ≡ i = omega arith in t) in omega arith)
-          (let a = h (minus i) (omega arith) in let b = limit-most S q (minus i) in let s : half S (dimensionOf (minus i)) ≡ half S i = ap (half S) (let t : dimensionOf (minus i) ≡ i = omega arith in t) in omega arith)
+      far i k = distance-below i (each (plus i) (omega arith) (omega arith)) (each (minus i) (omega arith) (omega arith))
+        where
+          each : (d : ℕ) → d < directions → dimensionOf d ≡ i → hops d p < half S i + 1
+          each d l e =
+              let a = h d l in
+              let b = limit-most S q d in
+              let c : half S (dimensionOf d) ≡ half S i = ap (half S) e in
+              omega arith
 
       near : (i : ℕ) → i < dimensions → Dec (q ≡ injectionQueue) → Dec (dimensionOf (directionOf q) ≡ i) → reach i q p ≤ size S i / 2
       near i k (yes z) d = let r = reach-injection i q p z in let l = far i k in omega arith
@@ -333,9 +345,17 @@ module _ (S : Shape) (n q p : ℕ) where
   pub fits-is : Torus S → n < nodes S → packetFits S n q p ≡ fitsWithin S n (limitsOf S q) p
   unfolding fitsWithin
   fits-is torus hn =
-      same-test (packetFits S n q p) (belowLimits (limitsOf S q) p && eqb (destination p) (movedBy S p n))
-      (λ t. let f = packet-of S n q p t in and-i (belowLimits (limitsOf S q) p) (eqb (destination p) (movedBy S p n)) (below-by S q p (hops-below f)) (eq-T (destination p) (movedBy S p n) (sym (f .arrives))))
-      (λ t. packet-by S n q p (clauses torus hn (below-of S q p (and-l (belowLimits (limitsOf S q) p) (eqb (destination p) (movedBy S p n)) t)) (sym (eqb→eq (destination p) (movedBy S p n) (and-r (belowLimits (limitsOf S q) p) (eqb (destination p) (movedBy S p n)) t)))))
+      same-test (packetFits S n q p) (near && there)
+      (λ t. let f = packet-of S n q p t in and-i near there (below-by S q p (hops-below f)) (eq-T (destination p) (movedBy S p n) (sym (f .arrives))))
+      (λ t.
+      packet-by S n q p
+      (clauses torus hn (below-of S q p (and-l near there t)) (sym (eqb→eq (destination p) (movedBy S p n) (and-r near there t)))))
+    where
+      near : Bool
+      near = belowLimits (limitsOf S q) p
+
+      there : Bool
+      there = eqb (destination p) (movedBy S p n)
 
 -- A coordinate moved ------------------------------------------------------------------------------------------------------------------
 

@@ -346,7 +346,15 @@ pub record Computed (S : Shape) (d u v first line step slots count : ℕ) : Type
   pub room : slots ≡ S .escape
   pub round : count ≡ size S (dimensionOf d)
 
-module _ (S : Shape) (w : List ℕ) (d u v lines first line step slots count : ℕ) (enough : Enough S w) (torus : Torus S) (hd : d < directions) (ls : Lines S (dimensionOf d) u v lines) (are : Computed S d u v first line step slots count) where
+module _
+    (S : Shape)
+    (w : List ℕ)
+    (d u v lines first line step slots count : ℕ)
+    (enough : Enough S w)
+    (torus : Torus S)
+    (hd : d < directions)
+    (ls : Lines S (dimensionOf d) u v lines)
+    (are : Computed S d u v first line step slots count) where
   position : (l j : ℕ) → first + l * line + j * step ≡ queueStart S (l * u + j * v) (escapeQueue d)
   unfolding queueStart
   position l j =
@@ -420,8 +428,8 @@ module _ (s : Sizes) (w : List ℕ) (d first node row : ℕ) (r : RingsFit s) (e
   pub rows-in : d < 2 → LinesIn w first row (s .y) node (s .x)
   rows-in h = lines-in (shapeOfSizes s) w d (s .x) 1 (s .y) first row node (s .escape) (s .x) enough (rings-torus s r) hd (rows-of h) (rows-computed h)
 
-  pub rows-are : d < 2 → linesRoom w (s .escape) first row (s .y) node (s .x) ≡ allBelow (nodes (shapeOfSizes s)) (λ n. ringHasRoom (shapeOfSizes s) w d n)
-  rows-are h = lines-are (shapeOfSizes s) w d (s .x) 1 (s .y) first row node (s .escape) (s .x) enough (rings-torus s r) hd (rows-of h) (rows-computed h)
+  pub rows-are : d < 2 → (b : Bool) → b ≡ linesRoom w (s .escape) first row (s .y) node (s .x) → b ≡ allBelow (nodes (shapeOfSizes s)) (λ n. ringHasRoom (shapeOfSizes s) w d n)
+  rows-are h b e = e ∙ lines-are (shapeOfSizes s) w d (s .x) 1 (s .y) first row node (s .escape) (s .x) enough (rings-torus s r) hd (rows-of h) (rows-computed h)
 
   columns-of : 2 ≤ d → Lines (shapeOfSizes s) (dimensionOf d) 1 (s .x) (s .x)
   columns-of h = subst (λ (i : ℕ). Lines (shapeOfSizes s) i 1 (s .x) (s .x)) (let e : 1 ≡ dimensionOf d = omega arith in e) (columns s r)
@@ -433,5 +441,5 @@ module _ (s : Sizes) (w : List ℕ) (d first node row : ℕ) (r : RingsFit s) (e
   pub columns-in : 2 ≤ d → LinesIn w first node (s .x) row (s .y)
   columns-in h = lines-in (shapeOfSizes s) w d 1 (s .x) (s .x) first node row (s .escape) (s .y) enough (rings-torus s r) hd (columns-of h) (columns-computed h)
 
-  pub columns-are : 2 ≤ d → linesRoom w (s .escape) first node (s .x) row (s .y) ≡ allBelow (nodes (shapeOfSizes s)) (λ n. ringHasRoom (shapeOfSizes s) w d n)
-  columns-are h = lines-are (shapeOfSizes s) w d 1 (s .x) (s .x) first node row (s .escape) (s .y) enough (rings-torus s r) hd (columns-of h) (columns-computed h)
+  pub columns-are : 2 ≤ d → (b : Bool) → b ≡ linesRoom w (s .escape) first node (s .x) row (s .y) → b ≡ allBelow (nodes (shapeOfSizes s)) (λ n. ringHasRoom (shapeOfSizes s) w d n)
+  columns-are h b e = e ∙ lines-are (shapeOfSizes s) w d 1 (s .x) (s .x) first node row (s .escape) (s .y) enough (rings-torus s r) hd (columns-of h) (columns-computed h)

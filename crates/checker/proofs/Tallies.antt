@@ -1,4 +1,5 @@
--- Tallies: what one says; a list's elements tested and summed one by one; so many queues or nodes tested and summed one by one. Assumes nothing.
+-- Tallies. Order: what one says; a list's elements tested and summed one by one; so many queues or nodes tested and summed one by one; bounds of
+-- sums; a queue's packets one by one. Assumes nothing.
 use mathlib.Core.Path.{_≡_, refl, ap, ap₂, sym, _∙_}
 use mathlib.Core.Bool.{Bool, true, false, _&&_, true≢false}
 use mathlib.Core.List.{List, [], _∷_}
@@ -34,6 +35,13 @@ pub tally-no : (t : Tally) (b : Bool) (held work : ℕ) → t ≡ tally b held w
 unfolding tally
 tally-no t true held work e k = absurd (true≢false (sym (ap (λ (u : Tally). u .ok) e) ∙ k))
 tally-no t false held work e k = refl
+
+-- the tally of a test that fails, or that is another test
+pub tally-fails : (t : Tally) (b : Bool) (held work : ℕ) → ((h k : ℕ) → t ≡ tally false h k) → b ≡ false → t ≡ tally b held work
+tally-fails t b held work u e = u held work ∙ ap (λ (c : Bool). tally c held work) (sym e)
+
+pub tally-same : (t : Tally) (a b : Bool) (held work : ℕ) → t ≡ tally a held work → b ≡ a → t ≡ tally b held work
+tally-same t a b held work u e = u ∙ ap (λ (c : Bool). tally c held work) (sym e)
 
 -- A list's elements one by one ------------------------------------------------------------------------------------------------------------
 

@@ -23,7 +23,7 @@ use Rattle.packet.specs.declared.torus.Sizes.{Sizes}
 use Rattle.checker.specs.declared.queues.Tally.{Tally}
 use Rattle.checker.specs.Limits.{nodeAt, OnTorus}
 use Rattle.checker.specs.Tally.{tally, partFits, nodeTally, Enough}
-use Rattle.checker.proofs.Tallies.{Upto, upto-start, upto-more, upto-stop, upto-end, below-most, of-most, work-most}
+use Rattle.checker.proofs.Tallies.{tally-fails, Upto, upto-start, upto-more, upto-stop, upto-end, below-most, of-most, work-most}
 
 -- What every queue comes to ---------------------------------------------------------------------------------------------------------------
 
@@ -125,8 +125,8 @@ module _ (S : Shape) (w : List ℕ) (n : ℕ) where
       → ((held work : ℕ) → r ≡ tally false held work) → r ≡ nodeTally S w n
   unfolding nodeTally
   node-stop q t r e no′ h u =
-      u (sumBelow queues (holds S w n)) (sumBelow queues (works S w n))
-      ∙ ap (λ (b : Bool). tally b (sumBelow queues (holds S w n)) (sumBelow queues (works S w n))) (sym (upto-stop (fits S w n) (holds S w n) (works S w n) queues q t h e no′))
+      tally-fails r (allBelow queues (fits S w n)) (sumBelow queues (holds S w n)) (sumBelow queues (works S w n)) u
+      (upto-stop (fits S w n) (holds S w n) (works S w n) queues q t h e no′)
 
   pub node-done : (q at held work : ℕ) → NodeWalk S w n q at held work → queues ≤ q → record { ok = true; held = held; work = work } ≡ nodeTally S w n
   unfolding nodeTally
@@ -240,11 +240,9 @@ module _ (s : Sizes) (w : List ℕ) where
       → r ≡ tally (queuesFit (shapeOfSizes s) w) (packetsHeld (shapeOfSizes s) w) (workLeft (shapeOfSizes s) w)
   unfolding queuesFit packetsHeld workLeft total
   net-stop n x y start held work t r walk h e no′ u =
-      u (packetsHeld (shapeOfSizes s) w) (workLeft (shapeOfSizes s) w)
-      ∙ ap (λ (b : Bool). tally b (packetsHeld (shapeOfSizes s) w) (workLeft (shapeOfSizes s) w))
-      (sym
+      tally-fails r (queuesFit (shapeOfSizes s) w) (packetsHeld (shapeOfSizes s) w) (workLeft (shapeOfSizes s) w) u
       (upto-stop (nodeFits (shapeOfSizes s) w) (nodeHolds (shapeOfSizes s) w) (nodeWorks (shapeOfSizes s) w) (nodes (shapeOfSizes s)) n t h
-      (net-tally n x y start held work t walk e) no′))
+      (net-tally n x y start held work t walk e) no′)
 
   pub net-done : (n x y start held work : ℕ) → NetWalk s w n x y start held work → nodes (shapeOfSizes s) ≤ n
       → record { ok = true; held = held; work = work } ≡ tally (queuesFit (shapeOfSizes s) w) (packetsHeld (shapeOfSizes s) w) (workLeft (shapeOfSizes s) w)

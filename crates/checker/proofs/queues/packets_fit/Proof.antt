@@ -2,18 +2,17 @@
 -- missing from the sum. Assumes nothing.
 use borrow.Author.Needs.{needs}
 use borrow.Author.Tests.{not-true, not-false}
-use mathlib.Core.Path.{refl, ap, sym, _∙_}
-use mathlib.Core.Bool.{Bool}
-use Prim.Native.Nat.{_-_, _≤_}
+use mathlib.Core.Path.{_≡_, refl, sym, _∙_}
+use mathlib.Core.Bool.{Bool, true, false}
+use mathlib.Core.List.{List}
+use Prim.Native.Nat.{ℕ, _+_, _-_, _≤_}
 use native.Mathlib.Omega.{arith}
-use lib.ListN.{length}
-use Rattle.base.specs.Sums.{sumOf}
+use lib.ListN.{getD}
 use Rattle.network.specs.Packet.{work}
 use Rattle.network.specs.Layout.{countOf, packetsOf}
 use Rattle.packet.specs.Geometry.{shapeOfSizes}
 use Rattle.checker.specs.Limits.{nodeAt, fitsWithin}
-use Rattle.checker.specs.Tally.{tally}
-use Rattle.checker.proofs.Tallies.{Left, left-start, packets-stop, packets-more, packets-small, packets-end}
+use Rattle.checker.proofs.Tallies.{tally-fails, Left, left-start, packets-stop, packets-more, packets-small, packets-end}
 use Rattle.checker.proofs.queues.packets_fit.Statement.{statement}
 use Rattle.checker.proofs.queues.packets_fit.Tie as tie
 
@@ -22,6 +21,13 @@ Inv-loop part s x y l count sum₀ i₀ sum i = Left (fitsWithin (shapeOfSizes s
 
 abbrev μ-loop : tie.MeasureT-loop
 μ-loop part s x y l count sum₀ i₀ sum i = count - i
+
+-- the queue's words, and the test of a packet
+abbrev part : tie.Start Inv-loop μ-loop → List ℕ
+part st = st .args .part .now
+
+abbrev test : tie.Start Inv-loop μ-loop → ℕ → Bool
+test st = fitsWithin (shapeOfSizes (st .args .s)) (nodeAt (st .args .s) (st .args .x) (st .args .y)) (st .args .l)
 
 shared-slice-read-count : tie.Need-shared-slice-read-count Inv-loop μ-loop
 unfolding countOf
@@ -48,18 +54,23 @@ packet-fits-requires c κs = search needs
 unfit-requires : tie.Need-unfit-requires Inv-loop μ-loop
 unfit-requires c κs = search needs
 
+-- the packet has failed, or passed
+abbrev word : tie.After-packet-fits Inv-loop μ-loop → ℕ
+word c = getD (part (c .before .before .before .before .before .before)) (c .before .before .before .loop .i + 1) 0
+
+failed : (c : tie.Then1 Inv-loop μ-loop) → test (c .before .before .before .before .before .before .before) (word (c .before)) ≡ false
+failed c = sym (c .before .packet-fits .ensures) ∙ not-true _ (c .if1 .taken)
+
+passed : (c : tie.Else1 Inv-loop μ-loop) → test (c .before .before .before .before .before .before .before) (word (c .before)) ≡ true
+passed c = sym (c .before .packet-fits .ensures) ∙ not-false _ (c .if1 .left)
+
 returns : tie.Need-returns Inv-loop μ-loop
 unfolding countOf
 returns c =
-    let a = c .before .before .before .before .before .before .before .before .args in
-    let f = fitsWithin (shapeOfSizes (a .s)) (nodeAt (a .s) (a .x) (a .y)) (a .l) in
-    c .unfit .ensures _ _
-    ∙ ap (λ (b : Bool). tally b (length (packetsOf (a .part .now))) (sumOf work (packetsOf (a .part .now))))
-    (sym
-    (packets-stop f (a .part .now) (c .before .before .before .before .before .before .before .before .pre .2)
-    (c .before .before .before .before .before .loop .i) (c .before .before .before .before .before .loop .work)
-    (c .before .before .before .before .before .loop .inv .0) (c .before .before .before .before .loop-test .taken)
-    (sym (c .before .before .packet-fits .ensures) ∙ not-true _ (c .before .if1 .taken))))
+    let st = c .before .before .before .before .before .before .before .before in
+    tally-fails _ _ _ _ (c .unfit .ensures)
+    (packets-stop (test st) (part st) (st .pre .2) _ _ (c .before .before .before .before .before .loop .inv .0) (c .before .before .before .before .loop-test .taken)
+    (failed (c .before)))
 
 work-requires : tie.Need-work-requires Inv-loop μ-loop
 work-requires c κs = search needs
@@ -67,15 +78,10 @@ work-requires c κs = search needs
 add-work : tie.Need-add-work Inv-loop μ-loop
 unfolding countOf
 add-work c =
-    let a = c .before .before .before .before .before .before .before .before .args in
-    let f = fitsWithin (shapeOfSizes (a .s)) (nodeAt (a .s) (a .x) (a .y)) (a .l) in
-    omega (
-      arith,
-      packets-small f (a .part .now) (c .before .before .before .before .before .before .before .before .pre .2)
-          (c .before .before .before .before .before .loop .i) (c .before .before .before .before .before .loop .work) (c .work .result)
-          (c .before .before .before .before .before .loop .inv .0) (c .before .before .before .before .loop-test .taken) (c .work .ensures)
-          (c .before .before .before .before .before .before .before .before .pre .3),
-    )
+    let st = c .before .before .before .before .before .before .before .before in
+    let l = packets-small (test st) (part st) (st .pre .2) _ _ (c .work .result) (c .before .before .before .before .before .loop .inv .0)
+    (c .before .before .before .before .loop-test .taken) (c .work .ensures) (st .pre .3) in
+    omega arith
 
 add-i : tie.Need-add-i Inv-loop μ-loop
 unfolding countOf
@@ -88,22 +94,17 @@ loop-less c = omega arith
 loop-again : tie.Need-loop-again Inv-loop μ-loop
 unfolding countOf
 loop-again c =
-    let a = c .before .before .before .before .before .before .before .before .args in
-    let f = fitsWithin (shapeOfSizes (a .s)) (nodeAt (a .s) (a .x) (a .y)) (a .l) in (
-      packets-more f (a .part .now) (c .before .before .before .before .before .before .before .before .pre .2)
-          (c .before .before .before .before .before .loop .i) (c .before .before .before .before .before .loop .work) (c .work .result)
-          (c .before .before .before .before .before .loop .inv .0) (c .before .before .before .before .loop-test .taken)
-          (sym (c .before .before .packet-fits .ensures) ∙ not-false _ (c .before .if1 .left)) (c .work .ensures),
+    let st = c .before .before .before .before .before .before .before .before in (
+      packets-more (test st) (part st) (st .pre .2) _ _ (c .work .result) (c .before .before .before .before .before .loop .inv .0)
+          (c .before .before .before .before .loop-test .taken) (passed (c .before)) (c .work .ensures),
       omega arith,
     )
 
 returns-2 : tie.Need-returns-2 Inv-loop μ-loop
 unfolding countOf
 returns-2 c =
-    let a = c .before .before .before .before .args in
-    let f = fitsWithin (shapeOfSizes (a .s)) (nodeAt (a .s) (a .x) (a .y)) (a .l) in
-    packets-end f (a .part .now) (c .before .before .before .before .pre .2) (c .before .loop .i) (c .before .loop .work) _
-    (c .before .loop .inv .0) refl (c .loop-test .left)
+    let st = c .before .before .before .before in
+    packets-end (test st) (part st) (st .pre .2) _ _ _ (c .before .loop .inv .0) refl (c .loop-test .left)
 
 pub packets-fit-spec : {M : Type 1} → statement M
 packets-fit-spec =

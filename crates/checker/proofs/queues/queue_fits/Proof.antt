@@ -1,25 +1,32 @@
 -- `checker::queues::queue_fits` meets its contract. Assumes nothing.
 use borrow.Author.Needs.{needs}
 use borrow.Author.Tests.{not-true, not-false}
-use mathlib.Core.Path.{_≡_, ap, sym, subst, _∙_}
-use mathlib.Core.Bool.{Bool, true}
-use Prim.Native.Nat.{_+_}
+use mathlib.Core.Path.{_≡_, sym, subst, _∙_}
+use mathlib.Core.Bool.{true}
+use Prim.Native.Nat.{ℕ, _+_}
 use native.Mathlib.Omega.{arith}
 use lib.Dec.{eqb}
-use lib.ListN.{length, drop}
+use lib.ListN.{drop}
 use Rattle.base.specs.Tests.{allOf}
-use Rattle.base.specs.Sums.{sumOf}
-use Rattle.network.specs.Packet.{work}
+use Rattle.network.specs.Sizes.{Shape}
 use Rattle.network.specs.Layout.{countOf, packetsOf, queueLength}
 use Rattle.packet.specs.Geometry.{shapeOfSizes}
 use Rattle.packet.specs.GeometryLaws.{rings-torus}
-use Rattle.checker.specs.Limits.{nodeAt, LimitsFit}
-use Rattle.checker.specs.Tally.{tally}
+use Rattle.checker.specs.Limits.{nodeAt, LimitsFit, fitsWithin}
+use Rattle.checker.specs.Tally.{partFits}
 use Rattle.checker.proofs.Hops.{limits-fit}
 use Rattle.checker.proofs.Nodes.{node-lt}
+use Rattle.checker.proofs.Tallies.{tally-fails, tally-same}
 use Rattle.checker.proofs.Parts.{part-over, part-used, part-limits, part-empty}
 use Rattle.checker.proofs.queues.queue_fits.Statement.{statement}
 use Rattle.checker.proofs.queues.queue_fits.Tie as tie
+
+-- the sizes and the node
+abbrev S : tie.Start → Shape
+S st = shapeOfSizes (st .args .s)
+
+abbrev n : tie.Start → ℕ
+n st = nodeAt (st .args .s) (st .args .x) (st .args .y)
 
 shared-slice-read-count : tie.Need-shared-slice-read-count
 unfolding queueLength
@@ -31,10 +38,8 @@ unfit-requires c κs = search needs
 returns : tie.Need-returns
 unfolding countOf
 returns c =
-    let a = c .before .before .before .before .args in
-    c .unfit .ensures _ _
-    ∙ ap (λ (b : Bool). tally b (length (packetsOf (a .part .now))) (sumOf work (packetsOf (a .part .now))))
-    (sym (part-over (shapeOfSizes (a .s)) (nodeAt (a .s) (a .x) (a .y)) (a .q) (a .part .now) (c .before .before .before .before .pre .1) (c .before .if1 .taken)))
+    let st = c .before .before .before .before in
+    tally-fails _ _ _ _ (c .unfit .ensures) (part-over (S st) (n st) (st .args .q) (st .args .part .now) (st .pre .1) (c .before .if1 .taken))
 
 add-all-zero : tie.Need-add-all-zero
 add-all-zero c = search needs
@@ -48,12 +53,10 @@ unfit-requires-2 c κs = search needs
 returns-2 : tie.Need-returns-2
 unfolding countOf
 returns-2 c =
-    let a = c .before .before .before .before .before .before .args in
-    c .unfit2 .ensures _ _
-    ∙ ap (λ (b : Bool). tally b (length (packetsOf (a .part .now))) (sumOf work (packetsOf (a .part .now))))
-    (sym
-    (part-used (shapeOfSizes (a .s)) (nodeAt (a .s) (a .x) (a .y)) (a .q) (a .part .now) (c .before .before .before .before .before .before .pre .1)
-    (c .before .before .before .if1 .left) (sym (c .before .before .all-zero .ensures) ∙ not-true _ (c .before .if2 .taken))))
+    let st = c .before .before .before .before .before .before in
+    tally-fails _ _ _ _ (c .unfit2 .ensures)
+    (part-used (S st) (n st) (st .args .q) (st .args .part .now) (st .pre .1) (c .before .before .before .if1 .left)
+    (sym (c .before .before .all-zero .ensures) ∙ not-true _ (c .before .if2 .taken)))
 
 -- the unused words are 0
 zeros : (c : tie.Else2) → allOf (eqb 0) (drop (countOf (c .before .before .before .before .before .args .part .now) + 1) (c .before .before .before .before .before .args .part .now)) ≡ true
@@ -63,9 +66,8 @@ zeros c = sym (c .before .all-zero .ensures) ∙ not-false _ (c .if2 .left)
 returns-3 : tie.Need-returns-3
 unfolding countOf
 returns-3 c =
-    let a = c .before .before .before .before .before .before .args in
-    part-empty (shapeOfSizes (a .s)) (nodeAt (a .s) (a .x) (a .y)) (a .q) (a .part .now) (c .before .before .before .before .before .before .pre .1)
-    (c .if3 .taken) (c .before .before .before .if1 .left) (zeros (c .before))
+    let st = c .before .before .before .before .before .before in
+    part-empty (S st) (n st) (st .args .q) (st .args .part .now) (st .pre .1) (c .if3 .taken) (c .before .before .before .if1 .left) (zeros (c .before))
 
 limits-of-requires : tie.Need-limits-of-requires
 limits-of-requires c κs = search needs
@@ -73,20 +75,28 @@ limits-of-requires c κs = search needs
 packets-fit-requires : tie.Need-packets-fit-requires
 unfolding countOf
 packets-fit-requires c κs =
-    let a = c .before .before .before .before .before .before .before .args in
-    let p = c .before .before .before .before .before .before .before .pre in
-    (p .0, subst (LimitsFit (a .s)) (sym (c .limits-of .ensures)) (limits-fit (a .s) (a .q) (p .0 .rings)), c .before .before .before .before .if1 .left, p .2)
+    let st = c .before .before .before .before .before .before .before in (
+      st .pre .0,
+      subst (LimitsFit (st .args .s)) (sym (c .limits-of .ensures)) (limits-fit (st .args .s) (st .args .q) (st .pre .0 .rings)),
+      c .before .before .before .before .if1 .left,
+      st .pre .2,
+    )
+
+-- it is for the packets to decide, by the limits
+decide : (c : tie.After-limits-of)
+    → partFits (S (c .before .before .before .before .before .before .before)) (n (c .before .before .before .before .before .before .before)) (c .before .before .before .before .before .before .before .args .q)
+    (c .before .before .before .before .before .before .before .args .part .now)
+    ≡ allOf (fitsWithin (S (c .before .before .before .before .before .before .before)) (n (c .before .before .before .before .before .before .before)) (c .limits-of .result))
+    (packetsOf (c .before .before .before .before .before .before .before .args .part .now))
+unfolding countOf
+decide c =
+    let st = c .before .before .before .before .before .before .before in
+    part-limits (S st) (n st) (st .args .q) (st .args .part .now) (st .pre .1) (c .limits-of .result) (c .limits-of .ensures)
+    (rings-torus (st .args .s) (st .pre .0 .rings)) (node-lt (st .args .s) (st .args .x) (st .args .y) (st .pre .0))
+    (c .before .before .before .before .if1 .left) (zeros (c .before .before))
 
 returns-4 : tie.Need-returns-4
-unfolding countOf
-returns-4 c =
-    let a = c .before .before .before .before .before .before .before .before .args in
-    let p = c .before .before .before .before .before .before .before .before .pre in
-    c .packets-fit .ensures
-    ∙ ap (λ (b : Bool). tally b (length (packetsOf (a .part .now))) (sumOf work (packetsOf (a .part .now))))
-    (sym
-    (part-limits (shapeOfSizes (a .s)) (nodeAt (a .s) (a .x) (a .y)) (a .q) (a .part .now) (p .1) (c .before .limits-of .result) (c .before .limits-of .ensures)
-    (rings-torus (a .s) (p .0 .rings)) (node-lt (a .s) (a .x) (a .y) (p .0)) (c .before .before .before .before .before .if1 .left) (zeros (c .before .before .before))))
+returns-4 c = tally-same _ _ _ _ _ (c .packets-fit .ensures) (decide (c .before))
 
 pub queue-fits-spec : {M : Type 1} → statement M
 queue-fits-spec =

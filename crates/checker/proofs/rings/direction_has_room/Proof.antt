@@ -1,6 +1,6 @@
 -- `checker::rings::direction_has_room` meets its contract. Assumes nothing.
 use borrow.Author.Needs.{needs}
-use mathlib.Core.Path.{_≡_, refl, _∙_}
+use mathlib.Core.Path.{_≡_, refl}
 use Prim.Native.Nat.{_*_, _≤_}
 use native.Mathlib.Nat.{mul-le-mul}
 use native.Mathlib.Omega.{arith}
@@ -59,7 +59,7 @@ lines-room-requires c κs =
 returns : tie.Need-returns
 returns c =
     let st = c .before .before .before .before .before .before in
-    c .lines-room .ensures ∙ rows-are _ _ _ _ _ _ (rings st) (st .pre .0) (st .pre .1) (found (c .before .before)) (c .before .if1 .taken)
+    rows-are _ _ _ _ _ _ (rings st) (st .pre .0) (st .pre .1) (found (c .before .before)) (c .before .if1 .taken) _ (c .lines-room .ensures)
 
 lines-room-requires-2 : tie.Need-lines-room-requires-2
 lines-room-requires-2 c κs =
@@ -69,7 +69,7 @@ lines-room-requires-2 c κs =
 returns-2 : tie.Need-returns-2
 returns-2 c =
     let st = c .before .before .before .before .before .before in
-    c .lines-room2 .ensures ∙ columns-are _ _ _ _ _ _ (rings st) (st .pre .0) (st .pre .1) (found (c .before .before)) (c .before .if1 .left)
+    columns-are _ _ _ _ _ _ (rings st) (st .pre .0) (st .pre .1) (found (c .before .before)) (c .before .if1 .left) _ (c .lines-room2 .ensures)
 
 pub direction-has-room-spec : {M : Type 1} → statement M
 direction-has-room-spec =

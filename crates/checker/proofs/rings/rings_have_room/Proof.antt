@@ -31,7 +31,8 @@ direction-has-room-requires : tie.Need-direction-has-room-requires Inv-loop μ-l
 direction-has-room-requires c κs = (c .before .before .before .pre, c .loop-test .taken)
 
 -- what the call says
-found : (c : tie.After-direction-has-room Inv-loop μ-loop) → c .direction-has-room .result ≡ rooms (shapeOfSizes (c .before .before .before .before .args .s)) (c .before .before .before .before .args .words .now) (c .before .before .loop .d)
+found : (c : tie.After-direction-has-room Inv-loop μ-loop)
+    → c .direction-has-room .result ≡ rooms (shapeOfSizes (c .before .before .before .before .args .s)) (c .before .before .before .before .args .words .now) (c .before .before .loop .d)
 unfolding rooms
 found c = c .direction-has-room .ensures
 
