@@ -1,12 +1,16 @@
 // A command of a sheet carried out: the call that it names on the store, and its answer written as lines. The caller sees that there is
 // room for what any command prints.
+use sheet::lines::Fed;
+use sheet::lines::Pending;
 use sheet::read::Command;
 ghost use mathlib.Core.Path.{_≡_};
 ghost use Prim.Native.Nat.{_+_, _≤_};
 ghost use lib.ListN.{length};
 ghost use Rattle.sheet.specs.Commands.{commandOf};
 ghost use Rattle.sheet.specs.Output.{Put};
+ghost use Rattle.sheet.specs.Cutting.{heldBytes, fedBuffer, fedAnswer, finishedAnswer, pendingAfter};
 ghost use Rattle.session.specs.Session.{perform, commandRoom};
+ghost use Rattle.session.specs.Running.{fedCommands, LineWithin, Ran};
 
 // The bytes that any command prints at most.
 pub const COMMAND_ROOM: usize = 1314;
@@ -106,4 +110,65 @@ pub fn run_line(store: &mut [u64], line: &[u8], out: &mut [u8], at: usize) -> us
 {
     let command = sheet::read::read_command(line);
     run_command(store, command, out, at)
+}
+
+// What the line cutter hands on: no line, a line, or one that is too long.
+fn run_fed(store: &mut [u64], line: &[u8], fed: Fed, out: &mut [u8], at: usize) -> usize
+    requires { ⌜ at + commandRoom ≤ length (now out) ⌝ }
+    requires { ⌜ LineWithin fed (now line) ⌝ }
+    ensures { λ r. ⌜ Ran (fedCommands (now (line .entry)) fed) (now (store .entry)) (now (out .entry)) at (now (store .exit)) (now (out .exit)) r ⌝ }
+{
+    match fed {
+        Fed::More(_) => at,
+        Fed::Line(n) => run_line(store, &line[..n], out, at),
+        Fed::TooLong => run_command(store, Command::Bad, out, at),
+    }
+}
+
+// How many bytes of a line are pending then.
+fn pending_after(fed: Fed) -> usize
+    ensures { λ r. ⌜ r ≡ pendingAfter fed ⌝ }
+{
+    match fed {
+        Fed::More(pending) => pending.count,
+        Fed::Line(_) => 0,
+        Fed::TooLong => 0,
+    }
+}
+
+// How far a sheet has come: the bytes that are pending of a line, and those of the output that are not yet written.
+pub struct Place {
+    pub count: usize,
+    pub at: usize,
+}
+
+// A byte of the input.
+pub fn run_byte(store: &mut [u64], line: &mut [u8], place: Place, b: u8, out: &mut [u8]) -> Place
+    requires { ⌜ heldBytes ≤ length (now line) ⌝ }
+    requires { ⌜ place .at + commandRoom ≤ length (now out) ⌝ }
+    ensures line { λ _. ⌜ now (line .exit) ≡ fedBuffer (now (line .entry)) (place .count) b ⌝ }
+    ensures pending { λ r. ⌜ r .count ≡ pendingAfter (fedAnswer (now (line .entry)) (place .count) b) ⌝ }
+    ensures ran { λ r. ⌜ Ran (fedCommands (fedBuffer (now (line .entry)) (place .count) b) (fedAnswer (now (line .entry)) (place .count) b)) (now (store .entry)) (now (out .entry)) (place .at) (now (store .exit)) (now (out .exit)) (r .at) ⌝ }
+{
+    let count = place.count;
+    let at = place.at;
+    let fed = sheet::lines::feed(line, Pending { count: count }, b);
+    let next = run_fed(store, line, fed, out, at);
+    let pending = pending_after(fed);
+    Place {
+        count: pending,
+        at: next,
+    }
+}
+
+// The end of the input.
+pub fn run_end(store: &mut [u64], line: &[u8], place: Place, out: &mut [u8]) -> usize
+    requires { ⌜ heldBytes ≤ length (now line) ⌝ }
+    requires { ⌜ place .at + commandRoom ≤ length (now out) ⌝ }
+    ensures { λ r. ⌜ Ran (fedCommands (now (line .entry)) (finishedAnswer (place .count))) (now (store .entry)) (now (out .entry)) (place .at) (now (store .exit)) (now (out .exit)) r ⌝ }
+{
+    let count = place.count;
+    let at = place.at;
+    let fed = sheet::lines::finish(Pending { count: count });
+    run_fed(store, line, fed, out, at)
 }
