@@ -1,0 +1,29 @@
+-- `session::run_offer` meets its contract: what the call answers is what is printed. Assumes nothing.
+use mathlib.Core.Path.{sym}
+use borrow.Author.Needs.{needs}
+use Rattle.session.specs.Session.{perform}
+use Rattle.session.proofs.run_offer.Statement.{statement}
+use Rattle.session.proofs.run_offer.Tie as tie
+
+offer-requires : tie.Need-offer-requires
+offer-requires c κs = search needs
+
+put-answer-requires : tie.Need-put-answer-requires
+put-answer-requires c κs = search needs
+
+same-length : tie.Need-same-length
+same-length c = search needs
+
+same-length-2 : tie.Need-same-length-2
+same-length-2 c = search needs
+
+returns : tie.Need-returns
+unfolding perform
+returns c =
+    let line = c .before .before .put-answer .ensures in
+    let call = c .before .before .before .before .before .before .offer .ensures in
+    (call .1, rw (sym (call .0)) line)
+
+pub run-offer-spec : {M : Type 1} → statement M
+run-offer-spec =
+    tie.close (tie.spec offer-requires put-answer-requires same-length same-length-2 returns)
