@@ -1,6 +1,9 @@
 -- `session::run_make` meets its contract: what the call answers is what is printed. Assumes nothing.
 use mathlib.Core.Path.{sym}
+use denote.Ref.{now}
 use borrow.Author.Needs.{needs}
+use Rattle.network.specs.Refusals.{makeRefusal}
+use Rattle.network.specs.Calls.{shapeOf}
 use Rattle.session.specs.Session.{perform}
 use Rattle.session.proofs.run_make.Statement.{statement}
 use Rattle.session.proofs.run_make.Tie as tie
@@ -22,7 +25,9 @@ unfolding perform
 returns c =
     let line = c .before .before .put-answer .ensures in
     let call = c .before .before .before .before .before .before .make .ensures in
-    (call .1, rw (sym (call .0)) line)
+    let a = c .before .before .before .before .before .before .before .before .before .before .args in
+    let told = sym {b = makeRefusal (shapeOf (a .x) (a .y) (a .e) (a .a) (a .j)) (now (a .store))} (call .0) in
+    (call .1, rw told line)
 
 pub run-make-spec : {M : Type 1} → statement M
 run-make-spec =
