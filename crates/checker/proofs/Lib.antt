@@ -2,6 +2,7 @@
 pub mod Bools
 pub mod Nodes
 pub mod Hops
+pub mod Offsets
 pub mod Tallies
 pub mod Parts
 pub mod Walks

@@ -1,5 +1,7 @@
 -- A packet's clauses of the check, as the code tests them: the hops left in each direction are below a limit that the queue sets, and lead from
 -- the node to the destination. Order: the limits; a packet within them; a node by its coordinates. Assumes nothing.
+use mathlib.Core.Path.{_≡_}
+use mathlib.Core.Logic.{_⊎_}
 use mathlib.Core.Bool.{Bool, cond, _&&_}
 use Prim.Native.Nat.{ℕ, _+_, _*_, _/_, _<_, _≤_}
 use lib.Dec.{ltb, eqb}
@@ -32,6 +34,10 @@ pub record LimitsFit (s : Sizes) (l : Limits) : Type 0 where
   pub x-minus : l .1 ≤ s .x
   pub y-plus : l .2 ≤ s .y
   pub y-minus : l .3 ≤ s .y
+
+-- an offset leads one way along its dimension: there are no hops forward, or none back
+abbrev pub OneWay : ℕ → ℕ → Type 0
+OneWay f b = (f ≡ 0) ⊎ (b ≡ 0)
 
 unfoldable pub belowLimits : Limits → ℕ → Bool
 belowLimits l p = ltb (hops 0 p) (l .0) && (ltb (hops 1 p) (l .1) && (ltb (hops 2 p) (l .2) && ltb (hops 3 p) (l .3)))

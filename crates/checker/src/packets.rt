@@ -2,11 +2,14 @@
 // they lead to its destination. Node n stands in column x and row y, n = y * X + x.
 use packet::torus::Sizes;
 ghost use mathlib.Core.Path.{_≡_};
-ghost use Prim.Native.Nat.{_+_, _*_, _-_, _%_, _<_, _≤_};
-ghost use Rattle.network.specs.Sizes.{directions};
+ghost use mathlib.Core.Bool.{_&&_};
+ghost use Prim.Native.Nat.{ℕ, _+_, _*_, _-_, _%_, _<_, _≤_};
+ghost use lib.Dec.{ltb};
+ghost use Rattle.network.specs.Sizes.{dimensions, directions, plus, minus};
+ghost use Rattle.network.specs.Packet.{hops};
 ghost use Rattle.network.specs.Torus.{movedBy};
 ghost use Rattle.packet.specs.Geometry.{shapeOfSizes};
-ghost use Rattle.checker.specs.Limits.{limit, limitsOf, LimitsFit, belowLimits, fitsWithin, nodeAt, OnTorus, NoRound};
+ghost use Rattle.checker.specs.Limits.{limit, limitsOf, LimitsFit, OneWay, belowLimits, fitsWithin, nodeAt, OnTorus, NoRound};
 
 // A packet has fewer hops left in each direction than this: field d is for direction d.
 pub struct Limits(pub u64, pub u64, pub u64, pub u64);
@@ -48,29 +51,54 @@ pub fn limits_of(s: Sizes, q: u64) -> Limits
     )
 }
 
-// The coordinate c of a ring of k nodes, moved by so many hops forward and so many back, fewer than the ring's nodes. The remainder of such small
-// numbers costs less than a branch that packets take either way.
-fn moved(c: u64, k: u64, forward: u64, back: u64) -> u64
-    requires { ⌜ (c < k) × (k ≤ 16) × (forward < k) × (back < k) ⌝ }
-    ensures { λ r. ⌜ r ≡ (c + (forward * 1 + back * (k - 1))) % k ⌝ }
+// How far the offset of dimension i stands above -128, the least that a byte can stand for. What is compared and added by this needs no branch on
+// the offset's sign, which packets take either way.
+fn above(i: u64, p: u64) -> u64
+    requires { ⌜ i < dimensions ⌝ }
+    ensures small { λ r. ⌜ r < 256 ⌝ }
+    ensures offset { λ r. ⌜ r + hops (minus i) p ≡ 128 + hops (plus i) p ⌝ }
 {
-    (c + forward + k - back) % k
+    if i == 0 {
+        (p / 256 % 256 + 128) % 256
+    } else {
+        (p % 256 + 128) % 256
+    }
+}
+
+// Whether an offset, f hops forward or b back, is below the limits of the two directions of its dimension.
+fn between(forward: u64, back: u64, above: u64) -> bool
+    requires { ⌜ (forward ≤ 16) × (back ≤ 16) × (above < 256) ⌝ }
+    ensures { λ r. ⌜ ((f b : ℕ) → OneWay f b → above + b ≡ 128 + f → r ≡ (ltb f forward && ltb b back)) ⌝ }
+{
+    if forward == 0 {
+        return false;
+    }
+    if back == 0 {
+        return false;
+    }
+    if 128 + forward <= above {
+        return false;
+    }
+    128 < above + back
+}
+
+// The coordinate c of a ring of k nodes, moved by an offset of f hops forward or b back.
+fn moved(c: u64, k: u64, above: u64) -> u64
+    requires { ⌜ (c < k) × (k ≤ 16) × (above < 256) × (128 < above + k) ⌝ }
+    ensures { λ r. ⌜ ((f b : ℕ) → b ≤ k → above + b ≡ 128 + f → r ≡ (c + (f * 1 + b * (k - 1))) % k) ⌝ }
+{
+    (c + above + k - 128) % k
 }
 
 // Whether its hops are below the limits.
 fn below_limits(l: Limits, p: u64) -> bool
+    requires { ⌜ (l .0 ≤ 16) × (l .1 ≤ 16) × (l .2 ≤ 16) × (l .3 ≤ 16) ⌝ }
     ensures { λ r. ⌜ r ≡ belowLimits l p ⌝ }
 {
-    if l.0 <= packet::hops(0, p) {
+    if !between(l.0, l.1, above(0, p)) {
         return false;
     }
-    if l.1 <= packet::hops(1, p) {
-        return false;
-    }
-    if l.2 <= packet::hops(2, p) {
-        return false;
-    }
-    packet::hops(3, p) < l.3
+    between(l.2, l.3, above(1, p))
 }
 
 // The node to which packet p's hops lead from the one in column x and row y, where they are fewer than the nodes of each ring.
@@ -78,8 +106,8 @@ fn led_to(s: Sizes, x: u64, y: u64, p: u64) -> u64
     requires { ⌜ OnTorus s x y × NoRound s p ⌝ }
     ensures { λ r. ⌜ r ≡ movedBy (shapeOfSizes s) p (nodeAt s x y) ⌝ }
 {
-    let column = moved(x, s.x, packet::hops(0, p), packet::hops(1, p));
-    let row = moved(y, s.y, packet::hops(2, p), packet::hops(3, p));
+    let column = moved(x, s.x, above(0, p));
+    let row = moved(y, s.y, above(1, p));
     row * s.x + column
 }
 

@@ -1,7 +1,7 @@
 -- `checker::packets::moved` meets its contract. Assumes nothing.
 use borrow.Author.Needs.{needs}
 use native.Mathlib.Omega.{arith}
-use Rattle.checker.proofs.Hops.{moved-is}
+use Rattle.checker.proofs.Offsets.{moved-above}
 use Rattle.checker.proofs.packets.moved.Statement.{statement}
 use Rattle.checker.proofs.packets.moved.Tie as tie
 
@@ -18,7 +18,7 @@ rem-result : tie.Need-rem-result
 rem-result c = search needs
 
 returns : tie.Need-returns
-returns c = moved-is (c .args .c) (c .args .forward) (c .args .back) (c .args .k) (omega arith) (omega arith)
+returns c = λ f b l e. moved-above (c .args .c) (c .args .k) (c .args .above) f b (omega arith) l e (omega arith)
 
 pub moved-spec : {M : Type 1} → statement M
 moved-spec = tie.close (tie.spec add-result add-result-2 sub-result rem-result returns)

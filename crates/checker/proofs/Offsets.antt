@@ -1,0 +1,85 @@
+-- An offset by how far it stands above -128: its hops forward and back, its limits, a coordinate moved by it. Assumes nothing.
+use mathlib.Core.Path.{_≡_, refl, ap, ap₂, sym, _∙_}
+use mathlib.Core.Logic.{inl, inr}
+use mathlib.Core.Bool.{Bool, true, false, _&&_, false≢true}
+use Prim.Native.Nat.{ℕ, _+_, _*_, _-_, _/_, _%_, _<_, _≤_}
+use native.Mathlib.Nat.{div-one}
+use native.Mathlib.Decide.{decLt}
+use native.Mathlib.Omega.{arith}
+use borrow.Author.Tests.{lt-ltb, le-ltb}
+use lib.Dec.{T, ltb, ltb→lt, lt→ltb}
+use Rattle.network.specs.Sizes.{plus, minus}
+use Rattle.network.specs.Packet.{signed, forward, backward, place, offset, hops}
+use Rattle.network.specs.PacketLaws.{signed-small, signed-large, hops-plus, hops-minus}
+use Rattle.checker.specs.Limits.{OneWay}
+use Rattle.checker.proofs.Bools.{same-test, and-stop, and-on}
+use Rattle.checker.proofs.Hops.{moved-is}
+
+-- 128 more than the number that a byte stands for
+signed-above : (b : ℕ) → b < 256 → (b + 128) % 256 + backward (signed b) ≡ 128 + forward (signed b)
+unfolding forward backward
+signed-above b h = go (decLt b 128)
+  where
+    go : Dec (b < 128) → (b + 128) % 256 + backward (signed b) ≡ 128 + forward (signed b)
+    go (yes l) = rw (signed-small b l) (omega arith)
+    go (no g) = rw (signed-large b (omega arith)) (omega arith)
+
+-- the byte of dimension i, wherever it is taken from
+pub above-is : (i p b : ℕ) → b ≡ p / place i % 256 → (b + 128) % 256 + hops (minus i) p ≡ 128 + hops (plus i) p
+unfolding offset
+above-is i p b e =
+    ap₂ (λ (u v : ℕ). (u + 128) % 256 + v) e (hops-minus i p)
+    ∙ signed-above (p / place i % 256) (omega arith)
+    ∙ ap (λ (v : ℕ). 128 + v) (sym (hops-plus i p))
+
+pub byte-of-first : (i p : ℕ) → i ≡ 0 → p / 256 % 256 ≡ p / place i % 256
+unfolding place
+byte-of-first i p e = ap (λ (j : ℕ). p / place j % 256) (sym e)
+
+pub byte-of-second : (i p : ℕ) → i ≡ 1 → p % 256 ≡ p / place i % 256
+unfolding place
+byte-of-second i p e = ap (λ (n : ℕ). n % 256) (sym (div-one p)) ∙ ap (λ (j : ℕ). p / place j % 256) (sym e)
+
+module _ (forward back above f b : ℕ) where
+  pub too-far : forward ≤ f → false ≡ (ltb f forward && ltb b back)
+  too-far l = sym (and-stop _ _ (le-ltb f forward l))
+
+  pub none-back : back ≤ b → false ≡ (ltb f forward && ltb b back)
+  none-back l = sym (ap (λ (t : Bool). ltb f forward && t) (le-ltb b back l) ∙ never (ltb f forward))
+    where
+      never : (t : Bool) → t && false ≡ false
+      never true = refl
+      never false = refl
+
+  -- the last of the tests, where the others have passed
+  pub last-test : 1 ≤ forward → 1 ≤ back → above < 128 + forward → OneWay f b → above + b ≡ 128 + f → ltb 128 (above + back) ≡ (ltb f forward && ltb b back)
+  last-test hf hb l way e =
+      same-test (ltb 128 (above + back)) (ltb b back) (λ t. lt→ltb b back (there way (ltb→lt 128 (above + back) t))) (λ t. lt→ltb 128 (above + back) (again way (ltb→lt b back t)))
+      ∙ sym (and-on _ _ (lt-ltb f forward (first way)))
+    where
+      first : OneWay f b → f < forward
+      first (inl z) = omega arith
+      first (inr z) = omega arith
+
+      there : OneWay f b → 128 < above + back → b < back
+      there (inl z) m = omega arith
+      there (inr z) m = omega arith
+
+      again : OneWay f b → b < back → 128 < above + back
+      again (inl z) m = omega arith
+      again (inr z) m = omega arith
+
+pub moved-above : (c k above f b : ℕ) → 0 < k → b ≤ k → above + b ≡ 128 + f → 128 < above + k → (c + above + k - 128) % k ≡ (c + (f * 1 + b * (k - 1))) % k
+moved-above c k above f b h l e m = ap (λ (n : ℕ). n % k) (same) ∙ moved-is c f b k h l
+  where
+    same : c + above + k - 128 ≡ c + f + k - b
+    same = omega arith
+
+-- two tests in a row with the rest, by both together
+pub pair-stop : (a b x : Bool) → a && b ≡ false → a && (b && x) ≡ false
+pair-stop true b x e = and-stop b x e
+pair-stop false b x e = refl
+
+pub pair-on : (a b x : Bool) → a && b ≡ true → a && (b && x) ≡ x
+pair-on true b x e = and-on b x e
+pair-on false b x e = absurd (false≢true e)
