@@ -97,8 +97,8 @@ impl Counts {
             assert!(seen > 0, "{name} was never seen");
         }
         for (number, seen) in self.numbers.iter().enumerate().skip(1) {
-            // A sheet cannot reach 3 (its store is a network or zero) nor 8
-            // (that takes 4294967295 offers).
+            // A sheet cannot reach 3 (its store is a network or zero), and 8
+            // takes 4294967295 offers, too many to run here.
             if number != 3 && number != 8 {
                 println!("refusal {number}: {seen}");
                 assert!(*seen > 0, "refusal {number} was never seen");
