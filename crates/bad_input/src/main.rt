@@ -119,18 +119,52 @@ fn network() -> [u64; 100] {
     w
 }
 
-// Every call that tests the words, on words that are refused before anything else.
-fn each_call(what: &[u8], w: [u64; 100]) {
+// Each call that tests the words, on words that are refused before anything else.
+fn offer_on(w: [u64; 100]) {
     let mut v = w;
+    line(b"  offer", offer(&mut v, 0, 0), same(&v, &w));
+}
+
+fn move_on(w: [u64; 100]) {
+    let mut v = w;
+    line(b"  move", move_packet(&mut v, 0, 0, 0), same(&v, &w));
+}
+
+fn drain_on(w: [u64; 100]) {
+    let mut v = w;
+    line(b"  drain", drain(&mut v), same(&v, &w));
+}
+
+fn check_on(w: [u64; 100]) {
+    let v = w;
+    line(b"  check", check(&v), same(&v, &w));
+}
+
+fn credit_on(w: [u64; 100]) {
+    let v = w;
+    line(b"  credit", credit(&v, 0, 1), same(&v, &w));
+}
+
+fn look_on(w: [u64; 100]) {
+    let v = w;
+    line(b"  look", look(&v, 0, 0), same(&v, &w));
+}
+
+fn first_on(w: [u64; 100]) {
+    let v = w;
+    line(b"  first", first(&v), same(&v, &w));
+}
+
+fn each_call(what: &[u8], w: [u64; 100]) {
     io::write_all(1, what);
     io::write_all(1, b"\n");
-    line(b"  check", check(&v), same(&v, &w));
-    line(b"  offer", offer(&mut v, 0, 0), same(&v, &w));
-    line(b"  move", move_packet(&mut v, 0, 0, 0), same(&v, &w));
-    line(b"  credit", credit(&v, 0, 1), same(&v, &w));
-    line(b"  look", look(&v, 0, 0), same(&v, &w));
-    line(b"  first", first(&v), same(&v, &w));
-    line(b"  drain", drain(&mut v), same(&v, &w));
+    check_on(w);
+    offer_on(w);
+    move_on(w);
+    credit_on(w);
+    look_on(w);
+    first_on(w);
+    drain_on(w);
 }
 
 fn short_stores() {
@@ -144,104 +178,88 @@ fn short_stores() {
     line(b"check of more words than needed", check(&w), true);
 }
 
-fn sizes() {
+// One call each, on a network of its own.
+fn try_make(what: &[u8], x: u64, y: u64, e: u64, a: u64, j: u64) {
     let w = network();
     let mut v = w;
-    line(b"make with X 0", make(&mut v, 0, 1, 2, 1, 1), same(&v, &w));
-    line(
-        b"make with X 17",
-        make(&mut v, 17, 1, 2, 1, 1),
-        same(&v, &w),
-    );
-    line(
-        b"make with X 2^64 - 1",
-        make(&mut v, 18446744073709551615, 1, 2, 1, 1),
-        same(&v, &w),
-    );
-    line(
-        b"make with Y 2^64 - 1",
-        make(&mut v, 4, 18446744073709551615, 2, 1, 1),
-        same(&v, &w),
-    );
-    line(b"make with E 1", make(&mut v, 4, 1, 1, 1, 1), same(&v, &w));
-    line(b"make with E 9", make(&mut v, 4, 1, 9, 1, 1), same(&v, &w));
-    line(b"make with A 0", make(&mut v, 4, 1, 2, 0, 1), same(&v, &w));
-    line(b"make with J 9", make(&mut v, 4, 1, 2, 1, 9), same(&v, &w));
-    line(
-        b"make of more than the store",
-        make(&mut v, 5, 1, 2, 1, 1),
-        same(&v, &w),
-    );
+    line(what, make(&mut v, x, y, e, a, j), same(&v, &w));
+}
+
+fn try_offer(what: &[u8], node: u64, destination: u64) {
+    let w = network();
+    let mut v = w;
+    line(what, offer(&mut v, node, destination), same(&v, &w));
+}
+
+fn try_move(what: &[u8], node: u64, queue: u64, output: u64) {
+    let w = network();
+    let mut v = w;
+    line(what, move_packet(&mut v, node, queue, output), same(&v, &w));
+}
+
+fn try_credit(what: &[u8], node: u64, output: u64) {
+    let w = network();
+    let v = w;
+    line(what, credit(&v, node, output), same(&v, &w));
+}
+
+fn try_look(what: &[u8], node: u64, queue: u64) {
+    let w = network();
+    let v = w;
+    line(what, look(&v, node, queue), same(&v, &w));
+}
+
+fn sizes() {
+    try_make(b"make with X 0", 0, 1, 2, 1, 1);
+    try_make(b"make with X 17", 17, 1, 2, 1, 1);
+    try_make(b"make with X 2^64 - 1", 18446744073709551615, 1, 2, 1, 1);
+    try_make(b"make with Y 2^64 - 1", 4, 18446744073709551615, 2, 1, 1);
+    try_make(b"make with E 1", 4, 1, 1, 1, 1);
+    try_make(b"make with E 9", 4, 1, 9, 1, 1);
+    try_make(b"make with A 0", 4, 1, 2, 0, 1);
+    try_make(b"make with J 9", 4, 1, 2, 1, 9);
+    try_make(b"make of more than the store", 5, 1, 2, 1, 1);
 }
 
 fn arguments() {
-    let w = network();
-    let mut v = w;
-    line(b"offer at node 4", offer(&mut v, 4, 0), same(&v, &w));
-    line(b"offer to node 4", offer(&mut v, 0, 4), same(&v, &w));
-    line(
-        b"offer at node 2^64 - 1",
-        offer(&mut v, 18446744073709551615, 0),
-        same(&v, &w),
-    );
-    line(b"offer to a full queue", offer(&mut v, 0, 1), same(&v, &w));
-    line(
-        b"move of node 4",
-        move_packet(&mut v, 4, 9, 9),
-        same(&v, &w),
-    );
-    line(
-        b"move of queue 9",
-        move_packet(&mut v, 0, 9, 9),
-        same(&v, &w),
-    );
-    line(
-        b"move by output 9",
-        move_packet(&mut v, 0, 0, 9),
-        same(&v, &w),
-    );
-    line(
-        b"move by output 2^64 - 1",
-        move_packet(&mut v, 0, 0, 18446744073709551615),
-        same(&v, &w),
-    );
-    line(
-        b"move of an empty queue",
-        move_packet(&mut v, 1, 0, 0),
-        same(&v, &w),
-    );
-    line(
-        b"move by no route",
-        move_packet(&mut v, 0, 0, 0),
-        same(&v, &w),
-    );
-    line(b"credit of node 4", credit(&v, 4, 1), same(&v, &w));
-    line(b"credit of output 0", credit(&v, 0, 0), same(&v, &w));
-    line(b"credit of output 9", credit(&v, 0, 9), same(&v, &w));
-    line(b"look at node 4", look(&v, 4, 0), same(&v, &w));
-    line(b"look at queue 9", look(&v, 0, 9), same(&v, &w));
+    try_offer(b"offer at node 4", 4, 0);
+    try_offer(b"offer to node 4", 0, 4);
+    try_offer(b"offer at node 2^64 - 1", 18446744073709551615, 0);
+    try_offer(b"offer to a full queue", 0, 1);
+    try_move(b"move of node 4", 4, 9, 9);
+    try_move(b"move of queue 9", 0, 9, 9);
+    try_move(b"move by output 9", 0, 0, 9);
+    try_move(b"move by output 2^64 - 1", 0, 0, 18446744073709551615);
+    try_move(b"move of an empty queue", 1, 0, 0);
+    try_move(b"move by no route", 0, 0, 0);
+    try_credit(b"credit of node 4", 4, 1);
+    try_credit(b"credit of output 0", 0, 0);
+    try_credit(b"credit of output 9", 0, 9);
+    try_look(b"look at node 4", 4, 0);
+    try_look(b"look at queue 9", 0, 9);
+}
+
+// Every call on a network in which one word was changed.
+fn broken_word(what: &[u8], at: usize, word: u64) {
+    let mut w = network();
+    if at < WORDS {
+        w[at] = word;
+    }
+    each_call(what, w);
 }
 
 fn broken_words() {
     each_call(b"words of all ones", [18446744073709551615u64; 100]);
-    let mut moves = network();
-    moves[7] = 18446744073709551615;
-    each_call(b"moves made 2^64 - 1", moves);
-    let mut delivered = network();
-    delivered[6] = 18446744073709551615;
-    each_call(b"delivered 2^64 - 1", delivered);
-    let mut accepted = network();
-    accepted[5] = 4294967296;
-    each_call(b"accepted 2^32", accepted);
-    let mut count = network();
-    count[8] = 18446744073709551615;
-    each_call(b"a queue that claims 2^64 - 1 packets", count);
-    let mut far = network();
-    far[9] = 65536 + 32768;
-    each_call(b"an offset of -128", far);
-    let mut unused = network();
-    unused[11] = 1;
-    each_call(b"an unused word that is not 0", unused);
+    broken_word(b"moves made 2^64 - 1", 7, 18446744073709551615);
+    broken_word(b"delivered 2^64 - 1", 6, 18446744073709551615);
+    broken_word(b"accepted 2^32", 5, 4294967296);
+    broken_word(
+        b"a queue that claims 2^64 - 1 packets",
+        8,
+        18446744073709551615,
+    );
+    broken_word(b"an offset of -128", 9, 65536 + 32768);
+    broken_word(b"an unused word that is not 0", 11, 1);
 }
 
 fn main() {

@@ -1,11 +1,14 @@
--- Tests as facts: two tests that pass together are the same; a test of several parts by its first failure; tests of numbers below a bound, one by
--- one. Assumes nothing.
+-- Tests as facts: two tests that pass together are the same; a test of several parts by its first failure; words gathered by `|`; tests of numbers
+-- below a bound, one by one. Assumes nothing.
 use mathlib.Core.Path.{_≡_, refl, ap, ap₂, sym, _∙_}
 use mathlib.Core.Logic.{_⊎_, inl, inr}
 use mathlib.Core.Bool.{Bool, true, false, not, _&&_, _||_, false≢true}
-use Prim.Native.Nat.{ℕ, _+_, _<_}
+use Prim.Native.Nat.{ℕ, zero, suc, _+_, _<_, _≤_}
 use native.Mathlib.Numerals.{add-one}
-use lib.Dec.{T}
+use native.Mathlib.Omega.{arith}
+use borrow.Author.Tests.{ne-eqb}
+use lib.Bits.{bitAnd, bitOr, or-add-and, and-le-r}
+use lib.Dec.{T, eqb, eqb·zero-suc, eqb·suc-zero}
 use Rattle.base.specs.Tests.{allBelow, someBelow, all-at, some-by, T-true, true-T, T-false, passed?}
 
 pub same-test : (a b : Bool) → (T a → T b) → (T b → T a) → a ≡ b
@@ -26,6 +29,17 @@ pub and-all : (a b c : Bool) → a && (b && true) && c ≡ a && (b && c)
 and-all true true c = refl
 and-all true false c = refl
 and-all false b c = refl
+
+-- words gathered by `|` are 0 when each of them is
+pub or-none : (a b : ℕ) → eqb (bitOr a b) 0 ≡ eqb a 0 && eqb 0 b
+or-none zero zero = refl
+or-none zero (suc b) = eqb·suc-zero b ∙ sym (eqb·zero-suc b)
+or-none (suc a) b =
+    ne-eqb (bitOr (suc a) b) 0 (some (bitOr (suc a) b) (bitAnd (suc a) b) (or-add-and (suc a) b) (and-le-r (suc a) b))
+    ∙ sym (and-stop _ _ (eqb·suc-zero a))
+  where
+    some : (o n : ℕ) → o + n ≡ suc a + b → n ≤ b → o ≡ 0 → ⊥
+    some o n e l z = omega arith
 
 -- one fails below n; one more passes
 pub fails-at : (n : ℕ) (f : ℕ → Bool) (k : ℕ) → k < n → f k ≡ false → allBelow n f ≡ false

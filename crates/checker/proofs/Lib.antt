@@ -3,6 +3,7 @@ pub mod Bools
 pub mod Nodes
 pub mod Hops
 pub mod Offsets
+pub mod Tables
 pub mod Tallies
 pub mod Parts
 pub mod Walks

@@ -22,15 +22,13 @@ use Rattle.network.specs.Layout.{need, nodeWords, queueStart, queueEnd, queueLe
 use Rattle.network.specs.LayoutLaws.{Fits, end-start, end-length, length-queuePart}
 use Rattle.network.specs.Check.{hasRoom, ringHasRoom}
 use Rattle.network.specs.Calls.{shapeOf}
-use Rattle.packet.specs.Geometry.{shapeOfSizes, RingsFit, weight}
-use Rattle.packet.specs.GeometryLaws.{rings-torus, size-x, size-y, weight-x, weight-y, put-weight, node-is, nodes-is}
+use Rattle.packet.specs.Geometry.{shapeOfSizes, RingsFit, weight, nodeAt, OnTorus}
+use Rattle.packet.specs.GeometryLaws.{rings-torus, size-x, size-y, weight-x, weight-y, put-weight, node-is, nodes-is, node-lt, column-is, row-is}
 use Rattle.packet.specs.declared.torus.Sizes.{Sizes}
-use Rattle.checker.specs.Limits.{nodeAt, OnTorus}
 use Rattle.checker.specs.Tally.{Enough}
 use Rattle.checker.specs.Lines.{ringRoom, RingIn, linesRoom, LinesIn}
 use Rattle.checker.proofs.Bools.{same-test, fails-at, all-more, passes-at, none-more}
 use Rattle.checker.proofs.Hops.{moved-is}
-use Rattle.checker.proofs.Nodes.{node-lt, column-is, row-is}
 
 -- The walk along a line of queues, and along the lines ------------------------------------------------------------------------------------
 

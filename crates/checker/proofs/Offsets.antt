@@ -6,8 +6,9 @@ use Prim.Native.Nat.{ℕ, _+_, _*_, _-_, _/_, _%_, _<_, _≤_}
 use native.Mathlib.Nat.{div-one}
 use native.Mathlib.Decide.{decLt}
 use native.Mathlib.Omega.{arith}
-use borrow.Author.Tests.{lt-ltb, le-ltb}
-use lib.Dec.{T, ltb, ltb→lt, lt→ltb}
+use borrow.Author.Tests.{le-ltb}
+use lib.Dec.{ltb, ltb→lt, lt→ltb}
+use Rattle.base.specs.Tests.{and-l, and-r, and-i}
 use Rattle.network.specs.Sizes.{plus, minus}
 use Rattle.network.specs.Packet.{signed, forward, backward, place, offset, hops}
 use Rattle.network.specs.PacketLaws.{signed-small, signed-large, hops-plus, hops-minus}
@@ -51,23 +52,27 @@ module _ (forward back above f b : ℕ) where
       never true = refl
       never false = refl
 
-  -- the last of the tests, where the others have passed
-  pub last-test : 1 ≤ forward → 1 ≤ back → above < 128 + forward → OneWay f b → above + b ≡ 128 + f → ltb 128 (above + back) ≡ (ltb f forward && ltb b back)
-  last-test hf hb l way e =
-      same-test (ltb 128 (above + back)) (ltb b back) (λ t. lt→ltb b back (there way (ltb→lt 128 (above + back) t))) (λ t. lt→ltb 128 (above + back) (again way (ltb→lt b back t)))
-      ∙ sym (and-on _ _ (lt-ltb f forward (first way)))
+  -- both tests by one: where neither limit is 0, an offset's place above the lowest that passes is compared with how many pass
+  pub one-test : 1 ≤ forward → forward ≤ 16 → 1 ≤ back → back ≤ 16 → above < 256 → OneWay f b → above + b ≡ 128 + f
+      → ltb ((above + 127 + back) % 256) (forward + back - 1) ≡ (ltb f forward && ltb b back)
+  one-test hf lf hb lb l way e =
+      same-test (ltb shifted passing) (ltb f forward && ltb b back)
+      (λ t. let p = there way (ltb→lt shifted passing t) in and-i (ltb f forward) (ltb b back) (lt→ltb f forward (p .0)) (lt→ltb b back (p .1)))
+      (λ t. lt→ltb shifted passing (again way (ltb→lt f forward (and-l (ltb f forward) (ltb b back) t)) (ltb→lt b back (and-r (ltb f forward) (ltb b back) t))))
     where
-      first : OneWay f b → f < forward
-      first (inl z) = omega arith
-      first (inr z) = omega arith
+      shifted : ℕ
+      shifted = (above + 127 + back) % 256
 
-      there : OneWay f b → 128 < above + back → b < back
-      there (inl z) m = omega arith
-      there (inr z) m = omega arith
+      passing : ℕ
+      passing = forward + back - 1
 
-      again : OneWay f b → b < back → 128 < above + back
-      again (inl z) m = omega arith
-      again (inr z) m = omega arith
+      there : OneWay f b → (above + 127 + back) % 256 < forward + back - 1 → (f < forward) × (b < back)
+      there (inl z) m = (omega arith, omega arith)
+      there (inr z) m = (omega arith, omega arith)
+
+      again : OneWay f b → f < forward → b < back → (above + 127 + back) % 256 < forward + back - 1
+      again (inl z) m n = omega arith
+      again (inr z) m n = omega arith
 
 pub moved-above : (c k above f b : ℕ) → 0 < k → b ≤ k → above + b ≡ 128 + f → 128 < above + k → (c + above + k - 128) % k ≡ (c + (f * 1 + b * (k - 1))) % k
 moved-above c k above f b h l e m = ap (λ (n : ℕ). n % k) (same) ∙ moved-is c f b k h l

@@ -1,5 +1,5 @@
--- Tallies. Order: what one says; a list's elements tested and summed one by one; so many queues or nodes tested and summed one by one; bounds of
--- sums; a queue's packets one by one. Assumes nothing.
+-- Tallies. Order: what one says; a list's elements tested, gathered and summed one by one; so many queues or nodes tested and summed one by one;
+-- bounds of sums; a queue's packets one by one. Assumes nothing.
 use mathlib.Core.Path.{_≡_, refl, ap, ap₂, sym, _∙_}
 use mathlib.Core.Bool.{Bool, true, false, _&&_, true≢false}
 use mathlib.Core.List.{List, [], _∷_}
@@ -7,6 +7,8 @@ use Prim.Native.Nat.{ℕ, zero, suc, _+_, _*_, _-_, _<_, _≤_}
 use native.Mathlib.Numerals.{add-one}
 use native.Mathlib.Nat.{le-step, suc-mul}
 use native.Mathlib.Omega.{arith}
+use lib.Bits.{bitOr}
+use lib.Dec.{eqb}
 use lib.ListN.{length, getD, drop, drop-of-length-le}
 use lib.Seq.{drop-cons, getD-take, getD-drop}
 use Rattle.base.specs.Tests.{allBelow, allOf}
@@ -17,7 +19,7 @@ use Rattle.network.specs.Layout.{countOf, packetsOf}
 use Rattle.network.specs.LayoutLaws.{length-packetsOf}
 use Rattle.checker.specs.declared.queues.Tally.{Tally}
 use Rattle.checker.specs.Tally.{tally}
-use Rattle.checker.proofs.Bools.{and-stop, and-on, fails-at}
+use Rattle.checker.proofs.Bools.{and-stop, and-on, or-none, fails-at}
 
 -- What a tally says ---------------------------------------------------------------------------------------------------------------------
 
@@ -46,7 +48,7 @@ tally-same t a b held work u e = u ∙ ap (λ (c : Bool). tally c held work) (sy
 -- A list's elements one by one ------------------------------------------------------------------------------------------------------------
 
 -- those from place i on, and the first of them
-pub all-from : (f : ℕ → Bool) (l : List ℕ) (i : ℕ) → i < length l → allOf f (drop i l) ≡ f (getD l i 0) && allOf f (drop (i + 1) l)
+all-from : (f : ℕ → Bool) (l : List ℕ) (i : ℕ) → i < length l → allOf f (drop i l) ≡ f (getD l i 0) && allOf f (drop (i + 1) l)
 unfolding allOf
 all-from f l i h = ap (allOf f) (drop-cons l i 0 h) ∙ ap (λ (j : ℕ). f (getD l i 0) && allOf f (drop j l)) (sym (add-one i))
 
@@ -54,13 +56,32 @@ pub sum-from : (g : ℕ → ℕ) (l : List ℕ) (i : ℕ) → i < length l → s
 unfolding sumOf
 sum-from g l i h = ap (sumOf g) (drop-cons l i 0 h) ∙ ap (λ (j : ℕ). g (getD l i 0) + sumOf g (drop j l)) (sym (add-one i))
 
-pub all-end : (f : ℕ → Bool) (l : List ℕ) (i : ℕ) → length l ≤ i → allOf f (drop i l) ≡ true
+all-end : (f : ℕ → Bool) (l : List ℕ) (i : ℕ) → length l ≤ i → allOf f (drop i l) ≡ true
 unfolding allOf
 all-end f l i h = ap (allOf f) (drop-of-length-le l h)
 
 sum-end : (g : ℕ → ℕ) (l : List ℕ) (i : ℕ) → length l ≤ i → sumOf g (drop i l) ≡ 0
 unfolding sumOf
 sum-end g l i h = ap (sumOf g) (drop-of-length-le l h)
+
+-- words gathered by `|`, and those from place i on
+pub gather-more : (l : List ℕ) (i any : ℕ) → i < length l
+    → eqb (bitOr any (getD l i 0)) 0 && allOf (eqb 0) (drop (i + 1) l) ≡ eqb any 0 && allOf (eqb 0) (drop i l)
+gather-more l i any h =
+    ap (λ (t : Bool). t && allOf (eqb 0) (drop (i + 1) l)) (or-none any (getD l i 0))
+    ∙ regroup (eqb any 0) (eqb 0 (getD l i 0)) (allOf (eqb 0) (drop (i + 1) l))
+    ∙ ap (λ (t : Bool). eqb any 0 && t) (sym (all-from (eqb 0) l i h))
+  where
+    regroup : (a b c : Bool) → a && b && c ≡ a && (b && c)
+    regroup true b c = refl
+    regroup false b c = refl
+
+pub gather-end : (l : List ℕ) (i any : ℕ) → length l ≤ i → eqb any 0 ≡ eqb any 0 && allOf (eqb 0) (drop i l)
+gather-end l i any h = sym (ap (λ (t : Bool). eqb any 0 && t) (all-end (eqb 0) l i h) ∙ last (eqb any 0))
+  where
+    last : (a : Bool) → a && true ≡ a
+    last true = refl
+    last false = refl
 
 -- the first i have passed, and the sum of theirs is `sum`
 pub record Left (f : ℕ → Bool) (g : ℕ → ℕ) (l : List ℕ) (i sum : ℕ) : Type 0 where

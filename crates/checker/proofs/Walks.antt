@@ -17,11 +17,10 @@ use Rattle.network.specs.Packet.{work}
 use Rattle.network.specs.Layout.{need, nodeWords, queueStart, queueEnd, queueLength, queuePart, countOf, packetsOf, held, total}
 use Rattle.network.specs.LayoutLaws.{Fits, end-next, end-length, length-queuePart}
 use Rattle.network.specs.Check.{queueFits, queuesFit, packetsHeld, workLeft}
-use Rattle.packet.specs.Geometry.{shapeOfSizes, RingsFit}
-use Rattle.packet.specs.GeometryLaws.{nodes-is, rings-nodes}
+use Rattle.packet.specs.Geometry.{shapeOfSizes, RingsFit, nodeAt, OnTorus}
+use Rattle.packet.specs.GeometryLaws.{nodes-is, rings-nodes, stands}
 use Rattle.packet.specs.declared.torus.Sizes.{Sizes}
 use Rattle.checker.specs.declared.queues.Tally.{Tally}
-use Rattle.checker.specs.Limits.{nodeAt, OnTorus}
 use Rattle.checker.specs.Tally.{tally, partFits, nodeTally, Enough}
 use Rattle.checker.proofs.Tallies.{tally-fails, Upto, upto-start, upto-more, upto-stop, upto-end, below-most, of-most, work-most}
 
@@ -168,12 +167,7 @@ module _ (s : Sizes) (w : List ℕ) where
       }
 
   pub net-on : RingsFit s → (n x y start held work : ℕ) → NetWalk s w n x y start held work → n < nodes (shapeOfSizes s) → OnTorus s x y
-  net-on r n x y start held work walk h =
-      let e = nodes-is s in
-      let f = mul-comm (s .x) (s .y) in
-      let g = walk .node in
-      let l : y * s .x < s .y * s .x = omega arith in
-      record { rings = r; column = walk .column; row = lt-of-mul-lt-mul-right (s .x) l }
+  net-on r n x y start held work walk h = stands s x y n r (walk .node) (walk .column) h
 
   pub net-first : (n x y start held work : ℕ) → NetWalk s w n x y start held work → start ≡ queueStart (shapeOfSizes s) (nodeAt s x y) 0
   net-first n x y start held work walk = walk .place ∙ ap (λ (m : ℕ). queueStart (shapeOfSizes s) m 0) (sym (walk .node))

@@ -1,14 +1,13 @@
 -- A packet's clauses of the check, as the code tests them: the hops left in each direction are below a limit that the queue sets, and lead from
--- the node to the destination. Order: the limits; a packet within them; a node by its coordinates. Assumes nothing.
+-- the node to the destination. Order: the limits; a packet within them; no ring gone round. Assumes nothing.
 use mathlib.Core.Path.{_≡_}
 use mathlib.Core.Logic.{_⊎_}
 use mathlib.Core.Bool.{Bool, cond, _&&_}
-use Prim.Native.Nat.{ℕ, _+_, _*_, _/_, _<_, _≤_}
+use Prim.Native.Nat.{ℕ, _+_, _/_, _<_, _≤_}
 use lib.Dec.{ltb, eqb}
 use Rattle.network.specs.Sizes.{Shape, size, dimensionOf, directionOf, isEscape, injectionQueue}
 use Rattle.network.specs.Packet.{destination, hops}
 use Rattle.network.specs.Torus.{movedBy}
-use Rattle.packet.specs.Geometry.{RingsFit}
 use Rattle.packet.specs.declared.torus.Sizes.{Sizes}
 use Rattle.checker.specs.declared.packets.Limits.{Limits}
 
@@ -44,15 +43,6 @@ belowLimits l p = ltb (hops 0 p) (l .0) && (ltb (hops 1 p) (l .1) && (ltb (hops 
 
 unfoldable pub fitsWithin : Shape → ℕ → Limits → ℕ → Bool
 fitsWithin S n l p = belowLimits l p && eqb (destination p) (movedBy S p n)
-
--- "Node n = y × X + x, with x from 0 to X − 1 and y from 0 to Y − 1."
-abbrev pub nodeAt : Sizes → ℕ → ℕ → ℕ
-nodeAt s x y = y * s .x + x
-
-pub record OnTorus (s : Sizes) (x y : ℕ) : Type 0 where
-  pub rings : RingsFit s
-  pub column : x < s .x
-  pub row : y < s .y
 
 -- no ring is gone round: the hops left in each direction are fewer than its nodes
 pub record NoRound (s : Sizes) (p : ℕ) : Type 0 where

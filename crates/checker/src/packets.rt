@@ -1,15 +1,18 @@
 // A packet's clauses of the check, by the hops that it has left in each direction: each is below a limit that its queue sets, and together
-// they lead to its destination. Node n stands in column x and row y, n = y * X + x.
+// they lead to its destination. Node n stands in column x and row y, n = y * X + x. Where hops lead is looked up in two tables, one for each
+// ring, which are filled once for a check.
 use packet::torus::Sizes;
 ghost use mathlib.Core.Path.{_≡_};
 ghost use mathlib.Core.Bool.{_&&_};
 ghost use Prim.Native.Nat.{ℕ, _+_, _*_, _-_, _%_, _<_, _≤_};
 ghost use lib.Dec.{ltb};
+ghost use lib.ListN.{length};
 ghost use Rattle.network.specs.Sizes.{dimensions, directions, plus, minus};
 ghost use Rattle.network.specs.Packet.{hops};
 ghost use Rattle.network.specs.Torus.{movedBy};
-ghost use Rattle.packet.specs.Geometry.{shapeOfSizes};
-ghost use Rattle.checker.specs.Limits.{limit, limitsOf, LimitsFit, OneWay, belowLimits, fitsWithin, nodeAt, OnTorus, NoRound};
+ghost use Rattle.packet.specs.Geometry.{shapeOfSizes, nodeAt, OnTorus};
+ghost use Rattle.checker.specs.Limits.{limit, limitsOf, LimitsFit, OneWay, belowLimits, fitsWithin, NoRound};
+ghost use Rattle.checker.specs.Tables.{RingTable, Tables};
 
 // A packet has fewer hops left in each direction than this: field d is for direction d.
 pub struct Limits(pub u64, pub u64, pub u64, pub u64);
@@ -65,7 +68,8 @@ fn above(i: u64, p: u64) -> u64
     }
 }
 
-// Whether an offset, f hops forward or b back, is below the limits of the two directions of its dimension.
+// Whether an offset, f hops forward or b back, is below the limits of the two directions of its dimension. Where neither limit is 0, the offsets
+// that pass are forward + back - 1 numbers in a row: one comparison tells, since those below the first of them become large by the remainder.
 fn between(forward: u64, back: u64, above: u64) -> bool
     requires { ⌜ (forward ≤ 16) × (back ≤ 16) × (above < 256) ⌝ }
     ensures { λ r. ⌜ ((f b : ℕ) → OneWay f b → above + b ≡ 128 + f → r ≡ (ltb f forward && ltb b back)) ⌝ }
@@ -76,18 +80,41 @@ fn between(forward: u64, back: u64, above: u64) -> bool
     if back == 0 {
         return false;
     }
-    if 128 + forward <= above {
-        return false;
-    }
-    128 < above + back
+    (above + 127 + back) % 256 < forward + back - 1
 }
 
-// The coordinate c of a ring of k nodes, moved by an offset of f hops forward or b back.
-fn moved(c: u64, k: u64, above: u64) -> u64
-    requires { ⌜ (c < k) × (k ≤ 16) × (above < 256) × (128 < above + k) ⌝ }
-    ensures { λ r. ⌜ ((f b : ℕ) → b ≤ k → above + b ≡ 128 + f → r ≡ (c + (f * 1 + b * (k - 1))) % k) ⌝ }
+// The coordinate after c on a ring of k nodes.
+fn next_on_ring(c: u64, k: u64) -> u64
+    requires { ⌜ (c < k) × (k ≤ 16) ⌝ }
+    ensures { λ r. ⌜ r ≡ (c + 1) % k ⌝ }
 {
-    (c + above + k - 128) % k
+    if c + 1 == k {
+        return 0;
+    }
+    c + 1
+}
+
+// Fills the table of a ring of k nodes. The coordinate is carried along, so that nothing is divided.
+pub fn fill_ring(ring: &mut [u64], k: u64, weight: u64)
+    requires { ⌜ (length (now ring) ≡ 48) × (1 ≤ k) × (k ≤ 16) × (weight ≤ 16) ⌝ }
+    ensures { λ _. ⌜ RingTable (now (ring .exit)) k weight ⌝ }
+{
+    let mut c = 0;
+    let mut i = 0;
+    while i < 3 * k {
+        ring[i as usize] = weight * c;
+        c = next_on_ring(c, k);
+        i += 1;
+    }
+}
+
+// The coordinate c of a ring of k nodes, moved by an offset of f hops forward or b back, times the weight of the ring's table.
+fn moved(ring: &[u64], c: u64, k: u64, above: u64) -> u64
+    requires { ⌜ (length (now ring) ≡ 48) × (c < k) × (k ≤ 16) × (above < 128 + k) × (128 < above + k) ⌝ }
+    ensures { λ r. ⌜ ((f b w : ℕ) → RingTable (now (ring .entry)) k w → b ≤ k → above + b ≡ 128 + f
+        → r ≡ w * ((c + (f * 1 + b * (k - 1))) % k)) ⌝ }
+{
+    ring[(c + above + k - 128) as usize]
 }
 
 // Whether its hops are below the limits.
@@ -102,22 +129,28 @@ fn below_limits(l: Limits, p: u64) -> bool
 }
 
 // The node to which packet p's hops lead from the one in column x and row y, where they are fewer than the nodes of each ring.
-fn led_to(s: Sizes, x: u64, y: u64, p: u64) -> u64
-    requires { ⌜ OnTorus s x y × NoRound s p ⌝ }
+fn led_to(columns: &[u64], rows: &[u64], s: Sizes, x: u64, y: u64, p: u64) -> u64
+    requires { ⌜ OnTorus s x y × NoRound s p × Tables s (now columns) (now rows) ⌝ }
     ensures { λ r. ⌜ r ≡ movedBy (shapeOfSizes s) p (nodeAt s x y) ⌝ }
 {
-    let column = moved(x, s.x, above(0, p));
-    let row = moved(y, s.y, above(1, p));
-    row * s.x + column
+    moved(rows, y, s.y, above(1, p)) + moved(columns, x, s.x, above(0, p))
 }
 
 // Whether packet p may stand at the node in column x and row y, in a queue with these limits.
-pub fn packet_fits(s: Sizes, x: u64, y: u64, l: Limits, p: u64) -> bool
-    requires { ⌜ OnTorus s x y × LimitsFit s l ⌝ }
+pub fn packet_fits(
+    columns: &[u64],
+    rows: &[u64],
+    s: Sizes,
+    x: u64,
+    y: u64,
+    l: Limits,
+    p: u64,
+) -> bool
+    requires { ⌜ OnTorus s x y × LimitsFit s l × Tables s (now columns) (now rows) ⌝ }
     ensures { λ r. ⌜ r ≡ fitsWithin (shapeOfSizes s) (nodeAt s x y) l p ⌝ }
 {
     if !below_limits(l, p) {
         return false;
     }
-    packet::destination(p) == led_to(s, x, y, p)
+    packet::destination(p) == led_to(columns, rows, s, x, y, p)
 }

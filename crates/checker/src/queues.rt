@@ -1,8 +1,11 @@
 // The queues' clauses of the check, and the sums over their packets, in one pass over the words: from a queue's own words to all nodes.
 use super::packets::Limits;
+use super::packets::fill_ring;
 use super::packets::limits_of;
 use super::packets::packet_fits;
+use packet::torus::Place;
 use packet::torus::Sizes;
+use packet::torus::next_place;
 ghost use mathlib.Core.Path.{_≡_};
 ghost use mathlib.Core.Bool.{false};
 ghost use Prim.Native.Nat.{ℕ, _+_, _<_, _≤_};
@@ -13,8 +16,9 @@ ghost use Rattle.base.specs.Sums.{sumOf};
 ghost use Rattle.network.specs.Packet.{work};
 ghost use Rattle.network.specs.Layout.{countOf, packetsOf, queueStart, queueLength};
 ghost use Rattle.network.specs.Check.{queuesFit, packetsHeld, workLeft};
-ghost use Rattle.packet.specs.Geometry.{shapeOfSizes};
-ghost use Rattle.checker.specs.Limits.{nodeAt, OnTorus, LimitsFit, fitsWithin};
+ghost use Rattle.packet.specs.Geometry.{shapeOfSizes, nodeAt, OnTorus};
+ghost use Rattle.checker.specs.Limits.{LimitsFit, fitsWithin};
+ghost use Rattle.checker.specs.Tables.{Tables};
 ghost use Rattle.checker.specs.Tally.{tally, partFits, nodeTally, Enough};
 
 // What a run of queues comes to: whether it passes the check, and if it does how many packets it holds and what work these have left.
@@ -35,23 +39,32 @@ fn unfit() -> Tally
     }
 }
 
-// Whether the words from this place on are 0.
+// Whether the words from this place on are 0. They are gathered and tested once, so that the loop has no branch on a word: in a network all of
+// them are 0, and an early end is no gain.
 fn all_zero(part: &[u64], from: usize) -> bool
     ensures { λ r. ⌜ r ≡ allOf (eqb 0) (drop from (now (part .entry))) ⌝ }
 {
+    let mut any = 0;
     let mut i = from;
     while i < part.len() {
-        if part[i] != 0 {
-            return false;
-        }
+        any = any | part[i];
         i += 1;
     }
-    true
+    any == 0
 }
 
 // The packets of a queue's words, which hold no more than they have room for.
-fn packets_fit(part: &[u64], s: Sizes, x: u64, y: u64, l: Limits) -> Tally
-    requires { ⌜ OnTorus s x y × LimitsFit s l × (countOf (now part) < length (now part)) × (length (now part) ≤ 9) ⌝ }
+fn packets_fit(
+    part: &[u64],
+    columns: &[u64],
+    rows: &[u64],
+    s: Sizes,
+    x: u64,
+    y: u64,
+    l: Limits,
+) -> Tally
+    requires { ⌜ OnTorus s x y × LimitsFit s l × (countOf (now part) < length (now part)) × (length (now part) ≤ 9)
+        × Tables s (now columns) (now rows) ⌝ }
     ensures { λ r. ⌜ r ≡ tally (allOf (fitsWithin (shapeOfSizes s) (nodeAt s x y) l) (packetsOf (now (part .entry))))
         (length (packetsOf (now (part .entry)))) (sumOf work (packetsOf (now (part .entry)))) ⌝ }
 {
@@ -60,7 +73,7 @@ fn packets_fit(part: &[u64], s: Sizes, x: u64, y: u64, l: Limits) -> Tally
     let mut i = 0;
     while i < count {
         let p = part[i + 1];
-        if !packet_fits(s, x, y, l, p) {
+        if !packet_fits(columns, rows, s, x, y, l, p) {
             return unfit();
         }
         work += packet::work(p);
@@ -74,8 +87,17 @@ fn packets_fit(part: &[u64], s: Sizes, x: u64, y: u64, l: Limits) -> Tally
 }
 
 // The words of queue q of the node in column x and row y. Most queues are empty, and need no limits.
-fn queue_fits(part: &[u64], s: Sizes, x: u64, y: u64, q: u64) -> Tally
-    requires { ⌜ OnTorus s x y × (length (now part) ≡ queueLength (shapeOfSizes s) q) × (length (now part) ≤ 9) ⌝ }
+fn queue_fits(
+    part: &[u64],
+    columns: &[u64],
+    rows: &[u64],
+    s: Sizes,
+    x: u64,
+    y: u64,
+    q: u64,
+) -> Tally
+    requires { ⌜ OnTorus s x y × (length (now part) ≡ queueLength (shapeOfSizes s) q) × (length (now part) ≤ 9)
+        × Tables s (now columns) (now rows) ⌝ }
     ensures { λ r. ⌜ r ≡ tally (partFits (shapeOfSizes s) (nodeAt s x y) q (now (part .entry)))
         (length (packetsOf (now (part .entry)))) (sumOf work (packetsOf (now (part .entry)))) ⌝ }
 {
@@ -93,12 +115,21 @@ fn queue_fits(part: &[u64], s: Sizes, x: u64, y: u64, q: u64) -> Tally
             work: 0,
         };
     }
-    packets_fit(part, s, x, y, limits_of(s, q))
+    packets_fit(part, columns, rows, s, x, y, limits_of(s, q))
 }
 
 // The nine queues of the node in column x and row y, whose words begin at this place.
-fn node_fits(words: &[u64], s: Sizes, x: u64, y: u64, start: usize) -> Tally
-    requires { ⌜ OnTorus s x y × Enough (shapeOfSizes s) (now words) × (start ≡ queueStart (shapeOfSizes s) (nodeAt s x y) 0) ⌝ }
+fn node_fits(
+    words: &[u64],
+    columns: &[u64],
+    rows: &[u64],
+    s: Sizes,
+    x: u64,
+    y: u64,
+    start: usize,
+) -> Tally
+    requires { ⌜ OnTorus s x y × Enough (shapeOfSizes s) (now words) × (start ≡ queueStart (shapeOfSizes s) (nodeAt s x y) 0)
+        × Tables s (now columns) (now rows) ⌝ }
     ensures { λ r. ⌜ r ≡ nodeTally (shapeOfSizes s) (now (words .entry)) (nodeAt s x y) ⌝ }
 {
     let mut held = 0;
@@ -107,7 +138,7 @@ fn node_fits(words: &[u64], s: Sizes, x: u64, y: u64, start: usize) -> Tally
     let mut q = 0;
     while q < 9 {
         let end = at + queue::capacity(s.escape, s.adaptive, s.injection, q) as usize + 1;
-        let t = queue_fits(&words[at..end], s, x, y, q);
+        let t = queue_fits(&words[at..end], columns, rows, s, x, y, q);
         if !t.ok {
             return unfit();
         }
@@ -123,32 +154,16 @@ fn node_fits(words: &[u64], s: Sizes, x: u64, y: u64, start: usize) -> Tally
     }
 }
 
-// Where a node stands.
-struct Place {
-    x: u64,
-    y: u64,
-}
-
-// The next node stands one column on, or at the start of the next row.
-fn next_place(s: Sizes, at: Place) -> Place
-    requires { ⌜ (at .x < s .x) × (s .x ≤ 16) × (at .y ≤ 16) ⌝ }
-    ensures { λ r. ⌜ (r .x < s .x) × (nodeAt s (r .x) (r .y) ≡ nodeAt s (at .x) (at .y) + 1) ⌝ }
-{
-    if at.x + 1 < s.x {
-        return Place {
-            x: at.x + 1,
-            y: at.y,
-        };
-    }
-    Place { x: 0, y: at.y + 1 }
-}
-
-// All nodes in order.
+// All nodes in order. The tables of both rings are filled first.
 pub fn queues_fit(words: &[u64], s: Sizes) -> Tally
     requires { ⌜ Enough (shapeOfSizes s) (now words) ⌝ }
     ensures { λ r. ⌜ r ≡ tally (queuesFit (shapeOfSizes s) (now (words .entry)))
         (packetsHeld (shapeOfSizes s) (now (words .entry))) (workLeft (shapeOfSizes s) (now (words .entry))) ⌝ }
 {
+    let mut columns = [0u64; 48];
+    fill_ring(&mut columns, s.x, 1);
+    let mut rows = [0u64; 48];
+    fill_ring(&mut rows, s.y, s.x);
     let nodes = packet::torus::nodes(s);
     let node = queue::node_words(s.escape, s.adaptive, s.injection) as usize;
     let mut held = 0;
@@ -157,7 +172,7 @@ pub fn queues_fit(words: &[u64], s: Sizes) -> Tally
     let mut place = Place { x: 0, y: 0 };
     let mut n = 0;
     while n < nodes {
-        let t = node_fits(words, s, place.x, place.y, start);
+        let t = node_fits(words, &columns, &rows, s, place.x, place.y, start);
         if !t.ok {
             return unfit();
         }

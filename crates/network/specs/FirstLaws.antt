@@ -1,5 +1,5 @@
 -- What First's search names: a move that no rule refuses, and none only where every move is refused. Order: one search; the outputs of a head;
--- the queues of a node and the nodes. Assumes nothing.
+-- the queues of a node and the nodes; where a search ends. Assumes nothing.
 use mathlib.Core.Path.{_≡_, refl, ap, ap₂, sym, _∙_}
 use mathlib.Core.Logic.{_⊎_, inl, inr, _≢_}
 use mathlib.Core.Bool.{Bool, true, false, cond, _||_}
@@ -63,21 +63,21 @@ finds-map : (P Q : ℕ → ℕ → ℕ → Type 0) → ((n q o : ℕ) → P n q 
 finds-map P Q h f nothing = nothing
 finds-map P Q h f (named {n} {q} {o} r) = named (h n q o r)
 
--- the outputs of a head: a permitted move of its own node
-abbrev pub Here : Shape → List ℕ → ℕ → ℕ → ℕ → ℕ → Type 0
-Here S w n m q o = (m ≡ n) × Permitted S w m q o
+-- the outputs of a head: a permitted move of its own
+abbrev pub Its : Shape → List ℕ → ℕ → ℕ → ℕ → ℕ → ℕ → Type 0
+Its S w n q m r o = (m ≡ n) × (r ≡ q) × Permitted S w m r o
 
-pub output-finds : (S : Shape) (w : List ℕ) (n q : ℕ) (os : List ℕ) → Finds (Here S w n) (firstOutput S w n q os)
+output-finds : (S : Shape) (w : List ℕ) (n q : ℕ) (os : List ℕ) → Finds (Its S w n q) (firstOutput S w n q os)
 unfolding firstOutput
 output-finds S w n q [] = nothing
 output-finds S w n q (o ∷ os) = go (ℕ-discrete (moveRules S w n q o) 0) (output-finds S w n q os)
   where
-    go : Dec (moveRules S w n q o ≡ 0) → Finds (Here S w n) (firstOutput S w n q os)
-        → Finds (Here S w n) (cond (eqb (moveRules S w n q o) 0) (Found.Move n q o) (firstOutput S w n q os))
-    go (yes z) r = rw (eq-eqb (moveRules S w n q o) 0 z) (named (refl, permitted-of S w n q o z))
+    go : Dec (moveRules S w n q o ≡ 0) → Finds (Its S w n q) (firstOutput S w n q os)
+        → Finds (Its S w n q) (cond (eqb (moveRules S w n q o) 0) (Found.Move n q o) (firstOutput S w n q os))
+    go (yes z) r = rw (eq-eqb (moveRules S w n q o) 0 z) (named (refl, refl, permitted-of S w n q o z))
     go (no ne) r = rw (ne-eqb (moveRules S w n q o) 0 ne) r
 
-pub output-nothing : (S : Shape) (w : List ℕ) (n q : ℕ) (os : List ℕ) → firstOutput S w n q os ≡ Found.Nothing → (o : ℕ) → T (elem o os) → moveRules S w n q o ≢ 0
+output-nothing : (S : Shape) (w : List ℕ) (n q : ℕ) (os : List ℕ) → firstOutput S w n q os ≡ Found.Nothing → (o : ℕ) → T (elem o os) → moveRules S w n q o ≢ 0
 unfolding firstOutput elem
 output-nothing S w n q [] e o t = absurd t
 output-nothing S w n q (x ∷ os) e o t = go (ℕ-discrete (moveRules S w n q x) 0) (or-e (eqb o x) (elem o os) t) (λ e′ s. output-nothing S w n q os e′ o s)
@@ -91,38 +91,60 @@ output-nothing S w n q (x ∷ os) e o t = go (ℕ-discrete (moveRules S w n q x)
     go (no ne) (inl s) later = rw (eqb→eq o x s) ne
     go (no ne) (inr s) later = later (rw (ne-eqb (moveRules S w n q x) 0 ne) at e) s
 
--- the queues of a node
-pub node-finds : (S : Shape) (w : List ℕ) (n : ℕ) → Finds (Here S w n) (firstInNode S w n)
-unfolding firstInNode firstInQueue
-node-finds S w n =
-    search-finds (Here S w n) (λ q. firstOutput S w n q (routes q (head (held S w n q)))) 0 queues
-    (λ q c d. output-finds S w n q (routes q (head (held S w n q))))
+-- a queue by its head
+pub queue-finds : (S : Shape) (w : List ℕ) (n q : ℕ) → Finds (Its S w n q) (firstInQueue S w n q)
+unfolding firstInQueue
+queue-finds S w n q = output-finds S w n q (routes q (head (held S w n q)))
 
-pub node-nothing : (S : Shape) (w : List ℕ) (n : ℕ) → firstInNode S w n ≡ Found.Nothing → (q o : ℕ) → Permitted S w n q o → ⊥
-unfolding firstInNode firstInQueue
+pub queue-nothing : (S : Shape) (w : List ℕ) (n q : ℕ) → firstInQueue S w n q ≡ Found.Nothing → (o : ℕ) → Permitted S w n q o → ⊥
+unfolding firstInQueue
+queue-nothing S w n q e o p = output-nothing S w n q (routes q (head (held S w n q))) e o (p .route) (permitted-by S w n q o p)
+
+-- the queues of a node
+node-finds : (S : Shape) (w : List ℕ) (n : ℕ) → Finds (Permitted S w) (firstInNode S w n)
+unfolding firstInNode
+node-finds S w n =
+    search-finds (Permitted S w) (λ q. firstInQueue S w n q) 0 queues
+    (λ q a b. finds-map (Its S w n q) (Permitted S w) (λ m r o h. h .2) (firstInQueue S w n q) (queue-finds S w n q))
+
+node-nothing : (S : Shape) (w : List ℕ) (n : ℕ) → firstInNode S w n ≡ Found.Nothing → (q o : ℕ) → Permitted S w n q o → ⊥
+unfolding firstInNode
 node-nothing S w n e q o p =
-    output-nothing S w n q (routes q (head (held S w n q)))
-    (search-nothing (λ r. firstOutput S w n r (routes r (head (held S w n r)))) 0 queues e q (omega arith) (omega (arith, p .queue)))
-    o (p .route) (permitted-by S w n q o p)
+    queue-nothing S w n q (search-nothing (λ r. firstInQueue S w n r) 0 queues e q (omega arith) (omega (arith, p .queue))) o p
 
 -- the whole search
 pub first-finds : (S : Shape) (w : List ℕ) → Finds (Permitted S w) (firstMove S w)
 unfolding firstMove
 first-finds S w =
-    search-finds (Permitted S w) (λ n. firstInNode S w n) 0 (nodes S)
-    (λ n a b. finds-map (Here S w n) (Permitted S w) (λ m q o r. r .1) (firstInNode S w n) (node-finds S w n))
+    search-finds (Permitted S w) (λ n. firstInNode S w n) 0 (nodes S) (λ n a b. node-finds S w n)
 
 pub first-nothing : (S : Shape) (w : List ℕ) → firstMove S w ≡ Found.Nothing → (n q o : ℕ) → Permitted S w n q o → ⊥
 unfolding firstMove
 first-nothing S w e n q o p =
     node-nothing S w n (search-nothing (λ m. firstInNode S w m) 0 (nodes S) e n (omega arith) (omega (arith, p .node))) q o p
 
--- the search begins at the first node that has anything: nodes before it may be passed over
-pub search-from : (f : ℕ → Found) (i skip count : ℕ) → ((j : ℕ) → i ≤ j → j < i + skip → f j ≡ Found.Nothing) → search f i (skip + count) ≡ search f (i + skip) count
+-- where a search ends: at the first place that has anything, or nowhere
+pub search-at : (f : ℕ → Found) (i count place : ℕ) (r : Found) → i ≤ place → place < i + count → ((j : ℕ) → i ≤ j → j < place → f j ≡ Found.Nothing) → f place ≡ r
+    → r ≢ Found.Nothing → search f i count ≡ r
 unfolding search orElse
-search-from f i zero count h = ap₂ (λ (a b : ℕ). search f a b) (sym (add-zero i)) (zero-add count)
-search-from f i (suc skip) count h =
-    ap (λ (c : ℕ). search f i c) (suc-add skip count)
-    ∙ ap (λ (a : Found). orElse a (search f (suc i) (skip + count))) (h i (omega arith) (omega arith))
-    ∙ search-from f (suc i) skip count (λ j a b. h j (omega arith) (omega arith))
-    ∙ ap (λ (a : ℕ). search f a count) (omega arith)
+search-at f i zero place r a b none e ne = absurd (outside i place a b)
+  where
+    outside : (i j : ℕ) → i ≤ j → j < i + 0 → ⊥
+    outside i j a b = omega arith
+search-at f i (suc count) place r a b none e ne = go (ℕ-discrete i place) (λ a′. search-at f (suc i) count place r a′ (omega arith) (λ j x y. none j (omega arith) y) e ne)
+  where
+    kept : (r : Found) (later : Found) → r ≢ Found.Nothing → orElse r later ≡ r
+    kept (Found.Refused x) later ne = refl
+    kept Found.Nothing later ne = absurd (ne refl)
+    kept (Found.Move n q o) later ne = refl
+
+    go : Dec (i ≡ place) → (suc i ≤ place → search f (suc i) count ≡ r) → orElse (f i) (search f (suc i) count) ≡ r
+    go (yes here) on = ap (λ (x : Found). orElse x (search f (suc i) count)) (ap f here ∙ e) ∙ kept r (search f (suc i) count) ne
+    go (no apart) on = ap (λ (x : Found). orElse x (search f (suc i) count)) (none i (omega arith) (omega arith)) ∙ on (omega arith)
+
+pub search-nowhere : (f : ℕ → Found) (i count : ℕ) → ((j : ℕ) → i ≤ j → j < i + count → f j ≡ Found.Nothing) → search f i count ≡ Found.Nothing
+unfolding search orElse
+search-nowhere f i zero none = refl
+search-nowhere f i (suc count) none =
+    ap (λ (x : Found). orElse x (search f (suc i) count)) (none i (omega arith) (omega arith))
+    ∙ search-nowhere f (suc i) count (λ j a b. none j (omega arith) (omega arith))

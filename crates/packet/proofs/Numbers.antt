@@ -1,10 +1,11 @@
 -- Signed numbers as the code has them: a number z of a byte's range in 64 bits. The code hands a number on, or tests it, as it comes back from
--- its bits; so do the laws. Order: it comes back; negated; its sign; what each sign gives; one hop towards zero. Assumes nothing.
+-- its bits; so do the laws. Order: it comes back; negated; half a turn on and back; its sign; what each sign gives; one hop towards zero. Assumes nothing.
 use mathlib.Core.Path.{_≡_, refl, ap, sym, subst, _∙_}
-use mathlib.Core.Bool.{Bool, true, false, true≢false, false≢true}
+use mathlib.Core.Bool.{Bool, true, false, cond, true≢false, false≢true}
 use mathlib.Core.Logic.{_≢_}
-use Prim.Native.Nat.{ℕ, zero, suc, _-_, _<_, _≤_}
+use Prim.Native.Nat.{ℕ, zero, suc, _+_, _-_, _%_, _<_, _≤_}
 use native.Mathlib.Nat.{suc-ne-zero}
+use native.Mathlib.Decide.{decLt}
 use native.Mathlib.Omega.{arith}
 use lib.Dec.{T, ltb}
 use lib.IntN.{ℤ, pos, negsuc, negℤ, natAbs, _+ℤ_, _-ℤ_, +ℤ-idl, +ℤ-one, -ℤ-one}
@@ -12,9 +13,9 @@ use lib.Signed.{ltZ, nonNeg}
 use mir.Syntax.{w64}
 use mir.Val.{Fits, SFits, toZ, ofZ}
 use mir.Facts.{toZ-ofZ, toZ-pos}
-use borrow.Author.Tests.{ltb-true, ltb-false}
-use Rattle.network.specs.Packet.{byte, forward, backward, shrunk}
-use Rattle.network.specs.PacketLaws.{ByteRange, shrunk-range}
+use borrow.Author.Tests.{ltb-true, ltb-false, lt-ltb, le-ltb}
+use Rattle.network.specs.Packet.{signed, byte, forward, backward, shrunk}
+use Rattle.network.specs.PacketLaws.{ByteRange, signed-small, signed-large, signed-range, shrunk-range}
 
 -- the number that the bits of z stand for
 abbrev pub again : ℤ → ℤ
@@ -64,6 +65,23 @@ small-negation-fits m h = subst (SFits w64) (sym (small-is m h)) (small-fits m h
 
 pub small-negation : (m n : ℕ) → m ≤ 256 → m ≡ suc n → again (pos 0 -ℤ toZ w64 m) ≡ negsuc n
 small-negation m n h e = ap again (small-is m h) ∙ toZ-ofZ (small-fits m h) ∙ ap (λ (k : ℕ). negℤ (pos k)) e
+
+-- half a turn on and half a turn back: the number that a byte stands for
+half-turn : (b : ℕ) → b < 256 → pos ((b + 128) % 256) -ℤ pos 128 ≡ signed b
+half-turn b h = go (decLt b 128)
+  where
+    go : Dec (b < 128) → cond (ltb ((b + 128) % 256) 128) (negsuc (128 - suc ((b + 128) % 256))) (pos ((b + 128) % 256 - 128)) ≡ signed b
+    go (yes l) = rw (le-ltb ((b + 128) % 256) 128 (omega arith)) (ap pos (omega arith) ∙ sym (signed-small b l))
+    go (no g) = rw (lt-ltb ((b + 128) % 256) 128 (omega arith)) (ap negsuc (omega arith) ∙ sym (signed-large b (omega arith)))
+
+turned-is : (b : ℕ) → b < 256 → toZ w64 ((b + 128) % 256) -ℤ pos 128 ≡ signed b
+turned-is b h = ap (λ x. x -ℤ pos 128) (toZ-pos w64 {n = (b + 128) % 256} (omega arith)) ∙ half-turn b h
+
+pub turned-fits : (b : ℕ) → b < 256 → SFits w64 (toZ w64 ((b + 128) % 256) -ℤ pos 128)
+turned-fits b h = subst (SFits w64) (sym (turned-is b h)) (byte-fits (signed b) (signed-range b))
+
+pub turned : (b : ℕ) → b < 256 → again (toZ w64 ((b + 128) % 256) -ℤ pos 128) ≡ signed b
+turned b h = back (turned-is b h) (signed-range b)
 
 -- Its sign ----------------------------------------------------------------------------------------------------------------------------
 

@@ -1,6 +1,6 @@
 -- The code's sizes as the definitions read them, and what the functions on them ask. Assumes nothing.
 use mathlib.Core.List.{List, [], _∷_}
-use Prim.Native.Nat.{ℕ, zero, suc, _*_, _≤_}
+use Prim.Native.Nat.{ℕ, zero, suc, _+_, _*_, _<_, _≤_}
 use Rattle.network.specs.Sizes.{Shape}
 use Rattle.network.specs.Calls.{shapeOf}
 use Rattle.packet.specs.declared.torus.Sizes.{Sizes}
@@ -14,6 +14,15 @@ pub record RingsFit (s : Sizes) : Type 0 where
   pub x-most : s .x ≤ 16
   pub y-least : 1 ≤ s .y
   pub y-most : s .y ≤ 16
+
+-- "Node n = y × X + x, with x from 0 to X − 1 and y from 0 to Y − 1."
+abbrev pub nodeAt : Sizes → ℕ → ℕ → ℕ
+nodeAt s x y = y * s .x + x
+
+pub record OnTorus (s : Sizes) (x y : ℕ) : Type 0 where
+  pub rings : RingsFit s
+  pub column : x < s .x
+  pub row : y < s .y
 
 -- by how much a number differs whose digit i is one more
 unfoldable pub weight : List ℕ → ℕ → ℕ

@@ -5,7 +5,7 @@ use mathlib.Core.Bool.{cond}
 use mathlib.Core.List.{List, [], _∷_}
 use mathlib.Core.Logic.{_≢_}
 use Prim.Native.Nat.{ℕ, zero, suc, _+_, _*_, _-_, _/_, _%_, _<_, _≤_}
-use native.Mathlib.Nat.{mul-one, one-mul, mul-le-mul, mul-comm, mul-left-comm, mul-add, zero-mul, add-mul, mod-eq-of-lt, mod-self, add-mod-right, mod-add-div, div-add-mod', div-lt-iff-lt-mul, not-suc-le-zero, le-of-suc-le-suc}
+use native.Mathlib.Nat.{mul-one, one-mul, mul-le-mul, mul-comm, mul-left-comm, mul-add, zero-mul, add-mul, suc-mul, add-zero, mul-le-mul-right, mul-add-mod-self-right, mul-add-div-right, lt-of-mul-lt-mul-right, mod-eq-of-lt, div-eq-of-lt, mod-self, add-mod-right, mod-add-div, div-add-mod', div-lt-iff-lt-mul, not-suc-le-zero, le-of-suc-le-suc}
 use native.Mathlib.Omega.{arith}
 use lib.Dec.{T}
 use lib.ListN.{length}
@@ -18,7 +18,7 @@ use Rattle.network.specs.TorusLaws.{Torus, inRange-torus, inRange-size, size-po
 use Rattle.network.specs.Calls.{shapeOf}
 use Rattle.network.specs.OfferLaws.{offeredWay, offered-range}
 use Rattle.packet.specs.declared.torus.Sizes.{Sizes}
-use Rattle.packet.specs.Geometry.{shapeOfSizes, RingsFit, weight}
+use Rattle.packet.specs.Geometry.{shapeOfSizes, RingsFit, nodeAt, OnTorus, weight}
 
 -- They make a torus -------------------------------------------------------------------------------------------------------------------
 
@@ -203,6 +203,34 @@ pub node-is : {s : Sizes} {x y : ℕ} (n : ℕ) → RingsFit s → n < nodes (sh
 node-is {s} n r h ex ey =
     ap₂ (λ (b a : ℕ). b * s .x + a) (ey ∙ sym (coordinate-y s 1 n r h refl)) (ex ∙ sym (coordinate-x s 0 n refl))
     ∙ div-add-mod' n (s .x)
+
+module _ (s : Sizes) (x y : ℕ) (on : OnTorus s x y) where
+  pub node-lt : nodeAt s x y < nodes (shapeOfSizes s)
+  node-lt =
+      let c = on .column in
+      let m : suc y * s .x ≤ s .y * s .x = mul-le-mul-right (s .x) (on .row) in
+      let l : suc y * s .x ≡ y * s .x + s .x = suc-mul y (s .x) in
+      let e = nodes-is s in
+      let f = mul-comm (s .x) (s .y) in
+      omega arith
+
+  pub column-is : x ≡ coordinate (shapeOfSizes s) 0 (nodeAt s x y)
+  column-is = sym (mod-eq-of-lt (on .column)) ∙ sym (mul-add-mod-self-right y (s .x) x) ∙ coordinate-x s 0 (nodeAt s x y) refl
+
+  pub row-is : y ≡ coordinate (shapeOfSizes s) 1 (nodeAt s x y)
+  row-is =
+      sym (add-zero y)
+      ∙ ap (λ (q : ℕ). y + q) (sym (div-eq-of-lt (on .column)))
+      ∙ sym (mul-add-div-right (on .rings .x-least) y x)
+      ∙ coordinate-y s 1 (nodeAt s x y) (on .rings) node-lt refl
+
+-- a node that exists stands in one of the rows
+pub stands : (s : Sizes) (x y n : ℕ) → RingsFit s → nodeAt s x y ≡ n → x < s .x → n < nodes (shapeOfSizes s) → OnTorus s x y
+stands s x y n r g c h =
+    let e = nodes-is s in
+    let f = mul-comm (s .x) (s .y) in
+    let l : y * s .x < s .y * s .x = omega arith in
+    record { rings = r; column = c; row = lt-of-mul-lt-mul-right (s .x) l }
 
 -- the way of an offer is of a byte's range
 pub rings-way : {s : Sizes} (n destination i : ℕ) → RingsFit s → i < dimensions → ByteRange (offeredWay (shapeOfSizes s) n destination i)

@@ -1,3 +1,4 @@
 -- What the contracts of this crate cite besides the definitions of `network`, and its laws.
 pub mod Geometry
 pub mod GeometryLaws
+pub mod Near

@@ -1,5 +1,7 @@
 // The packet word in code: its offsets as signed numbers, its fields, and a hop. Every function equals the definition of its
-// name in the crate `network` (specs/Packet.antt). The torus that packets cross is in the module `torus`.
+// name in the crate `network` (specs/Packet.antt). The torus that packets cross is in the module `torus`, a table of its
+// neighbours in `near`.
+pub mod near;
 pub mod torus;
 
 ghost use mathlib.Core.Path.{_≡_};
@@ -11,16 +13,12 @@ ghost use Rattle.network.specs.PacketLaws.{ByteRange};
 
 // Signed bytes --------------------------------------------------------------------------------------------------------------
 
-// The number that a byte stands for, two's complement.
+// The number that a byte stands for, two's complement: half a turn on, and half a turn back. This form is one instruction, a sign extension.
 pub fn signed(b: u64) -> i64
     requires { ⌜ b < 256 ⌝ }
     ensures { λ r. ⌜ r ≡ signed b ⌝ }
 {
-    if b < 128 {
-        b as i64
-    } else {
-        -((256 - b) as i64)
-    }
+    ((b + 128) % 256) as i64 - 128
 }
 
 // The number without its sign. The least that a byte stands for, -128, is no exception: it is negated at the full width.

@@ -6,13 +6,13 @@ use super::forward;
 use super::offset;
 use super::shorter_way;
 ghost use mathlib.Core.Path.{_≡_};
-ghost use Prim.Native.Nat.{_<_};
-ghost use Rattle.network.specs.Sizes.{dimensions, directions, nodes, size};
+ghost use Prim.Native.Nat.{_+_, _<_, _≤_};
+ghost use Rattle.network.specs.Sizes.{dimensions, directions, dimensionOf, nodes, size};
 ghost use Rattle.network.specs.Packet.{byte};
 ghost use Rattle.network.specs.Torus.{coordinate, neighbour, movedBy};
 ghost use Rattle.network.specs.Calls.{offered};
 ghost use Rattle.network.specs.OfferLaws.{offeredWay};
-ghost use Rattle.packet.specs.Geometry.{shapeOfSizes, RingsFit, weight};
+ghost use Rattle.packet.specs.Geometry.{shapeOfSizes, RingsFit, nodeAt, weight};
 
 // Columns and rows, and the capacities of a node's queues: the sizes of a network, in the order of its first words.
 pub struct Sizes {
@@ -58,8 +58,15 @@ pub fn neighbour(s: Sizes, d: u64, n: u64) -> u64
     requires { ⌜ RingsFit s × (d < directions) × (n < nodes (shapeOfSizes s)) ⌝ }
     ensures { λ r. ⌜ r ≡ neighbour (shapeOfSizes s) d n ⌝ }
 {
+    step_from(s, d, n, coordinate(s, d / 2, n))
+}
+
+// The same where the node's coordinate c in the direction's dimension is at hand.
+pub fn step_from(s: Sizes, d: u64, n: u64, c: u64) -> u64
+    requires { ⌜ RingsFit s × (d < directions) × (n < nodes (shapeOfSizes s)) × (c ≡ coordinate (shapeOfSizes s) (dimensionOf d) n) ⌝ }
+    ensures { λ r. ⌜ r ≡ neighbour (shapeOfSizes s) d n ⌝ }
+{
     let i = d / 2;
-    let c = coordinate(s, i, n);
     let k = size(s, i);
     let w = weight(s, i);
     if d % 2 == 0 {
@@ -72,6 +79,26 @@ pub fn neighbour(s: Sizes, d: u64, n: u64) -> u64
         return n - w;
     }
     n + (k - 1) * w
+}
+
+// Where a node stands.
+pub struct Place {
+    pub x: u64,
+    pub y: u64,
+}
+
+// The next node stands one column on, or at the start of the next row.
+pub fn next_place(s: Sizes, at: Place) -> Place
+    requires { ⌜ (at .x < s .x) × (s .x ≤ 16) × (at .y ≤ 16) ⌝ }
+    ensures { λ r. ⌜ (r .x < s .x) × (nodeAt s (r .x) (r .y) ≡ nodeAt s (at .x) (at .y) + 1) ⌝ }
+{
+    if at.x + 1 < s.x {
+        return Place {
+            x: at.x + 1,
+            y: at.y,
+        };
+    }
+    Place { x: 0, y: at.y + 1 }
 }
 
 // The coordinate of the node to which a packet's offsets lead. A byte may lead round the ring more than once.

@@ -1,6 +1,7 @@
--- The words of a queue of a checked network that the code reads: its number held and its head stand where the queue starts.
--- Order: what the check says of the queue; the two words; the same at the place that the code computes. Assumes nothing.
-use mathlib.Core.Path.{_≡_, ap, sym, _∙_}
+-- The words of a checked network that the code reads: those of the header, and of a queue the number held and the head, which stand where
+-- the queue starts. Order: the header; what the check says of the queue; the two words; the same at the place that the code computes; the
+-- queue that an output leads to. Assumes nothing.
+use mathlib.Core.Path.{_≡_, ap, ap₂, sym, _∙_}
 use mathlib.Core.List.{List}
 use Prim.Native.Nat.{ℕ, _+_, _-_, _<_, _≤_}
 use native.Mathlib.Nat.{add-zero}
@@ -8,17 +9,25 @@ use native.Mathlib.Omega.{arith}
 use lib.ListN.{length, getD, drop}
 use lib.Seq.{getD-take, getD-drop}
 use Rattle.base.specs.Parts.{getD-span}
-use Rattle.network.specs.Sizes.{Shape, nodes, queues, capacity}
+use Rattle.network.specs.Sizes.{Shape, nodes, queues, directionOf, capacity}
 use Rattle.network.specs.SizesLaws.{range-of, capacity-pos}
-use Rattle.network.specs.Layout.{queueStart, queueEnd, queueLength, queuePart, countOf, packetsOf, held}
+use Rattle.network.specs.Layout.{need, queueStart, queueEnd, queueLength, queuePart, countOf, packetsOf, held}
 use Rattle.network.specs.LayoutLaws.{end-start, end-length}
+use Rattle.network.specs.TorusLaws.{neighbour-lt}
 use Rattle.network.specs.CheckLaws.{Network}
+use Rattle.network.specs.Routes.{target, freeSlots}
 use Rattle.network.specs.Refusals.{head}
 use Rattle.packet.specs.Geometry.{shapeOfSizes}
+use Rattle.packet.specs.GeometryLaws.{inRange-rings, rings-torus}
 use Rattle.packet.specs.declared.torus.Sizes.{Sizes}
 use Rattle.queue.specs.Queue.{Checked}
 use Rattle.queue.specs.QueueLaws.{checked-fits, checked-count, places}
 use Rattle.rules.specs.Rules.{QueueOf}
+
+-- the header is among the words
+pub header : (S : Shape) (w : List ℕ) → Network S w → 8 ≤ length w
+unfolding need
+header S w k = let l = k .long in omega arith
 
 pub checked-of : (S : Shape) (w : List ℕ) (n q : ℕ) → Network S w → n < nodes S → q < queues → Checked S w n q
 checked-of S w n q k hn hq =
@@ -84,3 +93,22 @@ module _ (s : Sizes) (w : List ℕ) (n q : ℕ) (k : QueueOf s w n q) where
       let l : queueStart (shapeOfSizes s) n q + (1 + capacity (shapeOfSizes s) q) ≤ length w =
       end-length (shapeOfSizes s) w n q (checked-fits (shapeOfSizes s) w n q queue-checked) in
       omega arith
+
+-- The queue that an output leads to ---------------------------------------------------------------------------------------------------
+
+module _ (s : Sizes) (w : List ℕ) (n o there : ℕ) (k : QueueOf s w n o) (e : there ≡ target (shapeOfSizes s) n o) where
+  -- it is one of the network's
+  pub at-target : QueueOf s w there o
+  unfolding target
+  at-target =
+      let l = neighbour-lt (shapeOfSizes s) (directionOf o) n (rings-torus s (inRange-rings s (k .network .in-range))) (omega arith) (k .node) in
+      record { network = k .network; node = omega arith; queue = k .queue }
+
+  -- it holds no more than its slots, and the others are free
+  pub target-few : (slots count : ℕ) → slots ≡ capacity (shapeOfSizes s) o → count ≡ length (held (shapeOfSizes s) w there o) → count ≤ slots
+  target-few slots count f g = let l = held-few s w there o at-target in omega arith
+
+  pub target-free : (slots count : ℕ) → slots ≡ capacity (shapeOfSizes s) o → count ≡ length (held (shapeOfSizes s) w there o)
+      → slots - count ≡ freeSlots (shapeOfSizes s) w n o
+  unfolding freeSlots
+  target-free slots count f g = ap₂ (λ (a b : ℕ). a - b) f (g ∙ ap (λ (i : ℕ). length (held (shapeOfSizes s) w i o)) e)

@@ -1,6 +1,6 @@
 -- First's search, step by step: at each level, what is found from the start is what is found from here on, as long as nothing was found.
--- Order: numbers searched in order; the routes of a head; a queue as the code reads it; the invariants of the three loops.
--- Assumes nothing.
+-- Order: numbers searched in order; the routes of a head; a queue as the code reads it; the invariants of the three loops; a network
+-- that holds nothing. Assumes nothing.
 use mathlib.Core.Path.{_≡_, refl, ap, sym, _∙_, subst}
 use mathlib.Core.Bool.{Bool, false, cond}
 use mathlib.Core.List.{List, [], _∷_}
@@ -17,12 +17,15 @@ use Rattle.base.specs.Sums.{sumBelow}
 use Rattle.base.specs.Tests.{elem, or-l, or-r}
 use Rattle.network.specs.declared.Found.{Found}
 use Rattle.network.specs.Sizes.{Shape, nodes, queues, capacity}
-use Rattle.network.specs.Layout.{nodeWords, queueStart, queueEnd, queueLength, held}
-use Rattle.network.specs.LayoutLaws.{end-next, node-words}
+use Rattle.network.specs.Layout.{nodeWords, queueStart, queueEnd, queueLength, held, total, accepted, delivered}
+use Rattle.network.specs.LayoutLaws.{end-next, node-words, total-zero}
+use Rattle.network.specs.Check.{packetsHeld}
+use Rattle.network.specs.CheckLaws.{Network}
 use Rattle.network.specs.Routes.{routes}
 use Rattle.network.specs.Refusals.{head, flowRules, moveRules}
-use Rattle.network.specs.RefusalLaws.{permitted-of, permitted-by, flow-of, flow-by}
+use Rattle.network.specs.RefusalLaws.{Permitted, permitted-of, permitted-by, flow-of, flow-by}
 use Rattle.network.specs.Calls.{firstOutput, firstInQueue, orElse, search, firstInNode, firstMove}
+use Rattle.network.specs.FirstLaws.{Finds, nothing, named, first-finds}
 use Rattle.packet.specs.Geometry.{shapeOfSizes}
 use Rattle.packet.specs.declared.torus.Sizes.{Sizes}
 use Rattle.rules.specs.declared.routes.HeadRoutes.{HeadRoutes}
@@ -172,12 +175,12 @@ queue-none s w n q start k at z = empty (shapeOfSizes s) w n q (sym (count-at s 
 
 -- The invariants ----------------------------------------------------------------------------------------------------------------------
 
--- nothing was found yet, and what is left is found: of a queue's routes, of a node's queues, of the nodes
-pub record AtRoute (s : Sizes) (w : List ℕ) (n q count : ℕ) (found : Bool) (j : ℕ) : Type 0 where
-  pub nothing : found ≡ false
+-- what is left of a queue's routes is found
+pub record AtRoute (s : Sizes) (w : List ℕ) (n q count j : ℕ) : Type 0 where
   pub within : j ≤ count
   pub left : FoundFrom s w n q j
 
+-- nothing was found yet, and what is left is found: of a node's queues, of the nodes
 pub record AtQueue (s : Sizes) (w : List ℕ) (n : ℕ) (found : Bool) (start q : ℕ) : Type 0 where
   pub nothing : found ≡ false
   pub within : q ≤ queues
@@ -213,7 +216,7 @@ module _ {s : Sizes} {w : List ℕ} {n : ℕ} where
       → firstInNode (shapeOfSizes s) w n ≡ Found.Move n q o
   queue-found {q = q} {o = o} i h e = sym (i .left) ∙ search-found (λ r. firstInQueue (shapeOfSizes s) w n r) q queues n q o h e
 
-  pub queues-none : {found : Bool} {start q : ℕ} → AtQueue s w n found start q → queues ≤ q → firstInNode (shapeOfSizes s) w n ≡ Found.Nothing
+  queues-none : {found : Bool} {start q : ℕ} → AtQueue s w n found start q → queues ≤ q → firstInNode (shapeOfSizes s) w n ≡ Found.Nothing
   queues-none {q = q} i h = sym (i .left) ∙ search-end (λ r. firstInQueue (shapeOfSizes s) w n r) q queues h
 
 -- the words of a node end where the next node's begin
@@ -255,3 +258,17 @@ module _ {s : Sizes} {w : List ℕ} where
 
   pub nodes-none : {found : Bool} {start n : ℕ} → AtNode s w found start n → nodes (shapeOfSizes s) ≤ n → firstMove (shapeOfSizes s) w ≡ Found.Nothing
   nodes-none {n = n} i h = sym (i .left) ∙ search-end (λ m. firstInNode (shapeOfSizes s) w m) n (nodes (shapeOfSizes s)) h
+
+-- A network that holds nothing --------------------------------------------------------------------------------------------------------
+
+-- as many packets were delivered as accepted: no queue holds one, and none can move
+pub nothing-held : (S : Shape) (w : List ℕ) → Network S w → accepted w ≡ delivered w → firstMove S w ≡ Found.Nothing
+unfolding packetsHeld
+nothing-held S w N e = go (firstMove S w) (first-finds S w)
+  where
+    none : total S w length ≡ 0
+    none = let c : delivered w + total S w length ≡ accepted w = N .counted in omega arith
+
+    go : (f : Found) → Finds (Permitted S w) f → f ≡ Found.Nothing
+    go f nothing = refl
+    go f (named {n} {q} {o} P) = absurd (P .holds (ap length (total-zero S w n q none (P .node) (P .queue))))

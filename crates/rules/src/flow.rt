@@ -2,17 +2,20 @@
 use super::DIRECTIONS;
 use super::refusals::NO_BUBBLE;
 use super::refusals::NO_SLOT;
+use packet::near::look_up;
 use packet::torus::Sizes;
 use packet::torus::neighbour;
 use queue::capacity;
 use queue::queue_start;
 ghost use mathlib.Core.Path.{_≡_};
 ghost use Prim.Native.Nat.{_<_};
+ghost use lib.Dec.{eqb};
 ghost use lib.ListN.{length};
 ghost use Rattle.network.specs.Layout.{held};
 ghost use Rattle.network.specs.Routes.{target, freeSlots, slotsNeeded};
 ghost use Rattle.network.specs.Refusals.{head, flowRules};
 ghost use Rattle.packet.specs.Geometry.{shapeOfSizes, RingsFit};
+ghost use Rattle.packet.specs.Near.{Near};
 ghost use Rattle.network.specs.Sizes.{nodes, queues};
 ghost use Rattle.rules.specs.Rules.{QueueOf};
 
@@ -84,4 +87,20 @@ pub fn flow_rules(words: &[u64], s: Sizes, n: u64, q: u64, o: u64) -> u64
         return NO_BUBBLE;
     }
     0
+}
+
+// Whether the flow rule lets a head of queue q of node n go by output o, which is one of its routes. The target's node comes out
+// of a table.
+pub fn may_flow(words: &[u64], s: Sizes, near: &[u64], n: u64, q: u64, o: u64) -> bool
+    requires { ⌜ QueueOf s (now words) n o ⌝ }
+    requires { ⌜ Near (shapeOfSizes s) (now near) ⌝ }
+    ensures { λ r. ⌜ r ≡ eqb (flowRules (shapeOfSizes s) (now (words .entry)) n q o) 0 ⌝ }
+{
+    if o == 0 {
+        return true;
+    }
+    let there = look_up(near, (o - 1) % DIRECTIONS, n);
+    let slots = capacity(s.escape, s.adaptive, s.injection, o);
+    let held = held_count(words, s, there, o);
+    held + slots_needed(q, o) <= slots
 }

@@ -11,3 +11,8 @@ pub mod routes;
 pub const DIRECTIONS: u64 = 4;
 
 pub const QUEUES: u64 = 9;
+
+// The words of the header that count the packets accepted and delivered.
+pub const ACCEPTED_AT: usize = 5;
+
+pub const DELIVERED_AT: usize = 6;

@@ -1,4 +1,5 @@
 // The tests that each call makes after the check, in document 01's order: the number of the first that applies, or 0.
+use super::ACCEPTED_AT;
 use super::QUEUES;
 use super::flow::flow_rules;
 use super::flow::head;
@@ -31,9 +32,7 @@ pub const NO_SLOT: u64 = 11;
 
 pub const NO_BUBBLE: u64 = 12;
 
-// The word of the header that counts the packets accepted, and its largest number, 2^32 - 1.
-const ACCEPTED_AT: usize = 5;
-
+// The largest number of packets accepted, 2^32 - 1.
 const MOST_ACCEPTED: u64 = 4294967295;
 
 pub fn offer_rules(words: &[u64], s: Sizes, n: u64, destination: u64) -> u64

@@ -45,9 +45,9 @@ pub record Ran (S : Shape) (w v : List ℕ) (ds : List Delivery) (m : ℕ) : Typ
   pub same-length : length v ≡ length w
   pub rest : drop (need S) v ≡ drop (need S) w
 
--- what a move leaves alone: every queue of a node that is neither its source's nor its target's; and no queue but the source comes to hold less
+-- what a move leaves alone: every queue but its source and its target; and no queue but the source comes to hold less
 pub record Elsewhere (S : Shape) (w v : List ℕ) (n q o : ℕ) : Type 0 where
-  pub same : (m r : ℕ) → m < nodes S → r < queues → m ≢ n → (o ≢ deliver → m ≢ target S n o) → held S v m r ≡ held S w m r
+  pub same : (m r : ℕ) → m < nodes S → r < queues → ((n ≡ m) × (q ≡ r) → ⊥) → (o ≢ deliver → (target S n o ≡ m) × (o ≡ r) → ⊥) → held S v m r ≡ held S w m r
   pub no-less : (m r : ℕ) → m < nodes S → r < queues → ((n ≡ m) × (q ≡ r) → ⊥) → length (held S w m r) ≤ length (held S v m r)
 
 -- no move
@@ -379,7 +379,7 @@ module _ (S : Shape) (w : List ℕ) (n q : ℕ) (tor : Torus S) (N : Network S w
     handed-elsewhere : (o : ℕ) → Elsewhere S w handed n q o
     handed-elsewhere o =
         record {
-          same = λ m r hm hr ne ne′. handed-held m r hm hr (λ e. ne (sym (e .0)));
+          same = λ m r hm hr ne ne′. handed-held m r hm hr ne;
           no-less = λ m r hm hr ne. native.Mathlib.Nat.le-of-eq (sym (ap length (handed-held m r hm hr ne)));
         }
 
@@ -503,9 +503,7 @@ module _ (S : Shape) (w : List ℕ) (n q : ℕ) (tor : Torus S) (N : Network S w
     unfolding there
     moved-elsewhere =
         record {
-          same =
-              λ m r hm hr ne ne′.
-              moved-held m r ∙ gone-other m r hm hr (λ e. ne′ (g .transit) (sym (e .0))) ∙ left-other m r hm hr (λ e. ne (sym (e .0)));
+          same = λ m r hm hr ne ne′. moved-held m r ∙ gone-other m r hm hr (ne′ (g .transit)) ∙ left-other m r hm hr ne;
           no-less = λ m r hm hr ne. more m r hm hr ne (same? there o m r);
         }
       where

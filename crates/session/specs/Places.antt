@@ -6,8 +6,8 @@ use native.Mathlib.Decide.{decLe, decLt, ℕ-discrete}
 use native.Mathlib.Omega.{arith}
 use lib.ListN.{length, getD, take, drop, length-append, length-drop, take-append-drop}
 use lib.Seq.{length-take-le}
-use Rattle.sheet.specs.declared.read.Command.{Command}
-use Rattle.sheet.specs.declared.lines.Fed.{Fed}
+use Rattle.sheet.specs.declared.Command.{Command}
+use Rattle.sheet.specs.declared.Fed.{Fed}
 use Rattle.sheet.specs.Text.{cr, lf}
 use Rattle.sheet.specs.Lines.{lineLimit}
 use Rattle.sheet.specs.Output.{written, Put}

@@ -4,8 +4,8 @@ use mathlib.Core.Path.{_≡_, ap}
 use mathlib.Core.List.{List, [], _∷_, map, flatten}
 use Prim.Native.Nat.{ℕ, _≤_}
 use lib.ListN.{length}
-use Rattle.sheet.specs.declared.lines.Fed.{Fed}
-use Rattle.sheet.specs.declared.read.Command.{Command}
+use Rattle.sheet.specs.declared.Fed.{Fed}
+use Rattle.sheet.specs.declared.Command.{Command}
 use Rattle.sheet.specs.Lines.{lines}
 use Rattle.sheet.specs.Commands.{commandOf, keptCommand}
 use Rattle.sheet.specs.Output.{Put}

@@ -6,7 +6,7 @@ use Prim.Native.Char.{code}
 use lib.ListN.{replicate}
 use Rattle.network.specs.Refusals.{makeRefusal, offerRefusal}
 use Rattle.network.specs.Calls.{shapeOf, makeWords, offerWords, moveWords, moveAnswer, drainWords, drainLedger, drainAnswer}
-use Rattle.sheet.specs.declared.read.Command.{Command}
+use Rattle.sheet.specs.declared.Command.{Command}
 use Rattle.sheet.specs.Lines.{lines}
 use Rattle.sheet.specs.Commands.{commandOf}
 use Rattle.sheet.specs.Output.{badLine, answerLine, movedLines, drainedLines, packetRoom, drainRoom}

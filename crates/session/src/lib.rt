@@ -1,8 +1,8 @@
 // A command of a sheet carried out: the call that it names on the store, and its answer written as lines. The caller sees that there is
 // room for what any command prints.
-use sheet::lines::Fed;
-use sheet::lines::Pending;
-use sheet::read::Command;
+use sheet::Command;
+use sheet::Fed;
+use sheet::Pending;
 ghost use mathlib.Core.Path.{_≡_};
 ghost use Prim.Native.Nat.{_+_, _≤_};
 ghost use lib.ListN.{length};
@@ -31,7 +31,7 @@ fn run_make(
     ensures printed { λ r. ⌜ Put (now (out .entry)) at (perform (Command.Make x y e a j) (now (store .entry)) .output) (now (out .exit)) r ⌝ }
 {
     let refusal = calls::make(store, x as u64, y as u64, e as u64, a as u64, j as u64);
-    sheet::write::put_answer(out, at, b'T', refusal)
+    writer::put_answer(out, at, b'T', refusal)
 }
 
 // O offers.
@@ -48,7 +48,7 @@ fn run_offer(
     ensures printed { λ r. ⌜ Put (now (out .entry)) at (perform (Command.Offer node destination tag) (now (store .entry)) .output) (now (out .exit)) r ⌝ }
 {
     let refusal = calls::offer(store, node as u64, destination as u64, tag);
-    sheet::write::put_answer(out, at, b'O', refusal)
+    writer::put_answer(out, at, b'O', refusal)
 }
 
 // M moves.
@@ -65,7 +65,7 @@ fn run_move(
     ensures printed { λ r. ⌜ Put (now (out .entry)) at (perform (Command.Move node queue output) (now (store .entry)) .output) (now (out .exit)) r ⌝ }
 {
     let answer = calls::move_packet(store, node as u64, queue as u64, output as u64);
-    sheet::write::put_moved(out, at, answer)
+    writer::put_moved(out, at, answer)
 }
 
 // D drains, with a ledger of its own.
@@ -76,7 +76,7 @@ fn run_drain(store: &mut [u64], budget: u32, out: &mut [u8], at: usize) -> usize
 {
     let mut ledger = [0u64; 64];
     let answer = calls::drain(store, budget, &mut ledger);
-    sheet::write::put_drained(out, at, answer, &ledger)
+    writer::put_drained(out, at, answer, &ledger)
 }
 
 // A command: what it does to the store, and its lines.
@@ -98,7 +98,7 @@ pub fn run_command(store: &mut [u64], command: Command, out: &mut [u8], at: usiz
             output,
         } => run_move(store, node, queue, output, out, at),
         Command::Drain { budget } => run_drain(store, budget, out, at),
-        Command::Bad => sheet::write::put_bad(out, at),
+        Command::Bad => writer::put_bad(out, at),
     }
 }
 
@@ -108,7 +108,7 @@ pub fn run_line(store: &mut [u64], line: &[u8], out: &mut [u8], at: usize) -> us
     ensures store { λ _. ⌜ now (store .exit) ≡ perform (commandOf (now (line .entry))) (now (store .entry)) .store ⌝ }
     ensures printed { λ r. ⌜ Put (now (out .entry)) at (perform (commandOf (now (line .entry))) (now (store .entry)) .output) (now (out .exit)) r ⌝ }
 {
-    let command = sheet::read::read_command(line);
+    let command = reader::read_command(line);
     run_command(store, command, out, at)
 }
 
@@ -152,7 +152,7 @@ pub fn run_byte(store: &mut [u64], line: &mut [u8], place: Place, b: u8, out: &m
 {
     let count = place.count;
     let at = place.at;
-    let fed = sheet::lines::feed(line, Pending { count: count }, b);
+    let fed = lines::feed(line, Pending { count: count }, b);
     let next = run_fed(store, line, fed, out, at);
     let pending = pending_after(fed);
     Place {
@@ -169,6 +169,6 @@ pub fn run_end(store: &mut [u64], line: &[u8], place: Place, out: &mut [u8]) -> 
 {
     let count = place.count;
     let at = place.at;
-    let fed = sheet::lines::finish(Pending { count: count });
+    let fed = lines::finish(Pending { count: count });
     run_fed(store, line, fed, out, at)
 }

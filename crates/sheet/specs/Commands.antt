@@ -6,7 +6,7 @@ use Prim.Native.Char.{code}
 use lib.Dec.{leb, eqb}
 use lib.ListN.{length, getD}
 use Rattle.base.specs.Tests.{allOf}
-use Rattle.sheet.specs.declared.read.Command.{Command}
+use Rattle.sheet.specs.declared.Command.{Command}
 use Rattle.sheet.specs.Text.{comma}
 use Rattle.sheet.specs.Lines.{lineLimit, Kept, whole, tooLong}
 

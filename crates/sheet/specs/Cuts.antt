@@ -12,7 +12,7 @@ use lib.Dec.{ltb, eqb}
 use lib.ListN.{length, getD, take, set, length-append, length-set}
 use lib.Seq.{length-take-le, take-suc-set, take-take, getD-take}
 use borrow.Author.Tests.{le-leb, lt-leb, lt-ltb, le-ltb, eq-eqb, ne-eqb}
-use Rattle.sheet.specs.declared.lines.Fed.{Fed}
+use Rattle.sheet.specs.declared.Fed.{Fed}
 use Rattle.sheet.specs.Text.{lf, cr}
 use Rattle.sheet.specs.Lines.{lineLimit, withoutCr, lastLine, linesFrom, lines, whole, tooLong, kept}
 use Rattle.sheet.specs.Commands.{wellFormed, commandOf, keptCommand}

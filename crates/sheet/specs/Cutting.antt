@@ -7,8 +7,8 @@ use mathlib.Core.List.{List, [], _∷_, _++_}
 use Prim.Native.Nat.{ℕ, _+_, _-_}
 use lib.Dec.{ltb, eqb}
 use lib.ListN.{getD, take, set}
-use Rattle.sheet.specs.declared.lines.Pending.{Pending}
-use Rattle.sheet.specs.declared.lines.Fed.{Fed}
+use Rattle.sheet.specs.declared.Pending.{Pending}
+use Rattle.sheet.specs.declared.Fed.{Fed}
 use Rattle.sheet.specs.Text.{lf, cr}
 use Rattle.sheet.specs.Lines.{lineLimit, Kept, whole, tooLong}
 

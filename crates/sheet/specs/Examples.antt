@@ -9,7 +9,7 @@ use Rattle.network.specs.declared.Stop.{Stop}
 use Rattle.network.specs.declared.Drained.{Drained}
 use Rattle.network.specs.Packet.{tag, destination}
 use Rattle.network.specs.Calls.{drainedDelivered}
-use Rattle.sheet.specs.declared.read.Command.{Command}
+use Rattle.sheet.specs.declared.Command.{Command}
 use Rattle.sheet.specs.Text.{text}
 use Rattle.sheet.specs.Lines.{withoutCr, lastLine, linesFrom, lines, whole, tooLong, kept}
 use Rattle.sheet.specs.Commands.{firstField, laterFields, isDigit, valueFrom, value, noLeadingZero, isNumber, commandWith, wellFormed, commandOf}

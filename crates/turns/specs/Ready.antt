@@ -1,116 +1,196 @@
--- The set of nodes that goes along with a Drain: it holds every node that has a permitted move. Order: what it covers; a node taken out that has
--- none; First's move from its lowest node; the set after a move. Assumes nothing.
-use mathlib.Core.Path.{_≡_, refl, ap, sym, _∙_, subst}
+-- The set of heads that goes along with a Drain: it holds every head that has a permitted move. The head of queue q of node n is number 16 n + q.
+-- Order: what it covers; a head taken out that has none; First's move from its lowest head; the set after a move; the search. Assumes nothing.
+use mathlib.Core.Path.{_≡_, refl, ap, ap₂, sym, _∙_, subst}
 use mathlib.Core.Logic.{_⊎_, inl, inr, _≢_}
-use mathlib.Core.Bool.{Bool, true, false, cond, not, _&&_, _||_}
+use mathlib.Core.Bool.{Bool, true, false, cond, not, _&&_, _||_, true≢false, false≢true}
 use mathlib.Core.List.{List}
 use Prim.Native.Nat.{ℕ, _+_, _*_, _-_, _/_, _%_, _<_, _≤_}
 use native.Mathlib.Nat.{lt-of-lt-of-le, lt-trans}
-use native.Mathlib.Decide.{ℕ-discrete}
+use native.Mathlib.Decide.{ℕ-discrete, decLt}
 use native.Mathlib.Omega.{arith}
-use borrow.Author.Tests.{eq-eqb, ne-eqb, lt-ltb, eqb-false}
+use borrow.Author.Tests.{eq-eqb, ne-eqb, lt-ltb, ltb-true, eqb-false}
 use lib.Dec.{T, eqb, ltb}
 use Rattle.network.specs.declared.Found.{Found}
-use Rattle.network.specs.Sizes.{Shape, nodes, directions}
+use Rattle.network.specs.Sizes.{Shape, nodes, queues, directions}
 use Rattle.network.specs.Torus.{neighbour}
 use Rattle.network.specs.TorusLaws.{Torus, neighbour-lt}
 use Rattle.network.specs.Check.{opposite}
 use Rattle.network.specs.CheckLaws.{Network}
 use Rattle.network.specs.RefusalLaws.{Permitted}
 use Rattle.network.specs.Routes.{deliver, target}
-use Rattle.network.specs.Calls.{afterMove, firstInNode, firstMove}
-use Rattle.packet.specs.declared.torus.Sizes.{Sizes}
-use Rattle.packet.specs.Geometry.{shapeOfSizes, RingsFit}
-use Rattle.packet.specs.GeometryLaws.{rings-torus, rings-nodes}
+use Rattle.network.specs.Calls.{afterMove, firstInQueue, firstMove}
 use Rattle.run.specs.Ready.{before, Untouched, still-nothing, first-at, first-nowhere}
-use Rattle.nodeset.specs.Set.{member, IsSet, Filled, Inserted, Removed, Lowest}
+use Rattle.headset.specs.Set.{member, IsSet, Filled, Inserted, NodeInserted, Removed, Lowest}
 
--- a node that is not in the set has no permitted move
+abbrev pub headOf : ℕ → ℕ → ℕ
+headOf n q = 16 * n + q
+
+-- every member is the head of a queue that exists
+abbrev pub Heads : Shape → List ℕ → Type 0
+Heads S set = (h : ℕ) → member set h ≡ true → (h / 16 < nodes S) × (h % 16 < queues)
+
+-- a head that is not in the set has no permitted move
 pub record Covered (S : Shape) (w set : List ℕ) : Type 0 where
   pub set-of : IsSet set
-  pub others : (n : ℕ) → n < nodes S → member set n ≡ false → firstInNode S w n ≡ Found.Nothing
+  pub heads : Heads S set
+  pub others : (n q : ℕ) → n < nodes S → q < queues → member set (headOf n q) ≡ false → firstInQueue S w n q ≡ Found.Nothing
 
--- all nodes
+-- the two tests of a number that is a head's
+head-node : (n q : ℕ) → q < queues → headOf n q / 16 ≡ n
+head-node n q h = omega arith
+
+head-queue : (n q : ℕ) → q < queues → headOf n q % 16 ≡ q
+head-queue n q h = omega arith
+
+-- all heads
+both-true : (a b : Bool) → (a && b) ≡ true → (a ≡ true) × (b ≡ true)
+both-true true b e = (refl, e)
+both-true false b e = absurd (false≢true e)
+
 pub covered-filled : (S : Shape) (w set : List ℕ) → Filled set (nodes S) → Covered S w set
 covered-filled S w set f =
     record {
       set-of = f .set;
-      others = λ n h e. absurd (mathlib.Core.Bool.true≢false (sym (f .members n ∙ lt-ltb n (nodes S) h) ∙ e));
+      heads = λ h e. let (a, b) = both-true (ltb (h / 16) (nodes S)) (ltb (h % 16) 9) (sym (f .members h) ∙ e) in (ltb-true (h / 16) (nodes S) a, ltb-true (h % 16) 9 b);
+      others = λ n q hn hq e. absurd (true≢false (sym (f .members (headOf n q) ∙ here n q hn hq) ∙ e));
     }
+  where
+    here : (n q : ℕ) → n < nodes S → q < queues → (ltb (headOf n q / 16) (nodes S) && ltb (headOf n q % 16) 9) ≡ true
+    here n q hn hq =
+        ap₂ (λ (a b : ℕ). ltb a (nodes S) && ltb b 9) (head-node n q hq) (head-queue n q hq)
+        ∙ ap₂ (λ (a b : Bool). a && b) (lt-ltb n (nodes S) hn) (lt-ltb q 9 hq)
 
 -- one without a move taken out
-pub covered-removed : (S : Shape) (w set after : List ℕ) (n : ℕ) → Covered S w set → firstInNode S w n ≡ Found.Nothing → Removed set after n → Covered S w after
-covered-removed S w set after n c none r = record { set-of = r .set; others = λ m h e. go m h (ℕ-discrete m n) (sym (r .members m) ∙ e) }
+pub covered-removed : (S : Shape) (w set after : List ℕ) (h : ℕ) → Covered S w set → firstInQueue S w (h / 16) (h % 16) ≡ Found.Nothing → Removed set after h
+    → Covered S w after
+covered-removed S w set after h c none r =
+    record {
+      set-of = r .set;
+      heads = λ m e. c .heads m (both-true (not (eqb m h)) (member set m) (sym (r .members m) ∙ e) .1);
+      others = λ n q hn hq e. go n q hn hq (ℕ-discrete (headOf n q) h) (sym (r .members (headOf n q)) ∙ e);
+    }
   where
-    go : (m : ℕ) → m < nodes S → Dec (m ≡ n) → (not (eqb m n) && member set m) ≡ false → firstInNode S w m ≡ Found.Nothing
-    go m h (yes e) x = ap (λ (k : ℕ). firstInNode S w k) e ∙ none
-    go m h (no ne) x = c .others m h (rw (ne-eqb m n ne) at x)
+    go : (n q : ℕ) → n < nodes S → q < queues → Dec (headOf n q ≡ h) → (not (eqb (headOf n q) h) && member set (headOf n q)) ≡ false
+        → firstInQueue S w n q ≡ Found.Nothing
+    go n q hn hq (yes e) x =
+        ap₂ (λ (a b : ℕ). firstInQueue S w a b) (sym (head-node n q hq) ∙ ap (λ (m : ℕ). m / 16) e) (sym (head-queue n q hq) ∙ ap (λ (m : ℕ). m % 16) e) ∙ none
+    go n q hn hq (no ne) x = c .others n q hn hq (rw (ne-eqb (headOf n q) h ne) at x)
 
--- First's move: that of the lowest node of the set which has one
-pub lowest-first : (S : Shape) (w set : List ℕ) (n : ℕ) (f : Found) → Covered S w set → Lowest set n → n < nodes S → firstInNode S w n ≡ f → f ≢ Found.Nothing
-    → firstMove S w ≡ f
-lowest-first S w set n f c l h e ne = first-at S w n f h (λ k hk. c .others k (lt-trans hk h) (l .below k hk)) e ne
+-- First's move: that of the lowest head of the set which has one
+pub lowest-first : (S : Shape) (w set : List ℕ) (h : ℕ) (f : Found) → Covered S w set → Lowest set h → h < 4096 → firstInQueue S w (h / 16) (h % 16) ≡ f
+    → f ≢ Found.Nothing → firstMove S w ≡ f
+lowest-first S w set h f c l small e ne =
+    let (hn, hq) = c .heads h (l .found small) in
+    first-at S w (h / 16) (h % 16) f hn hq
+    (λ k r hk hr. c .others k r (lt-trans hk hn) hr (l .below (headOf k r) (omega arith)))
+    (λ r hr. c .others (h / 16) r hn (lt-trans hr hq) (l .below (headOf (h / 16) r) (omega arith)))
+    e ne
 
-pub lowest-none : (S : Shape) (w set : List ℕ) (n : ℕ) → Covered S w set → Lowest set n → nodes S ≤ n → firstMove S w ≡ Found.Nothing
-lowest-none S w set n c l h = first-nowhere S w (λ k hk. c .others k hk (l .below k (lt-of-lt-of-le hk h)))
-
--- after a move of queue q of node n by output o: the nodes that it may have given a move are in the set, and those that were
+-- after a move of queue q of node n by output o: the heads that it may have given a move are in the set, and those that were
 pub record Marked (S : Shape) (n q o : ℕ) (set after : List ℕ) : Type 0 where
   pub set-of : IsSet after
-  pub others : (k : ℕ) → member after k ≡ false → (member set k ≡ false) × Untouched S n q o k
+  pub heads : Heads S set → Heads S after
+  pub others : (k r : ℕ) → r < queues → member after (headOf k r) ≡ false → (member set (headOf k r) ≡ false) × Untouched S n q o k r
 
--- the same for its target alone, and for the node that feeds its source alone
+-- the same for its source alone, for its target alone, and for the node that feeds its source alone
+pub record SourceMarked (S : Shape) (n q : ℕ) (set after : List ℕ) : Type 0 where
+  pub set-of : IsSet after
+  pub heads : Heads S set → Heads S after
+  pub others : (k r : ℕ) → r < queues → member after (headOf k r) ≡ false → (member set (headOf k r) ≡ false) × ((n ≡ k) × (q ≡ r) → ⊥)
+
 pub record ArrivalMarked (S : Shape) (n o : ℕ) (set after : List ℕ) : Type 0 where
   pub set-of : IsSet after
-  pub others : (k : ℕ) → member after k ≡ false → (member set k ≡ false) × (o ≢ deliver → k ≢ target S n o)
+  pub heads : Heads S set → Heads S after
+  pub others : (k r : ℕ) → r < queues → member after (headOf k r) ≡ false
+      → (member set (headOf k r) ≡ false) × (o ≢ deliver → (target S n o ≡ k) × (o ≡ r) → ⊥)
 
 pub record FeederMarked (S : Shape) (n q : ℕ) (set after : List ℕ) : Type 0 where
   pub set-of : IsSet after
-  pub others : (k : ℕ) → member after k ≡ false → (member set k ≡ false) × (q ≢ deliver → k ≢ before S n q)
+  pub heads : Heads S set → Heads S after
+  pub others : (k r : ℕ) → r < queues → member after (headOf k r) ≡ false → (member set (headOf k r) ≡ false) × (q ≢ deliver → k ≢ before S n q)
 
 pub covered-moved : (S : Shape) (w set after : List ℕ) (n q o : ℕ) → Torus S → Network S w → Permitted S w n q o → Covered S w set → Marked S n q o set after
     → Covered S (afterMove S w n q o) after
 covered-moved S w set after n q o tor N P c m =
     record {
       set-of = m .set-of;
-      others = λ k h e. still-nothing S w n q o tor N P k (m .others k e .1) (c .others k h (m .others k e .0));
+      heads = m .heads (c .heads);
+      others = λ k r hk hr e. still-nothing S w n q o tor N P k r (m .others k r hr e .1) (c .others k r hk hr (m .others k r hr e .0));
     }
 
--- a node that is not in the set with n is not n, and was not in the set
-pub not-inserted : (set after : List ℕ) (n k : ℕ) → Inserted set after n → member after k ≡ false → (member set k ≡ false) × (k ≢ n)
-not-inserted set after n k i e = go (ℕ-discrete k n) (sym (i .members k) ∙ e)
+-- one head put in: it is a queue's, and a head that is not in the set then is another, and was not in it
+either : (a b : Bool) → (a || b) ≡ true → (a ≡ true) ⊎ (b ≡ true)
+either true b e = inl refl
+either false b e = inr e
+
+neither : (a b : Bool) → (a || b) ≡ false → (a ≡ false) × (b ≡ false)
+neither true b e = absurd (true≢false e)
+neither false b e = (refl, e)
+
+pub source-marked : (S : Shape) (n q : ℕ) (set after : List ℕ) → n < nodes S → q < queues → Inserted set after (headOf n q) → SourceMarked S n q set after
+source-marked S n q set after hn hq i =
+    record {
+      set-of = i .set;
+      heads = λ hs h e. all hs h (ℕ-discrete h (headOf n q)) (sym (i .members h) ∙ e);
+      others = λ k r hr e. apart k r (neither (eqb (headOf k r) (headOf n q)) (member set (headOf k r)) (sym (i .members (headOf k r)) ∙ e));
+    }
   where
-    go : Dec (k ≡ n) → (eqb k n || member set k) ≡ false → (member set k ≡ false) × (k ≢ n)
-    go (yes z) x = absurd (mathlib.Core.Bool.true≢false (rw (eq-eqb k n z) at x))
-    go (no ne) x = (rw (ne-eqb k n ne) at x, ne)
+    all : Heads S set → (h : ℕ) → Dec (h ≡ headOf n q) → (eqb h (headOf n q) || member set h) ≡ true → (h / 16 < nodes S) × (h % 16 < queues)
+    all hs h (yes z) x = (omega (arith, hn), omega arith)
+    all hs h (no ne) x = hs h (rw (ne-eqb h (headOf n q) ne) at x)
+
+    apart : (k r : ℕ) → (eqb (headOf k r) (headOf n q) ≡ false) × (member set (headOf k r) ≡ false) → (member set (headOf k r) ≡ false) × ((n ≡ k) × (q ≡ r) → ⊥)
+    apart k r x = (x .1, λ e. eqb-false (headOf k r) (headOf n q) (x .0) (ap₂ headOf (sym (e .0)) (sym (e .1))))
 
 pub arrival-none : (S : Shape) (n o : ℕ) (set : List ℕ) → IsSet set → o ≡ 0 → ArrivalMarked S n o set set
-arrival-none S n o set i z = record { set-of = i; others = λ k e. (e, λ ne. absurd (ne z)) }
+arrival-none S n o set i z = record { set-of = i; heads = λ hs. hs; others = λ k r hr e. (e, λ ne. absurd (ne z)) }
 
-pub arrival-marked : (S : Shape) (n o there : ℕ) (set after : List ℕ) → there ≡ target S n o → Inserted set after there → ArrivalMarked S n o set after
-arrival-marked S n o there set after t i =
-    record { set-of = i .set; others = λ k e. (not-inserted set after there k i e .0, λ ne x. not-inserted set after there k i e .1 (x ∙ sym t)) }
+pub arrival-marked : (S : Shape) (n o there : ℕ) (set after : List ℕ) → there ≡ target S n o → SourceMarked S there o set after → ArrivalMarked S n o set after
+arrival-marked S n o there set after t m =
+    record {
+      set-of = m .set-of;
+      heads = m .heads;
+      others = λ k r hr e. let (x, apart) = m .others k r hr e in (x, λ ne y. apart (t ∙ y .0, y .1));
+    }
 
 pub feeder-none : (S : Shape) (n q : ℕ) (set : List ℕ) → IsSet set → q ≡ 0 → FeederMarked S n q set set
-feeder-none S n q set i z = record { set-of = i; others = λ k e. (e, λ ne. absurd (ne z)) }
+feeder-none S n q set i z = record { set-of = i; heads = λ hs. hs; others = λ k r hr e. (e, λ ne. absurd (ne z)) }
 
-pub feeder-marked : (S : Shape) (n q there : ℕ) (set after : List ℕ) → there ≡ before S n q → Inserted set after there → FeederMarked S n q set after
-feeder-marked S n q there set after t i =
-    record { set-of = i .set; others = λ k e. (not-inserted set after there k i e .0, λ ne x. not-inserted set after there k i e .1 (x ∙ sym t)) }
+pub feeder-marked : (S : Shape) (n q there : ℕ) (set after : List ℕ) → there < nodes S → there ≡ before S n q → NodeInserted set after there → FeederMarked S n q set after
+feeder-marked S n q there set after ht t i =
+    record {
+      set-of = i .set;
+      heads = λ hs h e. all hs h (either (eqb (h / 16) there && ltb (h % 16) 9) (member set h) (sym (i .members h) ∙ e));
+      others = λ k r hr e. apart k r hr (neither (eqb (headOf k r / 16) there && ltb (headOf k r % 16) 9) (member set (headOf k r)) (sym (i .members (headOf k r)) ∙ e));
+    }
+  where
+    all : Heads S set → (h : ℕ) → ((eqb (h / 16) there && ltb (h % 16) 9) ≡ true) ⊎ (member set h ≡ true) → (h / 16 < nodes S) × (h % 16 < queues)
+    all hs h (inl x) =
+        let (a, b) = both-true (eqb (h / 16) there) (ltb (h % 16) 9) x in
+        (subst (λ (k : ℕ). k < nodes S) (sym (borrow.Author.Tests.eqb-true (h / 16) there a)) ht, ltb-true (h % 16) 9 b)
+    all hs h (inr x) = hs h x
 
-pub marked : (S : Shape) (n q o : ℕ) (a b c d : List ℕ) → Inserted a b n → ArrivalMarked S n o b c → FeederMarked S n q c d → Marked S n q o a d
+    one : (k r : ℕ) → r < queues → k ≡ there → (eqb (headOf k r / 16) there && ltb (headOf k r % 16) 9) ≡ true
+    one k r hr z = ap₂ (λ (a b : Bool). a && b) (eq-eqb (headOf k r / 16) there (head-node k r hr ∙ z)) (lt-ltb (headOf k r % 16) 9 (omega arith))
+
+    apart : (k r : ℕ) → r < queues → ((eqb (headOf k r / 16) there && ltb (headOf k r % 16) 9) ≡ false) × (member set (headOf k r) ≡ false)
+        → (member set (headOf k r) ≡ false) × (q ≢ deliver → k ≢ before S n q)
+    apart k r hr x = (x .1, λ ne z. true≢false (sym (one k r hr (z ∙ sym t)) ∙ x .0))
+
+pub marked : (S : Shape) (n q o : ℕ) (a b c d : List ℕ) → SourceMarked S n q a b → ArrivalMarked S n o b c → FeederMarked S n q c d → Marked S n q o a d
 marked S n q o a b c d i x y =
     record {
       set-of = y .set-of;
+      heads = λ hs. y .heads (x .heads (i .heads hs));
       others =
-          λ k e.
-          let (ec, feeds) = y .others k e in
-          let (eb, arrives) = x .others k ec in
-          let (ea, apart) = not-inserted a b n k i eb in
+          λ k r hr e.
+          let (ec, feeds) = y .others k r hr e in
+          let (eb, arrives) = x .others k r hr ec in
+          let (ea, apart) = i .others k r hr eb in
           (ea, record { source = apart; arrival = arrives; feeder = feeds });
     }
 
--- what the code computes: the direction back, and nodes that are members of the set
+-- what the code computes: the direction back, and the nodes
 pub direction-back : (d : ℕ) → d / 2 * 2 + (1 - d % 2) ≡ opposite d
 unfolding opposite
 direction-back d = go (ℕ-discrete (d % 2) 0)
@@ -119,11 +199,8 @@ direction-back d = go (ℕ-discrete (d % 2) 0)
     go (yes e) = rw (eq-eqb (d % 2) 0 e) (omega arith)
     go (no ne) = rw (ne-eqb (d % 2) 0 ne) (omega arith)
 
-pub neighbour-small : (s : Sizes) (d n r : ℕ) → RingsFit s → n < nodes (shapeOfSizes s) → d < directions → r ≡ neighbour (shapeOfSizes s) d n → r < 256
-neighbour-small s d n r f h hd e =
-    let a : neighbour (shapeOfSizes s) d n < nodes (shapeOfSizes s) = neighbour-lt (shapeOfSizes s) d n (rings-torus s f) hd h in
-    let b : nodes (shapeOfSizes s) ≤ 256 = rings-nodes s f in
-    omega arith
+pub neighbour-node : (S : Shape) (d n r : ℕ) → Torus S → n < nodes S → d < directions → r ≡ neighbour S d n → r < nodes S
+neighbour-node S d n r tor h hd e = let a : neighbour S d n < nodes S = neighbour-lt S d n tor hd h in omega arith
 
 pub target-is : (S : Shape) (n o r : ℕ) → r ≡ neighbour S ((o - 1) % 4) n → r ≡ target S n o
 unfolding target
@@ -133,7 +210,7 @@ pub before-is : (S : Shape) (n q r : ℕ) → r ≡ neighbour S ((q - 1) % 4 / 2
 unfolding before
 before-is S n q r e = e ∙ ap (λ (d : ℕ). neighbour S d n) (direction-back ((q - 1) % 4))
 
--- the search through the set: no node before `from` is left in it
+-- the search through the set: no head before `from` is left in it
 pub record Searched (S : Shape) (w set : List ℕ) (from : ℕ) : Type 0 where
   pub covers : Covered S w set
   pub below : (m : ℕ) → m < from → member set m ≡ false
@@ -141,25 +218,29 @@ pub record Searched (S : Shape) (w set : List ℕ) (from : ℕ) : Type 0 where
 pub searched-start : (S : Shape) (w set : List ℕ) → Covered S w set → Searched S w set 0
 searched-start S w set c = record { covers = c; below = λ m h. absurd (native.Mathlib.Nat.not-suc-le-zero h) }
 
-pub searched-next : (S : Shape) (w set after : List ℕ) (from n : ℕ) → Searched S w set from → Lowest set n → firstInNode S w n ≡ Found.Nothing → Removed set after n
-    → Searched S w after (n + 1)
-searched-next S w set after from n s l none r =
-    record { covers = covered-removed S w set after n (s .covers) none r; below = λ m h. r .members m ∙ gone m h (ℕ-discrete m n) }
+pub searched-next : (S : Shape) (w set after : List ℕ) (from h : ℕ) → Searched S w set from → Lowest set h → firstInQueue S w (h / 16) (h % 16) ≡ Found.Nothing
+    → Removed set after h → Searched S w after (h + 1)
+searched-next S w set after from h s l none r =
+    record { covers = covered-removed S w set after h (s .covers) none r; below = λ m b. r .members m ∙ gone m b (ℕ-discrete m h) }
   where
-    gone : (m : ℕ) → m < n + 1 → Dec (m ≡ n) → (not (eqb m n) && member set m) ≡ false
-    gone m h (yes e) = rw (eq-eqb m n e)
-    gone m h (no ne) = rw (ne-eqb m n ne) (l .below m (omega arith))
+    gone : (m : ℕ) → m < h + 1 → Dec (m ≡ h) → (not (eqb m h) && member set m) ≡ false
+    gone m b (yes e) = rw (eq-eqb m h e)
+    gone m b (no ne) = rw (ne-eqb m h ne) (l .below m (omega arith))
 
 -- it goes on upwards
-pub searched-up : (S : Shape) (w set : List ℕ) (from n : ℕ) → Searched S w set from → Lowest set n → n < 256 → from ≤ n
-searched-up S w set from n s l h = go (native.Mathlib.Decide.decLt n from)
+pub searched-up : (S : Shape) (w set : List ℕ) (from h : ℕ) → Searched S w set from → Lowest set h → h < 4096 → from ≤ h
+searched-up S w set from h s l small = go (decLt h from)
   where
-    go : Dec (n < from) → from ≤ n
-    go (yes b) = absurd (mathlib.Core.Bool.true≢false (sym (l .found h) ∙ s .below n b))
+    go : Dec (h < from) → from ≤ h
+    go (yes b) = absurd (true≢false (sym (l .found small) ∙ s .below h b))
     go (no b) = omega arith
 
-pub searched-all : (S : Shape) (w set : List ℕ) (from : ℕ) → Searched S w set from → nodes S ≤ from → firstMove S w ≡ Found.Nothing
-searched-all S w set from s h = first-nowhere S w (λ k hk. s .covers .others k hk (s .below k (lt-of-lt-of-le hk h)))
+-- and where no head is left, there is no move
+pub searched-all : (S : Shape) (w set : List ℕ) (from : ℕ) → Searched S w set from → nodes S ≤ 256 → 4096 ≤ from → firstMove S w ≡ Found.Nothing
+searched-all S w set from s few h = first-nowhere S w (λ k r hk hr. s .covers .others k r hk hr (s .below (headOf k r) (omega arith)))
+
+pub lowest-none : (S : Shape) (w set : List ℕ) (h : ℕ) → Covered S w set → Lowest set h → nodes S ≤ 256 → 4096 ≤ h → firstMove S w ≡ Found.Nothing
+lowest-none S w set h c l few g = first-nowhere S w (λ k r hk hr. c .others k r hk hr (l .below (headOf k r) (omega arith)))
 
 -- what is named is not nothing
 pub refused-some : (f : Found) (r : ℕ) → f ≡ Found.Refused r → f ≢ Found.Nothing

@@ -5,7 +5,7 @@ use native.Mathlib.Omega.{arith}
 use denote.Ref.{now}
 use lib.ListN.{length, take}
 use lib.Seq.{length-take-le}
-use Rattle.sheet.specs.declared.read.Command.{Command}
+use Rattle.sheet.specs.declared.Command.{Command}
 use Rattle.sheet.specs.Commands.{commandOf, keptCommand}
 use Rattle.sheet.specs.Cutting.{handedOn}
 use Rattle.session.specs.Running.{fedCommands}

@@ -1,194 +1,130 @@
--- `turns::drain_network` meets its contract. The loop's invariant: what the turns so far have come to (SoFar), and the set of nodes covers all
--- that have a permitted move. The measure is what is left of the budget. Assumes nothing.
+-- `turns::drain_network` meets its contract. Assumes nothing.
 use borrow.Author.Needs.{needs}
-use mathlib.Core.Path.{_≡_, refl, ap, sym, _∙_, subst}
-use mathlib.Core.List.{List}
-use mathlib.Core.Logic.{⊎-elim}
-use Prim.Native.Nat.{ℕ, _+_, _-_, _<_, _≤_}
+use mathlib.Core.Path.{_≡_, refl, sym, subst}
+use Prim.Native.Nat.{ℕ, _≤_}
 use native.Mathlib.Omega.{arith}
-use lib.ListN.{length, length-set}
 use denote.Ref.{now}
-use Rattle.packet.specs.Geometry.{shapeOfSizes}
+use Rattle.network.specs.declared.Stop.{Stop}
+use Rattle.network.specs.Layout.{accepted, delivered}
+use Rattle.packet.specs.Geometry.{shapeOfSizes, RingsFit}
 use Rattle.packet.specs.GeometryLaws.{inRange-rings, rings-torus, rings-nodes}
-use Rattle.turns.specs.Ready.{Covered, covered-filled}
-use Rattle.nodeset.specs.Set.{Filled}
-use Rattle.turns.specs.Drains.{SoFar, so-far-start, next-passed, next-delivered, end-of-it, passed-budget, delivered-budget}
+use Rattle.headset.specs.Set.{Filled}
+use Rattle.turns.specs.Ready.{covered-filled}
+use Rattle.turns.specs.Turns.{turn-emptied, none-held}
+use Rattle.turns.specs.Turned.{header-long}
+use Rattle.turns.specs.Drains.{so-far-start, so-far-end}
 use Rattle.turns.proofs.drain_network.Statement.{statement}
 use Rattle.turns.proofs.drain_network.Tie as tie
 use Rattle.turns.proofs.drain_network.Reads as reads
 use Rattle.turns.proofs.drain_network.Lts as lts
-use Rattle.turns.proofs.take_turn.Reads as take-turn-reads
-use Rattle.nodeset.proofs.fill.Reads as fill-reads
+use Rattle.headset.proofs.fill.Reads as fill-reads
+use Rattle.packet.proofs.near.fill.Reads as near-fill-reads
 use Rattle.packet.proofs.torus.nodes.Reads as nodes-reads
+use Rattle.turns.proofs.take_turns.Reads as take-turns-reads
 
-abbrev Inv-loop : tie.InvT-loop
-Inv-loop words₀ s budget ledger₀ limit total ready₀ moves₀ delivered₀ words ledger ready moves delivered =
-    SoFar (shapeOfSizes s) words₀ budget ledger₀ words ledger moves delivered
-    × (Covered (shapeOfSizes s) words ready × ((length words ≡ length words₀) × (length ledger ≡ length ledger₀)))
+rings : (c : tie.Start) → RingsFit (c .args .s)
+rings c = inRange-rings (c .args .s) (c .pre .in-range)
 
-abbrev μ-loop : tie.MeasureT-loop
-μ-loop words₀ s budget ledger₀ limit total ready₀ moves₀ delivered₀ words ledger ready moves delivered =
-    budget - moves
+slice-read-accepted : tie.Need-slice-read-accepted
+slice-read-accepted c =
+    let a = c .before .before .before in
+    let h = header-long (shapeOfSizes (a .args .s)) (now (a .args .words)) (a .pre) in
+    omega arith
 
-less : (b m : ℕ) → m < b → b - (m + 1) < b - m
-less b m h = omega arith
+-- src/lib.rt:226:20
+slice-read-delivered : tie.Need-slice-read-delivered
+slice-read-delivered c =
+    let a = c .before .before .before .before in
+    let h = header-long (shapeOfSizes (a .args .s)) (now (a .args .words)) (a .pre) in
+    omega arith
 
--- src/turns.rt:169:19
-slice-aggregate-fill : tie.Need-slice-aggregate-fill Inv-loop μ-loop
+-- src/lib.rt:227:9
+returns : tie.Need-returns
+unfolding accepted delivered
+returns c =
+    let a = c .before .before .before .before .before in
+    let S = shapeOfSizes (a .args .s) in
+    let w = now (a .args .words) in
+    let l = now (a .args .ledger) in
+    so-far-end S (rings-torus (a .args .s) (rings a)) w (a .args .budget) l w l 0 0 Stop.Emptied (so-far-start S w (a .args .budget) l (a .pre))
+    (turn-emptied S w _ _ (none-held S w (a .pre) (c .if1 .taken)))
+
+-- src/lib.rt:234:24
+slice-aggregate-fill : tie.Need-slice-aggregate-fill
 slice-aggregate-fill c = search needs
 
--- src/turns.rt:169:31
-nodes-requires : tie.Need-nodes-requires Inv-loop μ-loop
-nodes-requires c κs =
-    let a = c .before .before .before in
-    inRange-rings (a .args .s) (a .pre .in-range)
-
--- src/turns.rt:169:5
-fill-requires : tie.Need-fill-requires Inv-loop μ-loop
+-- src/lib.rt:234:5
+fill-requires : tie.Need-fill-requires
 fill-requires c κs =
-    let a = c .before .before .before .before in (
-      record { words = refl },
-      subst (λ (x : ℕ). x ≤ 256) (sym (c .nodes .ensures)) (rings-nodes (a .args .s) (inRange-rings (a .args .s) (a .pre .in-range))),
-    )
+    let a = c .before .before .before .before .before .before in
+    (rings a, refl)
 
--- src/turns.rt:172:5
-loop-holds : tie.Need-loop-holds Inv-loop μ-loop
-loop-holds c =
-    let a = c .before .before .before .before .before .before in (
-      so-far-start (shapeOfSizes (a .args .s)) (now (a .args .words)) (a .args .budget) (now (a .args .ledger)) (a .pre),
+-- src/lib.rt:236:19
+slice-aggregate-fill-2 : tie.Need-slice-aggregate-fill-2
+slice-aggregate-fill-2 c = search needs
+
+-- src/lib.rt:236:31
+nodes-requires : tie.Need-nodes-requires
+nodes-requires c κs =
+    let a = c .before .before .before .before .before .before .before .before .before in
+    rings a
+
+-- src/lib.rt:236:5
+fill-requires-2 : tie.Need-fill-requires-2
+fill-requires-2 c κs =
+    let a = c .before .before .before .before .before .before .before .before .before .before in
+    (refl, subst (λ (x : ℕ). x ≤ 256) (sym (c .nodes .ensures)) (rings-nodes (a .args .s) (rings a)))
+
+-- src/lib.rt:237:26
+slice-aggregate-take-turns : tie.Need-slice-aggregate-take-turns
+slice-aggregate-take-turns c = search needs
+
+-- src/lib.rt:237:33
+slice-aggregate-take-turns-2 : tie.Need-slice-aggregate-take-turns-2
+slice-aggregate-take-turns-2 c = search needs
+
+-- src/lib.rt:237:5
+take-turns-requires : tie.Need-take-turns-requires
+take-turns-requires c κs =
+    let r = c .before .before .before .before .before in
+    let n = r .before in
+    let f = n .before .before .before in
+    let a = f .before .before .before .before .before .before .before in (
+      a .pre,
       (
-        covered-filled (shapeOfSizes (a .args .s)) (now (a .args .words)) (c .before .fill .last .0)
-            (subst (λ (x : ℕ). Filled (c .before .fill .last .0) x) (c .before .before .nodes .ensures) (c .before .fill .ensures)),
-        (refl, refl),
+        f .fill .ensures,
+        covered-filled (shapeOfSizes (a .args .s)) (now (a .args .words)) (r .fill2 .last .0)
+            (subst (λ (x : ℕ). Filled (r .fill2 .last .0) x) (n .nodes .ensures) (r .fill2 .ensures)),
       ),
     )
 
--- src/turns.rt:173:21
-sub-room : tie.Need-sub-room Inv-loop μ-loop
-sub-room c = search needs
-
--- src/turns.rt:174:40
-slice-aggregate-take-turn : tie.Need-slice-aggregate-take-turn Inv-loop μ-loop
-slice-aggregate-take-turn c = search needs
-
--- src/turns.rt:174:52
-sub-take-turn : tie.Need-sub-take-turn Inv-loop μ-loop
-sub-take-turn c = search needs
-
--- src/turns.rt:174:13
-take-turn-requires : tie.Need-take-turn-requires Inv-loop μ-loop
-take-turn-requires c κs = search needs
-
--- src/turns.rt:176:27
-enum-known-turn : tie.Need-enum-known-turn Inv-loop μ-loop
-enum-known-turn c = search needs
-
--- src/turns.rt:177:17
-same-length : tie.Need-same-length Inv-loop μ-loop
+-- src/lib.rt:222:1
+same-length : tie.Need-same-length
 same-length c = search needs
 
--- src/turns.rt:177:17
-same-length-2 : tie.Need-same-length-2 Inv-loop μ-loop
+-- src/lib.rt:222:1
+same-length-2 : tie.Need-same-length-2
 same-length-2 c = search needs
 
--- src/turns.rt:177:17
-returns : tie.Need-returns Inv-loop μ-loop
-returns c =
-    let a = c .before .before .before .before .before .before .before .before .before .before .before .before .before .before .before .before in
-    let l = c .before .before .before .before .before .before .before .before .before .loop in
-    let t = c .before .before .before .before .before .before .take-turn in
-    end-of-it (shapeOfSizes (a .args .s)) (rings-torus (a .args .s) (inRange-rings (a .args .s) (a .pre .in-range))) (now (a .args .words)) (a .args .budget) (now (a .args .ledger))
-    (l .words) (l .ledger) (l .moves) (l .delivered) (c .before .turn .given .0 .0) (t .result) (t .last .0) (l .inv .0) (t .ensures .0) (t .ensures .1 .0) (c .before .turn .given .1)
-
-enum-told : tie.Need-enum-told Inv-loop μ-loop
-enum-told c = search needs
-
--- src/turns.rt:184:29
-enum-known-turn-2 : tie.Need-enum-known-turn-2 Inv-loop μ-loop
-enum-known-turn-2 c = search needs
-
--- src/turns.rt:185:17
-mul-ledger : tie.Need-mul-ledger Inv-loop μ-loop
-mul-ledger c = search needs
-
--- src/turns.rt:185:17
-slice-write-ledger : tie.Need-slice-write-ledger Inv-loop μ-loop
-slice-write-ledger c =
-    let a = c .before .before .before .before .before .before .before .before .before .before .before .before .before .before .before .before in
-    let l = c .before .before .before .before .before .before .before .before .before .loop in
-    let t = c .before .before .before .before .before .before .take-turn in
-    let r = delivered-budget (shapeOfSizes (a .args .s)) (rings-torus (a .args .s) (inRange-rings (a .args .s) (a .pre .in-range))) (now (a .args .words)) (a .args .budget)
-    (now (a .args .ledger)) (l .words) (l .ledger) (l .moves) (l .delivered) (c .before .turn2 .given .0 .0) (l .inv .0) (sym (t .ensures .0) ∙ c .before .turn2 .given .1) in
-    subst (λ (x : ℕ). l .delivered < x) (sym (l .inv .1 .1 .1)) (r .1)
-
--- src/turns.rt:186:17
-add-delivered : tie.Need-add-delivered Inv-loop μ-loop
-add-delivered c = search needs
-
--- src/turns.rt:189:9
-add-moves : tie.Need-add-moves Inv-loop μ-loop
-add-moves c = search needs
-
--- src/turns.rt:172:5
-loop-less : tie.Need-loop-less Inv-loop μ-loop
-loop-less c =
-    let a = c .before .before .before .before .before .before .before .before .before .before .before .before .before .before in
-    let l = c .before .before .before .before .before .before .before .loop in
-    let t = c .before .before .before .before .take-turn in
-    let tor = rings-torus (a .args .s) (inRange-rings (a .args .s) (a .pre .in-range)) in
-    less (a .args .budget) (l .moves)
-    (⊎-elim
-    (λ x. passed-budget (shapeOfSizes (a .args .s)) tor (now (a .args .words)) (a .args .budget) (now (a .args .ledger)) (l .words) (l .ledger) (l .moves) (l .delivered) (l .inv .0)
-    (sym (t .ensures .0) ∙ x .1 .given .1))
-    (λ x. delivered-budget (shapeOfSizes (a .args .s)) tor (now (a .args .words)) (a .args .budget) (now (a .args .ledger)) (l .words) (l .ledger) (l .moves) (l .delivered)
-    (x .1 .given .0 .0) (l .inv .0) (sym (t .ensures .0) ∙ x .1 .given .1) .0)
-    (c .match .came))
-
--- src/turns.rt:172:5
-loop-again : tie.Need-loop-again Inv-loop μ-loop
-loop-again c =
-    let a = c .before .before .before .before .before .before .before .before .before .before .before .before .before .before in
-    let l = c .before .before .before .before .before .before .before .loop in
-    let t = c .before .before .before .before .take-turn in
-    let tor = rings-torus (a .args .s) (inRange-rings (a .args .s) (a .pre .in-range)) in (
-      ⊎-elim
-          (λ x. next-passed (shapeOfSizes (a .args .s)) tor (now (a .args .words)) (a .args .budget) (now (a .args .ledger)) (l .words) (l .ledger) (l .moves) (l .delivered) (t .result)
-          (t .last .0) (c .match .ledger) (c .match .delivered) (l .inv .0) (t .ensures .0) (t .ensures .1 .0) (x .1 .given .1) (x .2) (x .3))
-          (λ x. next-delivered (shapeOfSizes (a .args .s)) tor (now (a .args .words)) (a .args .budget) (now (a .args .ledger)) (l .words) (l .ledger) (l .moves) (l .delivered)
-          (x .1 .given .0 .0) (t .result) (t .last .0) (c .match .ledger) (c .match .delivered) (l .inv .0) (t .ensures .0) (t .ensures .1 .0) (x .1 .given .1) (x .3) (x .4))
-          (c .match .came),
-      (
-        subst (λ (x : List ℕ). Covered (shapeOfSizes (a .args .s)) x (t .last .1 .1 .0)) (sym (t .ensures .1 .0)) (t .ensures .1 .1),
-        (
-          t .kept .0 ∙ l .inv .1 .1 .0,
-          ⊎-elim (λ x. ap length (x .2) ∙ l .inv .1 .1 .1) (λ x. ap length (x .3) ∙ length-set (l .ledger) (l .delivered) (x .1 .given .0 .0) ∙ l .inv .1 .1 .1) (c .match .came),
-        ),
-      ),
-    )
+-- src/lib.rt:222:1
+returns-2 : tie.Need-returns-2
+returns-2 c = search needs
 
 pub drain-network-spec : {M : Type 1} → statement M
 drain-network-spec =
     tie.close
     (tie.spec
-    Inv-loop
-    μ-loop
+    slice-read-accepted
+    slice-read-delivered
+    returns
     slice-aggregate-fill
-    nodes-requires
     fill-requires
-    loop-holds
-    sub-room
-    slice-aggregate-take-turn
-    sub-take-turn
-    take-turn-requires
-    enum-known-turn
+    slice-aggregate-fill-2
+    nodes-requires
+    fill-requires-2
+    slice-aggregate-take-turns
+    slice-aggregate-take-turns-2
+    take-turns-requires
     same-length
     same-length-2
-    returns
-    enum-told
-    enum-known-turn-2
-    mul-ledger
-    slice-write-ledger
-    add-delivered
-    add-moves
-    loop-less
-    loop-again)
+    returns-2)

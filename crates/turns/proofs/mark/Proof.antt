@@ -1,9 +1,7 @@
 -- `turns::mark` meets its contract. Assumes nothing.
 use borrow.Author.Needs.{needs}
-use native.Mathlib.Nat.{lt-of-lt-of-le}
 use denote.Ref.{now}
 use Rattle.packet.specs.Geometry.{shapeOfSizes}
-use Rattle.packet.specs.GeometryLaws.{rings-nodes}
 use Rattle.turns.specs.Ready.{marked}
 use Rattle.turns.proofs.mark.Statement.{statement}
 use Rattle.turns.proofs.mark.Tie as tie
@@ -11,36 +9,35 @@ use Rattle.turns.proofs.mark.Reads as reads
 use Rattle.turns.proofs.mark.Lts as lts
 use Rattle.turns.proofs.mark_arrival.Reads as mark-arrival-reads
 use Rattle.turns.proofs.mark_feeder.Reads as mark-feeder-reads
-use Rattle.nodeset.proofs.insert.Reads as insert-reads
+use Rattle.turns.proofs.mark_head.Reads as mark-head-reads
 
--- src/turns.rt:63:5
-insert-requires : tie.Need-insert-requires
-insert-requires c κs =
-    let a = c .before .before in
-    (a .pre .0, lt-of-lt-of-le (a .pre .1 .1) (rings-nodes (a .args .s) (a .pre .1 .0)))
+-- src/lib.rt:76:5
+mark-head-requires : tie.Need-mark-head-requires
+mark-head-requires c κs = search needs
 
--- src/turns.rt:64:5
+-- src/lib.rt:77:5
 mark-arrival-requires : tie.Need-mark-arrival-requires
 mark-arrival-requires c κs = search needs
 
--- src/turns.rt:65:5
+-- src/lib.rt:78:5
 mark-feeder-requires : tie.Need-mark-feeder-requires
 mark-feeder-requires c κs = search needs
 
--- src/turns.rt:57:1
+-- src/lib.rt:70:1
 same-length : tie.Need-same-length
 same-length c = search needs
 
--- src/turns.rt:57:1
+-- src/lib.rt:70:1
 returns : tie.Need-returns
 returns c =
-    let a = c .before .before .before .before .before .before .before .before .before .before .before .before .before in
-    marked (shapeOfSizes (a .args .s)) (a .args .n) (a .args .q) (a .args .o) (now (a .args .ready)) _ _ (c .before .before .mark-feeder .last .0)
-    (c .before .before .before .before .before .before .before .before .before .before .insert .ensures)
-    (c .before .before .before .before .before .before .mark-arrival .ensures)
-    (c .before .before .mark-feeder .ensures)
+    let f = c .before .before in
+    let r = f .before .before .before .before in
+    let h = r .before .before .before .before in
+    let a = h .before .before .before .before in
+    marked (shapeOfSizes (a .args .s)) (a .args .n) (a .args .q) (a .args .o) (now (a .args .ready)) _ _ (f .mark-feeder .last .0) (h .mark-head .ensures) (r .mark-arrival .ensures)
+    (f .mark-feeder .ensures)
 
 pub mark-spec : {M : Type 1} → statement M
 mark-spec =
     tie.close
-    (tie.spec insert-requires mark-arrival-requires mark-feeder-requires same-length returns)
+    (tie.spec mark-head-requires mark-arrival-requires mark-feeder-requires same-length returns)

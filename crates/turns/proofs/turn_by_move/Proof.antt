@@ -11,64 +11,64 @@ use Rattle.turns.proofs.turn_by_move.Lts as lts
 use Rattle.turns.proofs.mark.Reads as mark-reads
 use Rattle.changes.proofs.make_move.Reads as make-move-reads
 
--- src/turns.rt:121:9
+-- src/lib.rt:121:9
 make-move-requires : tie.Need-make-move-requires
 make-move-requires c κs = search needs
 
--- src/turns.rt:122:9
+-- src/lib.rt:122:9
 mark-requires : tie.Need-mark-requires
 mark-requires c κs =
-    let a = c .before .before .before .before .before .before .before .before in
-    (a .pre .1 .0 .set-of, (inRange-rings (a .args .s) (a .pre .0 .in-range), a .pre .1 .1 .node))
+    let a = c .before .before .before .before .before .before .before .before .before in
+    (a .pre .1 .1 .0 .set-of, ((inRange-rings (a .args .s) (a .pre .0 .in-range), a .pre .1 .1 .1 .node, a .pre .1 .1 .1 .queue, a .pre .1 .1 .1 .output), a .pre .1 .0))
 
--- src/turns.rt:123:9
+-- src/lib.rt:123:9
 same-length : tie.Need-same-length
 same-length c = search needs
 
--- src/turns.rt:123:9
+-- src/lib.rt:123:9
 same-length-2 : tie.Need-same-length-2
 same-length-2 c = search needs
 
--- src/turns.rt:123:9
+-- src/lib.rt:123:9
 returns : tie.Need-returns
 returns c =
-    let a = c .before .before .before .before .before .before .before .before .before .before .before in
+    let a = c .before .before .before .before .before .before .before .before .before .before .before .before in
     turned-passed (shapeOfSizes (a .args .s)) (rings-torus (a .args .s) (inRange-rings (a .args .s) (a .pre .0 .in-range))) (now (a .args .words)) (now (a .args .ready))
-    (a .pre .0) (a .pre .1 .0) (a .args .room) (a .args .n) (a .args .q) (a .args .o) (c .before .before .before .before .before .before .make-move .last .0) (c .before .before .mark .last .0) (a .pre .1 .1)
+    (a .pre .0) (a .pre .1 .1 .0) (a .args .room) (a .args .n) (a .args .q) (a .args .o) (c .before .before .before .before .before .before .make-move .last .0) (c .before .before .mark .last .0) (a .pre .1 .1 .1)
     (c .before .before .mark .ensures) (c .before .before .before .before .before .before .make-move .ensures .0) (c .before .before .before .before .before .before .before .before .if1 .taken)
 
--- src/turns.rt:126:9
+-- src/lib.rt:126:9
 returns-2 : tie.Need-returns-2
 returns-2 c =
-    let a = c .before .before .before .before in
+    let a = c .before .before .before .before .before in
     turned-full (shapeOfSizes (a .args .s)) (rings-torus (a .args .s) (inRange-rings (a .args .s) (a .pre .0 .in-range))) (now (a .args .words)) (now (a .args .ready))
-    (a .pre .0) (a .pre .1 .0) (a .args .room) (a .args .n) (a .args .q) (a .args .o) (c .before .if1 .left) (c .if2 .taken)
+    (a .pre .0) (a .pre .1 .1 .0) (a .args .room) (a .args .n) (a .args .q) (a .args .o) (c .before .if1 .left) (c .if2 .taken)
 
--- src/turns.rt:128:9
+-- src/lib.rt:128:9
 make-move-requires-2 : tie.Need-make-move-requires-2
 make-move-requires-2 c κs = search needs
 
--- src/turns.rt:129:5
+-- src/lib.rt:129:5
 mark-requires-2 : tie.Need-mark-requires-2
 mark-requires-2 c κs =
-    let a = c .before .before .before .before .before .before .before .before .before in
-    (a .pre .1 .0 .set-of, (inRange-rings (a .args .s) (a .pre .0 .in-range), a .pre .1 .1 .node))
+    let a = c .before .before .before .before .before .before .before .before .before .before in
+    (a .pre .1 .1 .0 .set-of, ((inRange-rings (a .args .s) (a .pre .0 .in-range), a .pre .1 .1 .1 .node, a .pre .1 .1 .1 .queue, a .pre .1 .1 .1 .output), a .pre .1 .0))
 
--- src/turns.rt:104:1
+-- src/lib.rt:104:1
 same-length-3 : tie.Need-same-length-3
 same-length-3 c = search needs
 
--- src/turns.rt:104:1
+-- src/lib.rt:104:1
 same-length-4 : tie.Need-same-length-4
 same-length-4 c = search needs
 
--- src/turns.rt:104:1
+-- src/lib.rt:104:1
 returns-3 : tie.Need-returns-3
 returns-3 c =
-    let a = c .before .before .before .before .before .before .before .before .before .before .before .before in
+    let a = c .before .before .before .before .before .before .before .before .before .before .before .before .before in
     turned-delivered (shapeOfSizes (a .args .s)) (rings-torus (a .args .s) (inRange-rings (a .args .s) (a .pre .0 .in-range))) (now (a .args .words)) (now (a .args .ready))
-    (a .pre .0) (a .pre .1 .0) (a .args .room) (a .args .n) (a .args .q) (a .args .o) (c .before .before .before .before .before .before .make-move2 .result) (c .before .before .before .before .before .before .make-move2 .last .0) (c .before .before .mark2 .last .0)
-    (a .pre .1 .1) (c .before .before .mark2 .ensures) (c .before .before .before .before .before .before .make-move2 .ensures .0) (c .before .before .before .before .before .before .before .before .before .if1 .left) (c .before .before .before .before .before .before .before .before .if2 .left) (c .before .before .before .before .before .before .make-move2 .ensures .1)
+    (a .pre .0) (a .pre .1 .1 .0) (a .args .room) (a .args .n) (a .args .q) (a .args .o) (c .before .before .before .before .before .before .make-move2 .result) (c .before .before .before .before .before .before .make-move2 .last .0) (c .before .before .mark2 .last .0)
+    (a .pre .1 .1 .1) (c .before .before .mark2 .ensures) (c .before .before .before .before .before .before .make-move2 .ensures .0) (c .before .before .before .before .before .before .before .before .before .if1 .left) (c .before .before .before .before .before .before .before .before .if2 .left) (c .before .before .before .before .before .before .make-move2 .ensures .1)
 
 pub turn-by-move-spec : {M : Type 1} → statement M
 turn-by-move-spec =

@@ -1,7 +1,7 @@
 -- `checker::packets::between` meets its contract, test by test. Assumes nothing.
 use borrow.Author.Needs.{needs}
 use native.Mathlib.Omega.{arith}
-use Rattle.checker.proofs.Offsets.{too-far, none-back, last-test}
+use Rattle.checker.proofs.Offsets.{too-far, none-back, one-test}
 use Rattle.checker.proofs.packets.between.Statement.{statement}
 use Rattle.checker.proofs.packets.between.Tie as tie
 
@@ -15,21 +15,22 @@ returns-2 c =
     let a = c .before .before .args in
     λ f b way e. none-back (a .forward) (a .back) (a .above) f b (omega arith)
 
-add-if3 : tie.Need-add-if3
-add-if3 c = search needs
-
-returns-3 : tie.Need-returns-3
-returns-3 c =
-    let a = c .before .before .before .args in
-    λ f b way e. too-far (a .forward) (a .back) (a .above) f b (omega arith)
-
 add-result : tie.Need-add-result
 add-result c = search needs
 
-returns-4 : tie.Need-returns-4
-returns-4 c =
-    let a = c .before .before .before .args in
-    λ f b way e. last-test (a .forward) (a .back) (a .above) f b (omega arith) (omega arith) (omega arith) way e
+add-result-2 : tie.Need-add-result-2
+add-result-2 c = search needs
+
+add-result-3 : tie.Need-add-result-3
+add-result-3 c = search needs
+
+sub-result : tie.Need-sub-result
+sub-result c = search needs
+
+returns-3 : tie.Need-returns-3
+returns-3 c =
+    let a = c .before .before .args in
+    λ f b way e. one-test (a .forward) (a .back) (a .above) f b (omega arith) (omega arith) (omega arith) (omega arith) (omega arith) way e
 
 pub between-spec : {M : Type 1} → statement M
-between-spec = tie.close (tie.spec returns returns-2 add-if3 returns-3 add-result returns-4)
+between-spec = tie.close (tie.spec returns returns-2 add-result add-result-2 add-result-3 sub-result returns-3)

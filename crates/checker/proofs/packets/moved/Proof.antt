@@ -1,7 +1,7 @@
 -- `checker::packets::moved` meets its contract. Assumes nothing.
 use borrow.Author.Needs.{needs}
 use native.Mathlib.Omega.{arith}
-use Rattle.checker.proofs.Offsets.{moved-above}
+use Rattle.checker.proofs.Tables.{moved-read}
 use Rattle.checker.proofs.packets.moved.Statement.{statement}
 use Rattle.checker.proofs.packets.moved.Tie as tie
 
@@ -14,11 +14,16 @@ add-result-2 c = search needs
 sub-result : tie.Need-sub-result
 sub-result c = search needs
 
-rem-result : tie.Need-rem-result
-rem-result c = search needs
+mul-result : tie.Need-mul-result
+mul-result c = search needs
+
+shared-slice-read-result : tie.Need-shared-slice-read-result
+shared-slice-read-result c = search needs
 
 returns : tie.Need-returns
-returns c = λ f b l e. moved-above (c .args .c) (c .args .k) (c .args .above) f b (omega arith) l e (omega arith)
+returns c =
+    let a = c .before .args in
+    λ f b w table l e. moved-read (a .ring .now) (a .c) (a .k) (a .above) f b w (omega arith) (omega arith) (omega arith) table l e
 
 pub moved-spec : {M : Type 1} → statement M
-moved-spec = tie.close (tie.spec add-result add-result-2 sub-result rem-result returns)
+moved-spec = tie.close (tie.spec add-result add-result-2 sub-result mul-result shared-slice-read-result returns)

@@ -19,7 +19,10 @@ returns : tie.Need-returns
 unfolding fitsWithin
 returns c = sym (and-stop _ _ (sym (c .before .below-limits .ensures) ∙ not-true _ (c .if1 .taken)))
 
-below : (c : tie.Else1) → belowLimits (c .before .before .args .l) (c .before .before .args .p) ≡ true
+abbrev start : tie.Else1 → tie.Start
+start c = c .before .before .before .before
+
+below : (c : tie.Else1) → belowLimits (start c .args .l) (start c .args .p) ≡ true
 below c = sym (c .before .below-limits .ensures) ∙ not-false _ (c .if1 .left)
 
 destination-requires : tie.Need-destination-requires
@@ -27,7 +30,8 @@ destination-requires c κs = search needs
 
 led-to-requires : tie.Need-led-to-requires
 led-to-requires c κs =
-    (c .before .before .before .pre .0, no-round _ _ _ (c .before .before .before .pre .1) (true-T _ (below (c .before))))
+    let st = start (c .before) in
+    (st .pre .0, no-round _ _ _ (st .pre .1) (true-T _ (below (c .before))), st .pre .2)
 
 returns-2 : tie.Need-returns-2
 unfolding fitsWithin

@@ -9,28 +9,30 @@ use lib.ListN.{length}
 use Rattle.base.specs.Parts.{span}
 use Rattle.network.specs.Sizes.{Shape, nodes, capacity}
 use Rattle.network.specs.Layout.{queuePart}
-use Rattle.packet.specs.Geometry.{shapeOfSizes}
-use Rattle.checker.specs.Limits.{nodeAt}
+use Rattle.packet.specs.GeometryLaws.{node-lt}
+use Rattle.packet.specs.Geometry.{shapeOfSizes, nodeAt}
 use Rattle.checker.specs.declared.queues.Tally.{Tally}
 use Rattle.checker.specs.Tally.{tally}
-use Rattle.checker.proofs.Nodes.{node-lt}
 use Rattle.checker.proofs.Walks.{NodeWalk, node-start, node-end, node-part, node-tally, node-more, node-small, node-stop, node-done, part-length, part-small, part-end, fits, holds, works}
 use Rattle.checker.proofs.queues.node_fits.Statement.{statement}
 use Rattle.checker.proofs.queues.node_fits.Tie as tie
 
 abbrev Inv-loop : tie.InvT-loop
-Inv-loop words s x y start held₀ work₀ at₀ q₀ held work at q = NodeWalk (shapeOfSizes s) words (nodeAt s x y) q at held work
+Inv-loop words columns rows s x y start held₀ work₀ at₀ q₀ held work at q = NodeWalk (shapeOfSizes s) words (nodeAt s x y) q at held work
 
 abbrev μ-loop : tie.MeasureT-loop
-μ-loop words s x y start held₀ work₀ at₀ q₀ held work at q = 9 - q
+μ-loop words columns rows s x y start held₀ work₀ at₀ q₀ held work at q = 9 - q
 
 loop-holds : tie.Need-loop-holds Inv-loop μ-loop
-loop-holds c = node-start _ _ _ _ (c .before .pre .2)
+loop-holds c = node-start _ _ _ _ (c .before .before .before .pre .2)
 
 capacity-requires : tie.Need-capacity-requires Inv-loop μ-loop
 capacity-requires c κs = search needs
 
--- the sizes, the words and the node, and what is known of queue q
+-- where the function starts, the sizes, the words and the node, and what is known of queue q
+abbrev start : tie.At-loop Inv-loop μ-loop → tie.Start Inv-loop μ-loop
+start c = c .before .before .before .before
+
 abbrev S : tie.Start Inv-loop μ-loop → Shape
 S st = shapeOfSizes (st .args .s)
 
@@ -51,13 +53,13 @@ is-node : (st : tie.Start Inv-loop μ-loop) → n st < nodes (S st)
 is-node st = node-lt (st .args .s) (st .args .x) (st .args .y) (st .pre .0)
 
 -- its capacity
-slots : (c : tie.After-capacity Inv-loop μ-loop) → c .capacity .result ≡ capacity (S (c .before .before .before .before)) (c .before .before .loop .q)
-slots c = c .capacity .ensures (c .before .before .before .before .args .s .x) (c .before .before .before .before .args .s .y)
+slots : (c : tie.After-capacity Inv-loop μ-loop) → c .capacity .result ≡ capacity (S (start (c .before .before))) (c .before .before .loop .q)
+slots c = c .capacity .ensures (start (c .before .before) .args .s .x) (start (c .before .before) .args .s .y)
 
 -- its words end among the words
-ends : (c : tie.After-capacity Inv-loop μ-loop) → c .before .before .loop .at + c .capacity .result + 1 ≤ length (w (c .before .before .before .before))
+ends : (c : tie.After-capacity Inv-loop μ-loop) → c .before .before .loop .at + c .capacity .result + 1 ≤ length (w (start (c .before .before)))
 ends c =
-    let st = c .before .before .before .before in
+    let st = start (c .before .before) in
     let e = node-end (S st) (w st) (n st) _ _ _ _ (c .capacity .result) (c .before .before .loop .inv) (slots c) in
     let l = part-end (S st) (w st) (st .pre .1) (n st) (is-node st) (c .before .before .loop .q) (c .before .loop-test .taken) in
     omega arith
@@ -81,23 +83,24 @@ part-queue-fits-end : tie.Need-part-queue-fits-end Inv-loop μ-loop
 part-queue-fits-end c = omega (arith, ends c)
 
 part : (c : tie.After-capacity Inv-loop μ-loop)
-    → Part (c .before .before .before .before) (c .before .before .loop .q) (c .before .before .loop .at) (c .before .before .loop .at + c .capacity .result + 1)
+    → Part (start (c .before .before)) (c .before .before .loop .q) (c .before .before .loop .at) (c .before .before .loop .at + c .capacity .result + 1)
 part c = node-part _ _ _ _ _ _ _ (c .capacity .result) (c .before .before .loop .inv) (slots c)
 
 queue-fits-requires : tie.Need-queue-fits-requires Inv-loop μ-loop
 queue-fits-requires c κs =
-    let st = c .before .before .before .before .before in
+    let st = start (c .before .before .before) in
     let q = c .before .before .before .loop .q in
     let h = c .before .before .loop-test .taken in (
       st .pre .0,
       ap length (part (c .before)) ∙ part-length (S st) (w st) (st .pre .1) (n st) (is-node st) q h,
       subst (λ (l : List ℕ). length l ≤ 9) (sym (part (c .before))) (part-small (S st) (w st) (st .pre .1) (n st) (is-node st) q h),
+      st .pre .3,
     )
 
 unfit-requires : tie.Need-unfit-requires Inv-loop μ-loop
 unfit-requires c κs = search needs
 
-found : (c : tie.After-queue-fits Inv-loop μ-loop) → Found (c .before .before .before .before .before .before) (c .before .before .before .before .loop .q) (c .queue-fits .result)
+found : (c : tie.After-queue-fits Inv-loop μ-loop) → Found (start (c .before .before .before .before)) (c .before .before .before .before .loop .q) (c .queue-fits .result)
 found c = node-tally _ _ _ _ _ _ (part (c .before .before)) (c .queue-fits .ensures)
 
 returns : tie.Need-returns Inv-loop μ-loop
@@ -107,7 +110,7 @@ returns c =
 -- the walk goes on, and its sums are small
 module _ (c : tie.Else1 Inv-loop μ-loop) where
   st : tie.Start Inv-loop μ-loop
-  st = c .before .before .before .before .before .before .before .before
+  st = start (c .before .before .before .before .before .before)
 
   next : NodeWalk (S st) (w st) (n st) (c .before .before .before .before .before .before .loop .q + 1)
       (c .before .before .before .before .before .before .loop .at + c .before .before .before .before .capacity .result + 1)

@@ -10,19 +10,22 @@ use native.Mathlib.Omega.{arith}
 use lib.ListN.{getD}
 use Rattle.network.specs.Packet.{work}
 use Rattle.network.specs.Layout.{countOf, packetsOf}
-use Rattle.packet.specs.Geometry.{shapeOfSizes}
-use Rattle.checker.specs.Limits.{nodeAt, fitsWithin}
+use Rattle.packet.specs.Geometry.{shapeOfSizes, nodeAt}
+use Rattle.checker.specs.Limits.{fitsWithin}
 use Rattle.checker.proofs.Tallies.{tally-fails, Left, left-start, packets-stop, packets-more, packets-small, packets-end}
 use Rattle.checker.proofs.queues.packets_fit.Statement.{statement}
 use Rattle.checker.proofs.queues.packets_fit.Tie as tie
 
 abbrev Inv-loop : tie.InvT-loop
-Inv-loop part s x y l count sum₀ i₀ sum i = Left (fitsWithin (shapeOfSizes s) (nodeAt s x y) l) work (packetsOf part) i sum × (i ≤ count)
+Inv-loop part columns rows s x y l count sum₀ i₀ sum i = Left (fitsWithin (shapeOfSizes s) (nodeAt s x y) l) work (packetsOf part) i sum × (i ≤ count)
 
 abbrev μ-loop : tie.MeasureT-loop
-μ-loop part s x y l count sum₀ i₀ sum i = count - i
+μ-loop part columns rows s x y l count sum₀ i₀ sum i = count - i
 
--- the queue's words, and the test of a packet
+-- where the function starts, the queue's words, and the test of a packet
+abbrev start : tie.At-loop Inv-loop μ-loop → tie.Start Inv-loop μ-loop
+start c = c .before .before .before .before .before
+
 abbrev part : tie.Start Inv-loop μ-loop → List ℕ
 part st = st .args .part .now
 
@@ -56,18 +59,18 @@ unfit-requires c κs = search needs
 
 -- the packet has failed, or passed
 abbrev word : tie.After-packet-fits Inv-loop μ-loop → ℕ
-word c = getD (part (c .before .before .before .before .before .before)) (c .before .before .before .loop .i + 1) 0
+word c = getD (part (start (c .before .before .before))) (c .before .before .before .loop .i + 1) 0
 
-failed : (c : tie.Then1 Inv-loop μ-loop) → test (c .before .before .before .before .before .before .before) (word (c .before)) ≡ false
+failed : (c : tie.Then1 Inv-loop μ-loop) → test (start (c .before .before .before .before)) (word (c .before)) ≡ false
 failed c = sym (c .before .packet-fits .ensures) ∙ not-true _ (c .if1 .taken)
 
-passed : (c : tie.Else1 Inv-loop μ-loop) → test (c .before .before .before .before .before .before .before) (word (c .before)) ≡ true
+passed : (c : tie.Else1 Inv-loop μ-loop) → test (start (c .before .before .before .before)) (word (c .before)) ≡ true
 passed c = sym (c .before .packet-fits .ensures) ∙ not-false _ (c .if1 .left)
 
 returns : tie.Need-returns Inv-loop μ-loop
 unfolding countOf
 returns c =
-    let st = c .before .before .before .before .before .before .before .before in
+    let st = start (c .before .before .before .before .before) in
     tally-fails _ _ _ _ (c .unfit .ensures)
     (packets-stop (test st) (part st) (st .pre .2) _ _ (c .before .before .before .before .before .loop .inv .0) (c .before .before .before .before .loop-test .taken)
     (failed (c .before)))
@@ -78,7 +81,7 @@ work-requires c κs = search needs
 add-work : tie.Need-add-work Inv-loop μ-loop
 unfolding countOf
 add-work c =
-    let st = c .before .before .before .before .before .before .before .before in
+    let st = start (c .before .before .before .before .before) in
     let l = packets-small (test st) (part st) (st .pre .2) _ _ (c .work .result) (c .before .before .before .before .before .loop .inv .0)
     (c .before .before .before .before .loop-test .taken) (c .work .ensures) (st .pre .3) in
     omega arith
@@ -94,7 +97,7 @@ loop-less c = omega arith
 loop-again : tie.Need-loop-again Inv-loop μ-loop
 unfolding countOf
 loop-again c =
-    let st = c .before .before .before .before .before .before .before .before in (
+    let st = start (c .before .before .before .before .before) in (
       packets-more (test st) (part st) (st .pre .2) _ _ (c .work .result) (c .before .before .before .before .before .loop .inv .0)
           (c .before .before .before .before .loop-test .taken) (passed (c .before)) (c .work .ensures),
       omega arith,
@@ -103,7 +106,7 @@ loop-again c =
 returns-2 : tie.Need-returns-2 Inv-loop μ-loop
 unfolding countOf
 returns-2 c =
-    let st = c .before .before .before .before in
+    let st = start (c .before) in
     packets-end (test st) (part st) (st .pre .2) _ _ _ (c .before .loop .inv .0) refl (c .loop-test .left)
 
 pub packets-fit-spec : {M : Type 1} → statement M

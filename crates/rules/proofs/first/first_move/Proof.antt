@@ -9,17 +9,18 @@ use borrow.Author.Needs.{needs}
 use lib.ListN.{length}
 use Rattle.network.specs.declared.Found.{Found}
 use Rattle.network.specs.Sizes.{nodes, queues}
+use Rattle.network.specs.Layout.{accepted, delivered}
 use Rattle.network.specs.Calls.{firstInQueue, firstMove}
 use Rattle.packet.specs.Geometry.{shapeOfSizes}
 use Rattle.packet.specs.GeometryLaws.{inRange-rings, rings-nodes}
 use Rattle.rules.specs.Rules.{QueueOf}
-use Rattle.rules.proofs.Places.{inside-at, end-at}
-use Rattle.rules.proofs.Searching.{Reading, AtRoute, AtQueue, AtNode, found-from-first, output-lt, route-on, route-found, route-none, queue-none, queues-begin, queue-next, queue-found, nodes-begin, node-next, node-found, nodes-none}
+use Rattle.rules.proofs.Places.{header, inside-at, end-at}
+use Rattle.rules.proofs.Searching.{Reading, AtRoute, AtQueue, AtNode, found-from-first, output-lt, route-on, route-found, route-none, queue-none, queues-begin, queue-next, queue-found, nodes-begin, node-next, node-found, nodes-none, nothing-held}
 use Rattle.rules.proofs.first.first_move.Statement.{statement}
 use Rattle.rules.proofs.first.first_move.Tie as tie
 
 abbrev Inv-loop2 : tie.InvT-loop2
-Inv-loop2 words s found₀ node₀ queue₀ output₀ start total n q outputs count k₀ found node queue output k = AtRoute s words n q count found k
+Inv-loop2 words s found₀ node₀ queue₀ output₀ start total n q outputs count k₀ found node queue output k = (found ≡ false) × AtRoute s words n q count k
 
 abbrev μ-loop2 : tie.MeasureT-loop2
 μ-loop2 words s found₀ node₀ queue₀ output₀ start total n q outputs count k₀ found node queue output k = count - k
@@ -38,27 +39,53 @@ abbrev μ-search : tie.MeasureT-search
 
 -- What is known in a turn -------------------------------------------------------------------------------------------------------------
 
-node-lt : (c : tie.In-search Inv-loop2 μ-loop2 Inv-loop μ-loop Inv-search μ-search) → c .before .search .n < nodes (shapeOfSizes (c .before .before .before .before .args .s))
+-- before the first test
+abbrev entry : tie.At-search Inv-loop2 μ-loop2 Inv-loop μ-loop Inv-search μ-search → tie.Start Inv-loop2 μ-loop2 Inv-loop μ-loop Inv-search μ-search
+entry c = c .before .before .before .before .before .before
+
+node-lt : (c : tie.In-search Inv-loop2 μ-loop2 Inv-loop μ-loop Inv-search μ-search) → c .before .search .n < nodes (shapeOfSizes (entry (c .before) .args .s))
 node-lt c = let e = c .before .before .nodes .ensures in omega (arith, e, c .search-test .taken)
 
 queue-of : (c : tie.In-loop Inv-loop2 μ-loop2 Inv-loop μ-loop Inv-search μ-search)
-    → QueueOf (c .before .before .before .before .before .before .args .s) (c .before .before .before .before .before .before .args .words .now) (c .before .before .before .search .n) (c .before .loop .q)
-queue-of c = record { network = c .before .before .before .before .before .before .pre; node = node-lt (c .before .before); queue = c .loop-test .taken }
+    → QueueOf (entry (c .before .before .before) .args .s) (entry (c .before .before .before) .args .words .now) (c .before .before .before .search .n) (c .before .loop .q)
+queue-of c = record { network = entry (c .before .before .before) .pre; node = node-lt (c .before .before); queue = c .loop-test .taken }
 
 reading : (c : tie.After-routes Inv-loop2 μ-loop2 Inv-loop μ-loop Inv-search μ-search)
-    → Reading (c .before .before .before .before .before .before .before .before .before .before .args .s) (c .before .before .before .before .before .before .before .before .before .before .args .words .now) (c .before .before .before .before .before .before .before .search .n) (c .before .before .before .before .before .loop .q) (c .before .before .before .before .before .loop .start) (c .routes .result)
+    → Reading (entry (c .before .before .before .before .before .before .before) .args .s) (entry (c .before .before .before .before .before .before .before) .args .words .now) (c .before .before .before .before .before .before .before .search .n) (c .before .before .before .before .before .loop .q) (c .before .before .before .before .before .loop .start) (c .routes .result)
 reading c =
     let f = c .before .before .before .before in
-    record { queue = queue-of f; at = f .before .loop .inv .place; some = c .before .before .if1 .taken; are = c .routes .ensures }
+    record { queue = queue-of f; at = f .before .loop .inv .place; some = c .before .before .if2 .taken; are = c .routes .ensures }
 
 -- the two words of the queue are among those lent
-two-words : (c : tie.In-loop Inv-loop2 μ-loop2 Inv-loop μ-loop Inv-search μ-search) → c .before .loop .start + 1 < length (c .before .before .before .before .before .before .args .words .now)
+two-words : (c : tie.In-loop Inv-loop2 μ-loop2 Inv-loop μ-loop Inv-search μ-search) → c .before .loop .start + 1 < length (entry (c .before .before .before) .args .words .now)
 two-words c =
-    let a = c .before .before .before .before .before .before .args in
+    let a = entry (c .before .before .before) .args in
     inside-at (a .s) (a .words .now) (c .before .before .before .search .n) (c .before .loop .q) (queue-of c) (c .before .loop .start) (c .before .loop .inv .place)
 
+-- Nothing held ------------------------------------------------------------------------------------------------------------------------
+
+shared-slice-read-if1 : tie.Need-shared-slice-read-if1 Inv-loop2 μ-loop2 Inv-loop μ-loop Inv-search μ-search
+shared-slice-read-if1 c =
+    let f = c .before .before in
+    let l = header (shapeOfSizes (f .args .s)) (f .args .words .now) (f .pre) in
+    omega arith
+
+shared-slice-read-if1-2 : tie.Need-shared-slice-read-if1-2 Inv-loop2 μ-loop2 Inv-loop μ-loop Inv-search μ-search
+shared-slice-read-if1-2 c =
+    let f = c .before .before .before in
+    let l = header (shapeOfSizes (f .args .s)) (f .args .words .now) (f .pre) in
+    omega arith
+
+returns : tie.Need-returns Inv-loop2 μ-loop2 Inv-loop μ-loop Inv-search μ-search
+unfolding accepted delivered
+returns c =
+    let f = c .before .before .before .before in
+    sym (nothing-held (shapeOfSizes (f .args .s)) (f .args .words .now) (f .pre) (c .if1 .taken))
+
+-- The search begins -------------------------------------------------------------------------------------------------------------------
+
 nodes-requires : tie.Need-nodes-requires Inv-loop2 μ-loop2 Inv-loop μ-loop Inv-search μ-search
-nodes-requires c κs = let f = c .before in inRange-rings (f .args .s) (f .pre .in-range)
+nodes-requires c κs = let f = c .before .before .before .before in inRange-rings (f .args .s) (f .pre .in-range)
 
 search-holds : tie.Need-search-holds Inv-loop2 μ-loop2 Inv-loop μ-loop Inv-search μ-search
 search-holds c = nodes-begin
@@ -66,17 +93,17 @@ search-holds c = nodes-begin
 loop-holds : tie.Need-loop-holds Inv-loop2 μ-loop2 Inv-loop μ-loop Inv-search μ-search
 loop-holds c = let i = c .before .search .inv in queues-begin (i .nothing) (i .place)
 
-mul-if1 : tie.Need-mul-if1 Inv-loop2 μ-loop2 Inv-loop μ-loop Inv-search μ-search
-mul-if1 c = omega (arith, two-words c, c .before .before .before .before .before .before .good)
+mul-if2 : tie.Need-mul-if2 Inv-loop2 μ-loop2 Inv-loop μ-loop Inv-search μ-search
+mul-if2 c = omega (arith, two-words c, entry (c .before .before .before) .good)
 
-shared-slice-read-if1 : tie.Need-shared-slice-read-if1 Inv-loop2 μ-loop2 Inv-loop μ-loop Inv-search μ-search
-shared-slice-read-if1 c = omega (arith, two-words (c .before))
+shared-slice-read-if2 : tie.Need-shared-slice-read-if2 Inv-loop2 μ-loop2 Inv-loop μ-loop Inv-search μ-search
+shared-slice-read-if2 c = omega (arith, two-words (c .before))
 
 add-routes : tie.Need-add-routes Inv-loop2 μ-loop2 Inv-loop μ-loop Inv-search μ-search
-add-routes c = let f = c .before .before in omega (arith, two-words f, f .before .before .before .before .before .before .good)
+add-routes c = let f = c .before .before in omega (arith, two-words f, entry (f .before .before .before) .good)
 
 mul-routes : tie.Need-mul-routes Inv-loop2 μ-loop2 Inv-loop μ-loop Inv-search μ-search
-mul-routes c = let f = c .before .before in omega (arith, two-words f, f .before .before .before .before .before .before .good)
+mul-routes c = let f = c .before .before in omega (arith, two-words f, entry (f .before .before .before) .good)
 
 shared-slice-read-routes : tie.Need-shared-slice-read-routes Inv-loop2 μ-loop2 Inv-loop μ-loop Inv-search μ-search
 shared-slice-read-routes c = two-words (c .before .before .before)
@@ -89,12 +116,10 @@ routes-requires c κs = search needs
 loop2-holds : tie.Need-loop2-holds Inv-loop2 μ-loop2 Inv-loop μ-loop Inv-search μ-search
 loop2-holds c =
     let f = c .before .before .before .before .before in
-    let a = f .before .before .before .before .before .before .args in
-    record {
-      nothing = f .before .loop .inv .nothing;
-      within = omega arith;
-      left = found-from-first (a .s) (a .words .now) (f .before .before .before .search .n) (f .before .loop .q);
-    }
+    let a = entry (f .before .before .before) .args in (
+      f .before .loop .inv .nothing,
+      record { within = omega arith; left = found-from-first (a .s) (a .words .now) (f .before .before .before .search .n) (f .before .loop .q) },
+    )
 
 mul-o : tie.Need-mul-o Inv-loop2 μ-loop2 Inv-loop μ-loop Inv-search μ-search
 mul-o c = omega (arith, c .loop2-test .taken, c .before .before .before .routes .ensures .few)
@@ -118,49 +143,50 @@ loop2-less c = omega (arith, c .before .before .loop2-test .taken)
 loop2-again : tie.Need-loop2-again Inv-loop2 μ-loop2 Inv-loop μ-loop Inv-search μ-search
 loop2-again c =
     let f = c .before .before in
-    let i = f .before .loop2 in
-    record {
-      nothing = i .inv .nothing;
-      within = omega (arith, f .loop2-test .taken);
-      left = route-on (reading (f .before .before .before)) (i .k) (f .loop2-test .taken) (λ z. c .if2 .left (c .before .flow-rules .ensures ∙ z)) (i .inv .left);
-    }
+    let i = f .before .loop2 in (
+      i .inv .0,
+      record {
+        within = omega (arith, f .loop2-test .taken);
+        left = route-on (reading (f .before .before .before)) (i .k) (f .loop2-test .taken) (λ z. c .if3 .left (c .before .flow-rules .ensures ∙ z)) (i .inv .1 .left);
+      },
+    )
 
 -- A node's queues ---------------------------------------------------------------------------------------------------------------------
 
-nothing-in-queue : (c : tie.Joined1 Inv-loop2 μ-loop2 Inv-loop μ-loop Inv-search μ-search)
-    → (c .if1 .found ≡ false)
-    × (firstInQueue (shapeOfSizes (c .before .before .before .before .before .before .before .before .args .s)) (c .before .before .before .before .before .before .before .before .args .words .now) (c .before .before .before .before .before .search .n) (c .before .before .before .loop .q) ≡ Found.Nothing)
+nothing-in-queue : (c : tie.Joined2 Inv-loop2 μ-loop2 Inv-loop μ-loop Inv-search μ-search)
+    → (c .if2 .found ≡ false)
+    × (firstInQueue (shapeOfSizes (entry (c .before .before .before .before .before) .args .s)) (entry (c .before .before .before .before .before) .args .words .now) (c .before .before .before .before .before .search .n) (c .before .before .before .loop .q) ≡ Found.Nothing)
 nothing-in-queue c =
     let f = c .before .before in
-    let a = f .before .before .before .before .before .before .args in
+    let a = entry (f .before .before .before) .args in
     ⊎-elim
     (λ v. (
-      v .6 ∙ v .4 .inv .nothing,
+      v .6 ∙ v .4 .inv .0,
       route-none
-          (reading (record { before = record { before = record { before = c .before; if1 = v .0 }; shared-slice-known3 = v .1 }; routes = v .2 }))
-          (v .4 .k) (v .4 .inv .within) (v .5 .left) (v .4 .inv .left),
+          (reading (record { before = record { before = record { before = c .before; if2 = v .0 }; shared-slice-known5 = v .1 }; routes = v .2 }))
+          (v .4 .k) (v .4 .inv .1 .within) (v .5 .left) (v .4 .inv .1 .left),
     ))
     (λ v. (
       v .1 ∙ f .before .loop .inv .nothing,
       queue-none (a .s) (a .words .now) (f .before .before .before .search .n) (f .before .loop .q) (f .before .loop .start) (queue-of f) (f .before .loop .inv .place) (v .0 .left),
     ))
-    (c .if1 .came)
+    (c .if2 .came)
 
 -- where the next queue's words start is among the words too, or just behind them
-next-start : (c : tie.After-capacity Inv-loop2 μ-loop2 Inv-loop μ-loop Inv-search μ-search) → c .before .before .before .before .loop .start + (1 + c .capacity .result) ≤ length (c .before .before .before .before .before .before .before .before .before .args .words .now)
+next-start : (c : tie.After-capacity Inv-loop2 μ-loop2 Inv-loop μ-loop Inv-search μ-search) → c .before .before .before .before .loop .start + (1 + c .capacity .result) ≤ length (entry (c .before .before .before .before .before .before) .args .words .now)
 next-start c =
     let f = c .before .before .before in
-    let a = f .before .before .before .before .before .before .args in
+    let a = entry (f .before .before .before) .args in
     end-at (a .s) (a .words .now) (f .before .before .before .search .n) (f .before .loop .q) (queue-of f) (f .before .loop .start) (c .capacity .result) (f .before .loop .inv .place) (c .capacity .ensures (a .s .x) (a .s .y))
 
 capacity-requires : tie.Need-capacity-requires Inv-loop2 μ-loop2 Inv-loop μ-loop Inv-search μ-search
 capacity-requires c κs = search needs
 
 add-start : tie.Need-add-start Inv-loop2 μ-loop2 Inv-loop μ-loop Inv-search μ-search
-add-start c = omega (arith, next-start c, c .before .before .before .before .before .before .before .before .before .good)
+add-start c = omega (arith, next-start c, entry (c .before .before .before .before .before .before) .good)
 
 add-start-2 : tie.Need-add-start-2 Inv-loop2 μ-loop2 Inv-loop μ-loop Inv-search μ-search
-add-start-2 c = omega (arith, next-start c, c .before .before .before .before .before .before .before .before .before .good)
+add-start-2 c = omega (arith, next-start c, entry (c .before .before .before .before .before .before) .good)
 
 add-q : tie.Need-add-q Inv-loop2 μ-loop2 Inv-loop μ-loop Inv-search μ-search
 add-q c = omega (arith, c .before .before .before .loop-test .taken)
@@ -171,7 +197,7 @@ loop-less c = omega (arith, c .before .before .before .loop-test .taken)
 loop-again : tie.Need-loop-again Inv-loop2 μ-loop2 Inv-loop μ-loop Inv-search μ-search
 loop-again c =
     let f = c .before .before .before in
-    let a = f .before .before .before .before .before .before .args in
+    let a = entry (f .before .before .before) .args in
     let none = nothing-in-queue (c .before) in
     queue-next (f .before .loop .inv) (none .0) (f .loop-test .taken) (c .capacity .ensures (a .s .x) (a .s .y)) (none .1)
 
@@ -180,9 +206,9 @@ loop-again c =
 add-n : tie.Need-add-n Inv-loop2 μ-loop2 Inv-loop μ-loop Inv-search μ-search
 add-n c =
     let f = c .before .before in
-    let s = f .before .before .before .before .args .s in
+    let s = entry (f .before) .args .s in
     let l = node-lt f in
-    let m = rings-nodes s (inRange-rings s (f .before .before .before .before .pre .in-range)) in
+    let m = rings-nodes s (inRange-rings s (entry (f .before) .pre .in-range)) in
     omega (arith, l, m)
 
 search-less : tie.Need-search-less Inv-loop2 μ-loop2 Inv-loop μ-loop Inv-search μ-search
@@ -196,9 +222,9 @@ search-again c =
 -- The two answers ---------------------------------------------------------------------------------------------------------------------
 
 outcome : (c : tie.Left-search Inv-loop2 μ-loop2 Inv-loop μ-loop Inv-search μ-search)
-    → ((c .search-test .found ≡ false) × (firstMove (shapeOfSizes (c .before .before .before .before .args .s)) (c .before .before .before .before .args .words .now) ≡ Found.Nothing))
+    → ((c .search-test .found ≡ false) × (firstMove (shapeOfSizes (entry (c .before) .args .s)) (entry (c .before) .args .words .now) ≡ Found.Nothing))
     ⊎ ((c .search-test .found ≡ true)
-    × (firstMove (shapeOfSizes (c .before .before .before .before .args .s)) (c .before .before .before .before .args .words .now) ≡ Found.Move (c .search-test .node) (c .search-test .queue) (c .search-test .output)))
+    × (firstMove (shapeOfSizes (entry (c .before) .args .s)) (entry (c .before) .args .words .now) ≡ Found.Move (c .search-test .node) (c .search-test .queue) (c .search-test .output)))
 outcome c =
     let i = c .before .search .inv in
     let e = c .before .before .nodes .ensures in
@@ -219,15 +245,15 @@ outcome c =
                         before =
                             record {
                               before = record { before = record { before = record { before = c .before; search-test = v .0 }; loop = v .1 }; loop-test = v .2 };
-                              shared-slice-known2 = v .3;
+                              shared-slice-known4 = v .3;
                             };
-                        if1 = v .4;
+                        if2 = v .4;
                       };
-                  shared-slice-known3 = v .5;
+                  shared-slice-known5 = v .5;
                 };
             routes = v .6;
           }))
-          (v .8 .k) (v .9 .taken) (sym (v .10 .ensures) ∙ v .11 .taken) (v .8 .inv .left)))
+          (v .8 .k) (v .9 .taken) (sym (v .10 .ensures) ∙ v .11 .taken) (v .8 .inv .1 .left)))
           ∙ same (sym (v .13)) (sym (v .14)) (sym (v .15)),
     ))
     (c .search-test .came)
@@ -235,11 +261,11 @@ outcome c =
     same : {n n′ q q′ o o′ : ℕ} → n ≡ n′ → q ≡ q′ → o ≡ o′ → Found.Move n q o ≡ Found.Move n′ q′ o′
     same en eq eo = cc
 
-returns : tie.Need-returns Inv-loop2 μ-loop2 Inv-loop μ-loop Inv-search μ-search
-returns c = ⊎-elim (λ v. absurd (true≢false (sym (c .if3 .taken) ∙ v .0))) (λ v. sym (v .1)) (outcome (c .before))
-
 returns-2 : tie.Need-returns-2 Inv-loop2 μ-loop2 Inv-loop μ-loop Inv-search μ-search
-returns-2 c = ⊎-elim (λ v. sym (v .1)) (λ v. absurd (true≢false (sym (v .0) ∙ c .if3 .left))) (outcome (c .before))
+returns-2 c = ⊎-elim (λ v. absurd (true≢false (sym (c .if4 .taken) ∙ v .0))) (λ v. sym (v .1)) (outcome (c .before))
+
+returns-3 : tie.Need-returns-3 Inv-loop2 μ-loop2 Inv-loop μ-loop Inv-search μ-search
+returns-3 c = ⊎-elim (λ v. sym (v .1)) (λ v. absurd (true≢false (sym (v .0) ∙ c .if4 .left))) (outcome (c .before))
 
 pub first-move-spec : {M : Type 1} → statement M
 first-move-spec =
@@ -251,11 +277,14 @@ first-move-spec =
     μ-loop
     Inv-search
     μ-search
+    shared-slice-read-if1
+    shared-slice-read-if1-2
+    returns
     nodes-requires
     search-holds
     loop-holds
-    mul-if1
-    shared-slice-read-if1
+    mul-if2
+    shared-slice-read-if2
     add-routes
     mul-routes
     shared-slice-read-routes
@@ -276,5 +305,5 @@ first-move-spec =
     add-n
     search-less
     search-again
-    returns
-    returns-2)
+    returns-2
+    returns-3)

@@ -2,19 +2,19 @@
 use mathlib.Core.Path.{_≡_, refl}
 use mathlib.Core.Bool.{Bool, true, false, _||_}
 use mathlib.Core.List.{List}
-use Prim.Native.Nat.{ℕ, _<_}
+use Prim.Native.Nat.{ℕ}
 use native.Mathlib.Omega.{arith}
 use borrow.Author.Needs.{needs}
 use borrow.Author.Tests.{eq-eqb, ne-eqb, le-leb, lt-leb}
 use lib.Dec.{leb, eqb}
 use lib.ListN.{length}
 use Rattle.network.specs.Sizes.{Shape, nodes, capacity, injectionQueue}
-use Rattle.network.specs.Layout.{accepted, need, held}
+use Rattle.network.specs.Layout.{accepted, held}
 use Rattle.network.specs.Check.{mostAccepted}
-use Rattle.network.specs.CheckLaws.{Network}
 use Rattle.network.specs.Refusals.{refuse, offerRules, noSuchNode, countSpent, injectionFull}
 use Rattle.packet.specs.Geometry.{shapeOfSizes}
 use Rattle.packet.specs.GeometryLaws.{inRange-rings}
+use Rattle.rules.proofs.Places.{header}
 use Rattle.rules.proofs.refusals.offer_rules.Statement.{statement}
 use Rattle.rules.proofs.refusals.offer_rules.Tie as tie
 
@@ -25,11 +25,6 @@ tested : (S : Shape) (w : List ℕ) (n destination count held-there slots : ℕ)
     → refuse (a || b) noSuchNode (refuse d countSpent (refuse e injectionFull 0)) ≡ offerRules S w n destination
 unfolding offerRules
 tested S w n destination count held-there slots a b d e ec eh es ea eb ed ee = cc
-
--- the header is among the words
-header : (S : Shape) (w : List ℕ) → Network S w → 5 < length w
-unfolding need
-header S w k = let l = k .long in omega arith
 
 nodes-requires : tie.Need-nodes-requires
 nodes-requires c κs = let f = c .before in inRange-rings (f .args .s) (f .pre .in-range)
@@ -53,7 +48,8 @@ returns-2 c =
 shared-slice-read-accepted : tie.Need-shared-slice-read-accepted
 shared-slice-read-accepted c =
     let f = c .before .before .before .before .before in
-    header (shapeOfSizes (f .args .s)) (f .args .words .now) (f .pre)
+    let l = header (shapeOfSizes (f .args .s)) (f .args .words .now) (f .pre) in
+    omega arith
 
 capacity-requires : tie.Need-capacity-requires
 capacity-requires c κs = search needs

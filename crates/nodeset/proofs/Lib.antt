@@ -1,3 +1,0 @@
--- The proofs of this crate's functions stand in a folder for each. What they share: Words.antt, the bits of one word; Sets.antt, four words.
-pub mod Words
-pub mod Sets

@@ -1,3 +1,0 @@
--- A set of nodes in four words, what the functions of the crate leave there or find, and laws for their callers.
-pub mod Set
-pub mod SetLaws

@@ -1,0 +1,2 @@
+-- What the inner functions of the reader answer.
+pub mod Reading
