@@ -1,5 +1,6 @@
 -- What the definitions of document 01 are written with, and its laws. Nothing here speaks of networks. Assumes nothing.
 pub mod Tests
+pub mod Bools
 pub mod Sums
 pub mod Digits
 pub mod Parts

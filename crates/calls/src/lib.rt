@@ -51,7 +51,7 @@ pub fn offer(words: &mut [u64], node: u64, destination: u64, tag: u32) -> u64
         return broken;
     }
     let s = checker::sizes_of(words);
-    let turned_away = rules::refusals::offer_rules(words, s, node, destination);
+    let turned_away = rules::offer_rules(words, s, node, destination);
     if turned_away != 0 {
         return turned_away;
     }
@@ -69,7 +69,7 @@ pub fn move_packet(words: &mut [u64], node: u64, queue: u64, output: u64) -> Mov
         return Moved::Refused(broken);
     }
     let s = checker::sizes_of(words);
-    let barred = rules::refusals::move_rules(words, s, node, queue, output);
+    let barred = rules::move_rules(words, s, node, queue, output);
     if barred != 0 {
         return Moved::Refused(barred);
     }
@@ -89,11 +89,11 @@ pub fn credit(words: &[u64], node: u64, output: u64) -> Credit
         return Credit::Refused(broken);
     }
     let s = checker::sizes_of(words);
-    let unknown = rules::refusals::credit_rules(s, node, output);
+    let unknown = rules::credit_rules(s, node, output);
     if unknown != 0 {
         return Credit::Refused(unknown);
     }
-    Credit::Free(rules::flow::free_slots(words, s, node, output))
+    Credit::Free(flow::free_slots(words, s, node, output))
 }
 
 // Look's companion: the refusal's number, 0 if there is none.
@@ -104,7 +104,7 @@ pub fn look_refusal(words: &[u64], node: u64, queue: u64) -> u64
     if broken != 0 {
         return broken;
     }
-    rules::refusals::look_rules(checker::sizes_of(words), node, queue)
+    rules::look_rules(checker::sizes_of(words), node, queue)
 }
 
 // Look: the held words of a queue, as the part of the lent words where they stand; an empty part on a refusal.
@@ -116,7 +116,7 @@ pub fn look(words: &[u64], node: u64, queue: u64) -> &[u64]
     }
     let s = checker::sizes_of(words);
     let start = queue::queue_start(s.escape, s.adaptive, s.injection, node, queue);
-    let count = rules::flow::held_count(words, s, node, queue);
+    let count = flow::held_count(words, s, node, queue);
     let from = start + 1;
     let to = from + count as usize;
     &words[from..to]
@@ -130,7 +130,7 @@ pub fn first(words: &[u64]) -> Found
     if broken != 0 {
         return Found::Refused(broken);
     }
-    rules::first::first_move(words, checker::sizes_of(words))
+    first::first_move(words, checker::sizes_of(words))
 }
 
 // Drain: First's move again and again, each delivered word to the next word of the ledger, until nothing is held, or the budget is
@@ -145,5 +145,5 @@ pub fn drain(words: &mut [u64], budget: u32, ledger: &mut [u64]) -> Drained
         return Drained::Refused(broken);
     }
     let s = checker::sizes_of(words);
-    turns::drain_network(words, s, budget, ledger)
+    drains::drain_network(words, s, budget, ledger)
 }

@@ -1,13 +1,9 @@
 // The call Check: are these words a network, and if not, which test refuses them. Every other call but Make makes these tests first.
-// Order: the refusal; the sizes; the clauses of the check; the counters. The queues' clauses are in the module `queues`, a packet's in `packets`,
-// the rings' in `rings`.
-mod packets;
-mod queues;
-mod rings;
-
+// Order: the refusal; the sizes; the clauses of the check; the counters. The queues' clauses are in the crate `queue_check`,
+// a packet's in `packet_check`, the rings' in `ring_check`.
 use packet::torus::Sizes;
-use queues::queues_fit;
-use rings::rings_have_room;
+use queue_check::queues_fit;
+use ring_check::rings_have_room;
 ghost use mathlib.Core.Path.{_≡_};
 ghost use Prim.Native.Nat.{_≤_};
 ghost use lib.ListN.{length};
@@ -16,7 +12,7 @@ ghost use Rattle.network.specs.Layout.{shape};
 ghost use Rattle.network.specs.Check.{packetsHeld, workLeft, countersFit, isNetwork};
 ghost use Rattle.network.specs.Refusals.{networkRefusal};
 ghost use Rattle.packet.specs.Geometry.{shapeOfSizes};
-ghost use Rattle.checker.specs.Tally.{Enough};
+ghost use Rattle.queue.specs.Queue.{Enough};
 
 // The number of the first test that refuses the words, 0 if they are a network.
 pub fn network_refusal(words: &[u64]) -> u64

@@ -1,11 +1,11 @@
 -- Laws of the code's sizes. Order: they make a torus; the two dimensions one by one; a digit put in, by its weight; the neighbour by the weight;
--- a node by its coordinates; an offer's way. `s` are the code's sizes, `n` is a node. Assumes nothing.
+-- a node by its coordinates; a coordinate moved; an offer's way. `s` are the code's sizes, `n` is a node. Assumes nothing.
 use mathlib.Core.Path.{_≡_, refl, ap, ap₂, sym, _∙_}
 use mathlib.Core.Bool.{cond}
 use mathlib.Core.List.{List, [], _∷_}
 use mathlib.Core.Logic.{_≢_}
 use Prim.Native.Nat.{ℕ, zero, suc, _+_, _*_, _-_, _/_, _%_, _<_, _≤_}
-use native.Mathlib.Nat.{mul-one, one-mul, mul-le-mul, mul-comm, mul-left-comm, mul-add, zero-mul, add-mul, suc-mul, add-zero, mul-le-mul-right, mul-add-mod-self-right, mul-add-div-right, lt-of-mul-lt-mul-right, mod-eq-of-lt, div-eq-of-lt, mod-self, add-mod-right, mod-add-div, div-add-mod', div-lt-iff-lt-mul, not-suc-le-zero, le-of-suc-le-suc}
+use native.Mathlib.Nat.{mul-one, one-mul, mul-le-mul, mul-comm, mul-left-comm, mul-add, zero-mul, add-mul, suc-mul, add-zero, mul-le-mul-right, mul-add-mod-self-right, mul-add-div-right, lt-of-mul-lt-mul-right, mod-eq-of-lt, div-eq-of-lt, mod-self, add-mod-right, add-mul-mod-self-right, mul-suc, mod-add-div, div-add-mod', div-lt-iff-lt-mul, not-suc-le-zero, le-of-suc-le-suc}
 use native.Mathlib.Omega.{arith}
 use lib.Dec.{T}
 use lib.ListN.{length}
@@ -231,6 +231,13 @@ stands s x y n r g c h =
     let f = mul-comm (s .x) (s .y) in
     let l : y * s .x < s .y * s .x = omega arith in
     record { rings = r; column = c; row = lt-of-mul-lt-mul-right (s .x) l }
+
+-- a coordinate moved: b steps back are b rounds forward but for b steps
+pub moved-is : (c f b k : ℕ) → 0 < k → b ≤ k → (c + f + k - b) % k ≡ (c + (f * 1 + b * (k - 1))) % k
+moved-is c f b k h l =
+    let r : b * k ≡ b * (k - 1) + b = ap (λ (x : ℕ). b * x) (let e : k ≡ suc (k - 1) = omega arith in e) ∙ mul-suc b (k - 1) in
+    let t : c + f + k - b + b * k ≡ c + (f * 1 + b * (k - 1)) + k = omega arith in
+    sym (add-mul-mod-self-right (c + f + k - b) b k) ∙ ap (λ (x : ℕ). x % k) t ∙ add-mod-right (c + (f * 1 + b * (k - 1))) k
 
 -- the way of an offer is of a byte's range
 pub rings-way : {s : Sizes} (n destination i : ℕ) → RingsFit s → i < dimensions → ByteRange (offeredWay (shapeOfSizes s) n destination i)

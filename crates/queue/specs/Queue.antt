@@ -1,5 +1,6 @@
--- What the functions of this crate ask of the words lent to them; what they leave there is said with the definitions of the crate network.
--- Order: the words of one queue; a queue at a place in more words; a queue of a network. Assumes nothing.
+-- What the functions of this crate, and those that check a network, ask of the words lent to them; what they leave there is said with the
+-- definitions of the crate network. Order: the words of one queue; a queue at a place in more words; the words of a network; a queue of a network.
+-- Assumes nothing.
 use Prim.Native.Nat.{ℕ, _-_, _<_, _≤_}
 use lib.Dec.{T, eqb}
 use lib.ListN.{length}
@@ -23,6 +24,11 @@ pub record QueueAt (w : List ℕ) (a e : ℕ) : Type 0 where
   pub start : a ≤ e
   pub end : e ≤ length w
   pub queue : IsQueue (span w a e)
+
+-- sizes in range, and as many words as they need
+pub record Enough (S : Shape) (w : List ℕ) : Type 0 where
+  pub sizes : T (sizesInRange S)
+  pub long : need S ≤ length w
 
 -- what the check of a network says of queue q of node n
 pub record Checked (S : Shape) (w : List ℕ) (n q : ℕ) : Type 0 where

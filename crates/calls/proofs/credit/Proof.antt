@@ -13,8 +13,8 @@ use Rattle.calls.proofs.credit.Reads as reads
 use Rattle.calls.proofs.credit.Lts as lts
 use Rattle.checker.proofs.network_refusal.Reads as network-refusal-reads
 use Rattle.checker.proofs.sizes_of.Reads as sizes-of-reads
-use Rattle.rules.proofs.flow.free_slots.Reads as free-slots-reads
-use Rattle.rules.proofs.refusals.credit_rules.Reads as credit-rules-reads
+use Rattle.flow.proofs.free_slots.Reads as free-slots-reads
+use Rattle.rules.proofs.credit_rules.Reads as credit-rules-reads
 
 -- src/lib.rt:88:9
 network-refusal-requires : tie.Need-network-refusal-requires

@@ -10,7 +10,7 @@ use Rattle.calls.proofs.drain.Statement.{statement}
 use Rattle.calls.proofs.drain.Tie as tie
 use Rattle.calls.proofs.drain.Reads as reads
 use Rattle.calls.proofs.drain.Lts as lts
-use Rattle.turns.proofs.drain_network.Reads as drain-network-reads
+use Rattle.drains.proofs.drain_network.Reads as drain-network-reads
 use Rattle.checker.proofs.network_refusal.Reads as network-refusal-reads
 use Rattle.checker.proofs.sizes_of.Reads as sizes-of-reads
 

@@ -12,7 +12,7 @@ use Rattle.calls.proofs.first.Reads as reads
 use Rattle.calls.proofs.first.Lts as lts
 use Rattle.checker.proofs.network_refusal.Reads as network-refusal-reads
 use Rattle.checker.proofs.sizes_of.Reads as sizes-of-reads
-use Rattle.rules.proofs.first.first_move.Reads as first-move-reads
+use Rattle.first.proofs.first_move.Reads as first-move-reads
 
 -- src/lib.rt:130:9
 network-refusal-requires : tie.Need-network-refusal-requires

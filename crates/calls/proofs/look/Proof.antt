@@ -18,7 +18,7 @@ use Rattle.calls.proofs.look.Lts as lts
 use Rattle.calls.proofs.look_refusal.Reads as look-refusal-reads
 use Rattle.checker.proofs.sizes_of.Reads as sizes-of-reads
 use Rattle.queue.proofs.queue_start.Reads as queue-start-reads
-use Rattle.rules.proofs.flow.held_count.Reads as held-count-reads
+use Rattle.flow.proofs.held_count.Reads as held-count-reads
 
 -- src/lib.rt:115:8
 look-refusal-requires : tie.Need-look-refusal-requires

@@ -11,7 +11,7 @@ use Rattle.calls.proofs.look_refusal.Reads as reads
 use Rattle.calls.proofs.look_refusal.Lts as lts
 use Rattle.checker.proofs.network_refusal.Reads as network-refusal-reads
 use Rattle.checker.proofs.sizes_of.Reads as sizes-of-reads
-use Rattle.rules.proofs.refusals.look_rules.Reads as look-rules-reads
+use Rattle.rules.proofs.look_rules.Reads as look-rules-reads
 
 -- src/lib.rt:104:9
 network-refusal-requires : tie.Need-network-refusal-requires

@@ -12,7 +12,7 @@ use Rattle.calls.proofs.move_packet.Lts as lts
 use Rattle.changes.proofs.make_move.Reads as make-move-reads
 use Rattle.checker.proofs.network_refusal.Reads as network-refusal-reads
 use Rattle.checker.proofs.sizes_of.Reads as sizes-of-reads
-use Rattle.rules.proofs.refusals.move_rules.Reads as move-rules-reads
+use Rattle.rules.proofs.move_rules.Reads as move-rules-reads
 
 -- src/lib.rt:68:9
 network-refusal-requires : tie.Need-network-refusal-requires

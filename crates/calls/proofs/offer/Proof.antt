@@ -12,7 +12,7 @@ use Rattle.calls.proofs.offer.Lts as lts
 use Rattle.changes.proofs.accept.Reads as accept-reads
 use Rattle.checker.proofs.network_refusal.Reads as network-refusal-reads
 use Rattle.checker.proofs.sizes_of.Reads as sizes-of-reads
-use Rattle.rules.proofs.refusals.offer_rules.Reads as offer-rules-reads
+use Rattle.rules.proofs.offer_rules.Reads as offer-rules-reads
 
 -- src/lib.rt:50:9
 network-refusal-requires : tie.Need-network-refusal-requires

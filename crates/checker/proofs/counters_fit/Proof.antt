@@ -8,9 +8,9 @@ use Prim.Native.Nat.{ℕ, _+_, _-_, _<_, _≤_}
 use native.Mathlib.Decide.{decLe}
 use native.Mathlib.Omega.{arith}
 use lib.Dec.{leb, eqb}
+use Rattle.base.specs.Bools.{and-stop, and-on}
 use Rattle.network.specs.Layout.{accepted, delivered, movesMade}
 use Rattle.network.specs.Check.{countersFit}
-use Rattle.checker.proofs.Bools.{and-stop, and-on}
 use Rattle.checker.proofs.counters_fit.Statement.{statement}
 use Rattle.checker.proofs.counters_fit.Tie as tie
 

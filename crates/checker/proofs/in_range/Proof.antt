@@ -1,15 +1,21 @@
 -- `checker::in_range` meets its contract: the first size that is out of range decides. Assumes nothing.
 use borrow.Author.Needs.{needs}
 use borrow.Author.Tests.{not-true, not-false}
-use mathlib.Core.Path.{_≡_, sym, _∙_}
-use mathlib.Core.Bool.{true, _&&_}
+use mathlib.Core.Path.{_≡_, refl, sym, _∙_}
+use mathlib.Core.Bool.{Bool, true, false, _&&_}
 use Rattle.base.specs.Tests.{allOf}
+use Rattle.base.specs.Bools.{and-stop, and-on}
 use Rattle.network.specs.Sizes.{within, sizesInRange}
 use Rattle.network.specs.Calls.{shapeOf}
 use Rattle.packet.specs.Geometry.{shapeOfSizes}
-use Rattle.checker.proofs.Bools.{and-stop, and-on, and-all}
 use Rattle.checker.proofs.in_range.Statement.{statement}
 use Rattle.checker.proofs.in_range.Tie as tie
+
+-- two parts of a list of two, in a row with the rest
+and-all : (a b c : Bool) → a && (b && true) && c ≡ a && (b && c)
+and-all true true c = refl
+and-all true false c = refl
+and-all false b c = refl
 
 -- the sizes in a row
 in-a-row : (c : tie.Start) → sizesInRange (shapeOfSizes (c .args .s))

@@ -8,13 +8,13 @@ use Prim.Native.Nat.{ℕ}
 use native.Mathlib.Omega.{arith}
 use lib.ListN.{length}
 use Rattle.base.specs.Tests.{T-true}
+use Rattle.base.specs.Bools.{and-stop, and-on}
 use Rattle.network.specs.Sizes.{Shape, sizesInRange}
 use Rattle.network.specs.Layout.{need}
 use Rattle.network.specs.Check.{queuesFit, packetsHeld, workLeft, ringsHaveRoom, countersFit, isNetwork}
 use Rattle.packet.specs.Geometry.{shapeOfSizes}
-use Rattle.checker.specs.Tally.{Enough}
-use Rattle.checker.proofs.Bools.{and-stop, and-on}
-use Rattle.checker.proofs.Tallies.{Passed, tally-yes, tally-no}
+use Rattle.queue.specs.Queue.{Enough}
+use Rattle.queue_check.specs.TallyLaws.{Passed, tally-yes, tally-no}
 use Rattle.checker.proofs.is_network.Statement.{statement}
 use Rattle.checker.proofs.is_network.Tie as tie
 

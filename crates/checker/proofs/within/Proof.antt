@@ -1,8 +1,8 @@
 -- `checker::within` meets its contract. Assumes nothing.
 use borrow.Author.Tests.{le-leb, lt-leb}
 use mathlib.Core.Path.{sym}
+use Rattle.base.specs.Bools.{and-stop, and-on}
 use Rattle.network.specs.Sizes.{within}
-use Rattle.checker.proofs.Bools.{and-stop, and-on}
 use Rattle.checker.proofs.within.Statement.{statement}
 use Rattle.checker.proofs.within.Tie as tie
 

@@ -12,7 +12,7 @@ use Rattle.turns.proofs.take_turn.Statement.{statement}
 use Rattle.turns.proofs.take_turn.Tie as tie
 use Rattle.turns.proofs.take_turn.Reads as reads
 use Rattle.turns.proofs.take_turn.Lts as lts
-use Rattle.turns.proofs.next_move.Reads as next-move-reads
+use Rattle.ready.proofs.next_move.Reads as next-move-reads
 use Rattle.turns.proofs.turn_by_move.Reads as turn-by-move-reads
 
 -- src/lib.rt:141:8

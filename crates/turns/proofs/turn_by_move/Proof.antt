@@ -8,7 +8,7 @@ use Rattle.turns.proofs.turn_by_move.Statement.{statement}
 use Rattle.turns.proofs.turn_by_move.Tie as tie
 use Rattle.turns.proofs.turn_by_move.Reads as reads
 use Rattle.turns.proofs.turn_by_move.Lts as lts
-use Rattle.turns.proofs.mark.Reads as mark-reads
+use Rattle.ready.proofs.mark.Reads as mark-reads
 use Rattle.changes.proofs.make_move.Reads as make-move-reads
 
 -- src/lib.rt:121:9

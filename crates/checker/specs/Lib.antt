@@ -1,5 +1,0 @@
--- What the contracts of the crate cite beside the definitions of the crate network.
-pub mod Tally
-pub mod Limits
-pub mod Tables
-pub mod Lines

@@ -1,0 +1,1 @@
+-- Proofs of the loop of a Drain.

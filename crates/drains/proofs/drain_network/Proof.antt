@@ -1,0 +1,130 @@
+-- `drains::drain_network` meets its contract. Assumes nothing.
+use borrow.Author.Needs.{needs}
+use mathlib.Core.Path.{_≡_, refl, sym, subst}
+use Prim.Native.Nat.{ℕ, _≤_}
+use native.Mathlib.Omega.{arith}
+use denote.Ref.{now}
+use Rattle.network.specs.declared.Stop.{Stop}
+use Rattle.network.specs.Layout.{accepted, delivered}
+use Rattle.packet.specs.Geometry.{shapeOfSizes, RingsFit}
+use Rattle.packet.specs.GeometryLaws.{inRange-rings, rings-torus, rings-nodes}
+use Rattle.headset.specs.Set.{Filled}
+use Rattle.ready.specs.Ready.{covered-filled}
+use Rattle.turns.specs.Turns.{turn-emptied, none-held}
+use Rattle.turns.specs.Turned.{header-long}
+use Rattle.drains.specs.Drains.{so-far-start, so-far-end}
+use Rattle.drains.proofs.drain_network.Statement.{statement}
+use Rattle.drains.proofs.drain_network.Tie as tie
+use Rattle.drains.proofs.drain_network.Reads as reads
+use Rattle.drains.proofs.drain_network.Lts as lts
+use Rattle.headset.proofs.fill.Reads as fill-reads
+use Rattle.packet.proofs.near.fill.Reads as near-fill-reads
+use Rattle.packet.proofs.torus.nodes.Reads as nodes-reads
+use Rattle.drains.proofs.take_turns.Reads as take-turns-reads
+
+rings : (c : tie.Start) → RingsFit (c .args .s)
+rings c = inRange-rings (c .args .s) (c .pre .in-range)
+
+slice-read-accepted : tie.Need-slice-read-accepted
+slice-read-accepted c =
+    let a = c .before .before .before in
+    let h = header-long (shapeOfSizes (a .args .s)) (now (a .args .words)) (a .pre) in
+    omega arith
+
+-- src/lib.rt:226:20
+slice-read-delivered : tie.Need-slice-read-delivered
+slice-read-delivered c =
+    let a = c .before .before .before .before in
+    let h = header-long (shapeOfSizes (a .args .s)) (now (a .args .words)) (a .pre) in
+    omega arith
+
+-- src/lib.rt:227:9
+returns : tie.Need-returns
+unfolding accepted delivered
+returns c =
+    let a = c .before .before .before .before .before in
+    let S = shapeOfSizes (a .args .s) in
+    let w = now (a .args .words) in
+    let l = now (a .args .ledger) in
+    so-far-end S (rings-torus (a .args .s) (rings a)) w (a .args .budget) l w l 0 0 Stop.Emptied (so-far-start S w (a .args .budget) l (a .pre))
+    (turn-emptied S w _ _ (none-held S w (a .pre) (c .if1 .taken)))
+
+-- src/lib.rt:234:24
+slice-aggregate-fill : tie.Need-slice-aggregate-fill
+slice-aggregate-fill c = search needs
+
+-- src/lib.rt:234:5
+fill-requires : tie.Need-fill-requires
+fill-requires c κs =
+    let a = c .before .before .before .before .before .before in
+    (rings a, refl)
+
+-- src/lib.rt:236:19
+slice-aggregate-fill-2 : tie.Need-slice-aggregate-fill-2
+slice-aggregate-fill-2 c = search needs
+
+-- src/lib.rt:236:31
+nodes-requires : tie.Need-nodes-requires
+nodes-requires c κs =
+    let a = c .before .before .before .before .before .before .before .before .before in
+    rings a
+
+-- src/lib.rt:236:5
+fill-requires-2 : tie.Need-fill-requires-2
+fill-requires-2 c κs =
+    let a = c .before .before .before .before .before .before .before .before .before .before in
+    (refl, subst (λ (x : ℕ). x ≤ 256) (sym (c .nodes .ensures)) (rings-nodes (a .args .s) (rings a)))
+
+-- src/lib.rt:237:26
+slice-aggregate-take-turns : tie.Need-slice-aggregate-take-turns
+slice-aggregate-take-turns c = search needs
+
+-- src/lib.rt:237:33
+slice-aggregate-take-turns-2 : tie.Need-slice-aggregate-take-turns-2
+slice-aggregate-take-turns-2 c = search needs
+
+-- src/lib.rt:237:5
+take-turns-requires : tie.Need-take-turns-requires
+take-turns-requires c κs =
+    let r = c .before .before .before .before .before in
+    let n = r .before in
+    let f = n .before .before .before in
+    let a = f .before .before .before .before .before .before .before in (
+      a .pre,
+      (
+        f .fill .ensures,
+        covered-filled (shapeOfSizes (a .args .s)) (now (a .args .words)) (r .fill2 .last .0)
+            (subst (λ (x : ℕ). Filled (r .fill2 .last .0) x) (n .nodes .ensures) (r .fill2 .ensures)),
+      ),
+    )
+
+-- src/lib.rt:222:1
+same-length : tie.Need-same-length
+same-length c = search needs
+
+-- src/lib.rt:222:1
+same-length-2 : tie.Need-same-length-2
+same-length-2 c = search needs
+
+-- src/lib.rt:222:1
+returns-2 : tie.Need-returns-2
+returns-2 c = search needs
+
+pub drain-network-spec : {M : Type 1} → statement M
+drain-network-spec =
+    tie.close
+    (tie.spec
+    slice-read-accepted
+    slice-read-delivered
+    returns
+    slice-aggregate-fill
+    fill-requires
+    slice-aggregate-fill-2
+    nodes-requires
+    fill-requires-2
+    slice-aggregate-take-turns
+    slice-aggregate-take-turns-2
+    take-turns-requires
+    same-length
+    same-length-2
+    returns-2)

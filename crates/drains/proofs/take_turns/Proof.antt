@@ -1,0 +1,166 @@
+-- `drains::take_turns` meets its contract. The loop's invariant: what the turns so far have come to (SoFar), and the set of heads covers all
+-- that have a permitted move. The measure is what is left of the budget. Assumes nothing.
+use borrow.Author.Needs.{needs}
+use mathlib.Core.Path.{_≡_, refl, ap, sym, _∙_, subst}
+use mathlib.Core.List.{List}
+use mathlib.Core.Logic.{⊎-elim}
+use Prim.Native.Nat.{ℕ, _+_, _-_, _<_, _≤_}
+use native.Mathlib.Omega.{arith}
+use lib.ListN.{length, length-set}
+use denote.Ref.{now}
+use Rattle.packet.specs.Geometry.{shapeOfSizes}
+use Rattle.packet.specs.GeometryLaws.{inRange-rings, rings-torus}
+use Rattle.ready.specs.Ready.{Covered}
+use Rattle.drains.specs.Drains.{SoFar, so-far-start, next-passed, next-delivered, end-of-it, passed-budget, delivered-budget}
+use Rattle.drains.proofs.take_turns.Statement.{statement}
+use Rattle.drains.proofs.take_turns.Tie as tie
+use Rattle.drains.proofs.take_turns.Reads as reads
+use Rattle.drains.proofs.take_turns.Lts as lts
+use Rattle.turns.proofs.take_turn.Reads as take-turn-reads
+
+abbrev Inv-loop : tie.InvT-loop
+Inv-loop words₀ s near ready₀ budget ledger₀ limit total moves₀ delivered₀ words ready ledger moves delivered =
+    SoFar (shapeOfSizes s) words₀ budget ledger₀ words ledger moves delivered
+    × (Covered (shapeOfSizes s) words ready × ((length words ≡ length words₀) × (length ledger ≡ length ledger₀)))
+
+abbrev μ-loop : tie.MeasureT-loop
+μ-loop words₀ s near ready₀ budget ledger₀ limit total moves₀ delivered₀ words ready ledger moves delivered =
+    budget - moves
+
+less : (b m : ℕ) → m < b → b - (m + 1) < b - m
+less b m h = omega arith
+
+-- src/lib.rt:172:5
+loop-holds : tie.Need-loop-holds Inv-loop μ-loop
+loop-holds c =
+    let a = c .before .before .before .before in (
+      so-far-start (shapeOfSizes (a .args .s)) (now (a .args .words)) (a .args .budget) (now (a .args .ledger)) (a .pre .0),
+      (a .pre .1 .1, (refl, refl)),
+    )
+
+-- src/lib.rt:173:21
+sub-room : tie.Need-sub-room Inv-loop μ-loop
+sub-room c = search needs
+
+-- src/lib.rt:174:52
+sub-take-turn : tie.Need-sub-take-turn Inv-loop μ-loop
+sub-take-turn c = search needs
+
+-- src/lib.rt:174:13
+take-turn-requires : tie.Need-take-turn-requires Inv-loop μ-loop
+take-turn-requires c κs = search needs
+
+-- src/lib.rt:176:27
+enum-known-turn : tie.Need-enum-known-turn Inv-loop μ-loop
+enum-known-turn c = search needs
+
+-- src/lib.rt:177:17
+same-length : tie.Need-same-length Inv-loop μ-loop
+same-length c = search needs
+
+-- src/lib.rt:177:17
+same-length-2 : tie.Need-same-length-2 Inv-loop μ-loop
+same-length-2 c = search needs
+
+-- src/lib.rt:177:17
+same-length-3 : tie.Need-same-length-3 Inv-loop μ-loop
+same-length-3 c = search needs
+
+-- src/lib.rt:177:17
+returns : tie.Need-returns Inv-loop μ-loop
+returns c =
+    let a = c .before .before .before .before .before .before .before .before .before .before .before .before .before .before .before in
+    let l = c .before .before .before .before .before .before .before .before .before .before .loop in
+    let t = c .before .before .before .before .before .before .before .take-turn in
+    end-of-it (shapeOfSizes (a .args .s)) (rings-torus (a .args .s) (inRange-rings (a .args .s) (a .pre .0 .in-range))) (now (a .args .words)) (a .args .budget) (now (a .args .ledger))
+    (l .words) (l .ledger) (l .moves) (l .delivered) (c .before .turn .given .0 .0) (t .result) (t .last .0) (l .inv .0) (t .ensures .0) (t .ensures .1 .0) (c .before .turn .given .1)
+
+enum-told : tie.Need-enum-told Inv-loop μ-loop
+enum-told c = search needs
+
+-- src/lib.rt:184:29
+enum-known-turn-2 : tie.Need-enum-known-turn-2 Inv-loop μ-loop
+enum-known-turn-2 c = search needs
+
+-- src/lib.rt:185:17
+mul-ledger : tie.Need-mul-ledger Inv-loop μ-loop
+mul-ledger c = search needs
+
+-- src/lib.rt:185:17
+slice-write-ledger : tie.Need-slice-write-ledger Inv-loop μ-loop
+slice-write-ledger c =
+    let a = c .before .before .before .before .before .before .before .before .before .before .before .before .before .before .before in
+    let l = c .before .before .before .before .before .before .before .before .before .before .loop in
+    let t = c .before .before .before .before .before .before .before .take-turn in
+    let r = delivered-budget (shapeOfSizes (a .args .s)) (rings-torus (a .args .s) (inRange-rings (a .args .s) (a .pre .0 .in-range))) (now (a .args .words)) (a .args .budget)
+    (now (a .args .ledger)) (l .words) (l .ledger) (l .moves) (l .delivered) (c .before .turn2 .given .0 .0) (l .inv .0) (sym (t .ensures .0) ∙ c .before .turn2 .given .1) in
+    subst (λ (x : ℕ). l .delivered < x) (sym (l .inv .1 .1 .1)) (r .1)
+
+-- src/lib.rt:186:17
+add-delivered : tie.Need-add-delivered Inv-loop μ-loop
+add-delivered c = search needs
+
+-- src/lib.rt:189:9
+add-moves : tie.Need-add-moves Inv-loop μ-loop
+add-moves c = search needs
+
+-- src/lib.rt:172:5
+loop-less : tie.Need-loop-less Inv-loop μ-loop
+loop-less c =
+    let a = c .before .before .before .before .before .before .before .before .before .before .before .before .before in
+    let l = c .before .before .before .before .before .before .before .before .loop in
+    let t = c .before .before .before .before .before .take-turn in
+    let tor = rings-torus (a .args .s) (inRange-rings (a .args .s) (a .pre .0 .in-range)) in
+    less (a .args .budget) (l .moves)
+    (⊎-elim
+    (λ x. passed-budget (shapeOfSizes (a .args .s)) tor (now (a .args .words)) (a .args .budget) (now (a .args .ledger)) (l .words) (l .ledger) (l .moves) (l .delivered) (l .inv .0)
+    (sym (t .ensures .0) ∙ x .1 .given .1))
+    (λ x. delivered-budget (shapeOfSizes (a .args .s)) tor (now (a .args .words)) (a .args .budget) (now (a .args .ledger)) (l .words) (l .ledger) (l .moves) (l .delivered)
+    (x .1 .given .0 .0) (l .inv .0) (sym (t .ensures .0) ∙ x .1 .given .1) .0)
+    (c .match .came))
+
+-- src/lib.rt:172:5
+loop-again : tie.Need-loop-again Inv-loop μ-loop
+loop-again c =
+    let a = c .before .before .before .before .before .before .before .before .before .before .before .before .before in
+    let l = c .before .before .before .before .before .before .before .before .loop in
+    let t = c .before .before .before .before .before .take-turn in
+    let tor = rings-torus (a .args .s) (inRange-rings (a .args .s) (a .pre .0 .in-range)) in (
+      ⊎-elim
+          (λ x. next-passed (shapeOfSizes (a .args .s)) tor (now (a .args .words)) (a .args .budget) (now (a .args .ledger)) (l .words) (l .ledger) (l .moves) (l .delivered) (t .result)
+          (t .last .0) (c .match .ledger) (c .match .delivered) (l .inv .0) (t .ensures .0) (t .ensures .1 .0) (x .1 .given .1) (x .2) (x .3))
+          (λ x. next-delivered (shapeOfSizes (a .args .s)) tor (now (a .args .words)) (a .args .budget) (now (a .args .ledger)) (l .words) (l .ledger) (l .moves) (l .delivered)
+          (x .1 .given .0 .0) (t .result) (t .last .0) (c .match .ledger) (c .match .delivered) (l .inv .0) (t .ensures .0) (t .ensures .1 .0) (x .1 .given .1) (x .3) (x .4))
+          (c .match .came),
+      (
+        subst (λ (x : List ℕ). Covered (shapeOfSizes (a .args .s)) x (t .last .1 .1 .1 .0)) (sym (t .ensures .1 .0)) (t .ensures .1 .1),
+        (
+          t .kept .0 ∙ l .inv .1 .1 .0,
+          ⊎-elim (λ x. ap length (x .2) ∙ l .inv .1 .1 .1) (λ x. ap length (x .3) ∙ length-set (l .ledger) (l .delivered) (x .1 .given .0 .0) ∙ l .inv .1 .1 .1) (c .match .came),
+        ),
+      ),
+    )
+
+pub take-turns-spec : {M : Type 1} → statement M
+take-turns-spec =
+    tie.close
+    (tie.spec
+    Inv-loop
+    μ-loop
+    loop-holds
+    sub-room
+    sub-take-turn
+    take-turn-requires
+    enum-known-turn
+    same-length
+    same-length-2
+    same-length-3
+    returns
+    enum-told
+    enum-known-turn-2
+    mul-ledger
+    slice-write-ledger
+    add-delivered
+    add-moves
+    loop-less
+    loop-again)

@@ -1,0 +1,72 @@
+// A Drain of a network: turn after turn until one stops, with the set of heads and the table of neighbours that the turns use.
+use network::Drained;
+use network::Stop;
+use packet::torus::Sizes;
+use turns::Turn;
+use turns::take_turn;
+ghost use Rattle.network.specs.CheckLaws.{Network};
+ghost use Rattle.packet.specs.Geometry.{shapeOfSizes};
+ghost use Rattle.packet.specs.Near.{Near};
+ghost use Rattle.ready.specs.Ready.{Covered};
+ghost use Rattle.drains.specs.Drains.{DrainedTo};
+
+// Turn after turn until one stops.
+fn take_turns(
+    words: &mut [u64],
+    s: Sizes,
+    near: &[u64],
+    ready: &mut [u64],
+    budget: u32,
+    ledger: &mut [u64],
+) -> Drained
+    requires { ⌜ Network (shapeOfSizes s) (now words) ⌝ }
+    requires { ⌜ Near (shapeOfSizes s) (now near) ⌝ }
+    requires { ⌜ Covered (shapeOfSizes s) (now words) (now ready) ⌝ }
+    ensures { λ r. ⌜ DrainedTo (shapeOfSizes s) (now (words .entry)) budget (now (ledger .entry)) r (now (words .exit)) (now (ledger .exit)) ⌝ }
+{
+    let limit = budget as u64;
+    let total = ledger.len();
+    let mut moves: u64 = 0;
+    let mut delivered: usize = 0;
+    loop {
+        let room = (total - delivered) as u64;
+        let turn = take_turn(words, s, near, ready, limit - moves, room);
+        match turn {
+            Turn::Stopped(why) => {
+                return Drained::Stopped {
+                    moves,
+                    delivered: delivered as u64,
+                    stop: why,
+                };
+            }
+            Turn::Passed => {}
+            Turn::Delivered(p) => {
+                ledger[delivered] = p;
+                delivered += 1;
+            }
+        }
+        moves += 1;
+    }
+}
+
+// A Drain of a network. The set of heads that may have a permitted move starts with all of them. Where nothing is held neither it nor the
+// table is needed.
+pub fn drain_network(words: &mut [u64], s: Sizes, budget: u32, ledger: &mut [u64]) -> Drained
+    requires { ⌜ Network (shapeOfSizes s) (now words) ⌝ }
+    ensures { λ r. ⌜ DrainedTo (shapeOfSizes s) (now (words .entry)) budget (now (ledger .entry)) r (now (words .exit)) (now (ledger .exit)) ⌝ }
+{
+    let accepted = words[5];
+    let delivered = words[6];
+    if accepted == delivered {
+        return Drained::Stopped {
+            moves: 0,
+            delivered: 0,
+            stop: Stop::Emptied,
+        };
+    }
+    let mut near = [0u64; 1024];
+    packet::near::fill(&mut near, s);
+    let mut ready = [0u64; 65];
+    headset::fill(&mut ready, packet::torus::nodes(s));
+    take_turns(words, s, &near, &mut ready, budget, ledger)
+}

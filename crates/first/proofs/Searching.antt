@@ -1,0 +1,301 @@
+-- First's search, step by step: at each level, what is found from the start is what is found from here on, as long as nothing was found.
+-- Order: numbers searched in order; the routes of a head; a queue as the code reads it; the invariants of the three loops; a network
+-- that holds nothing. Assumes nothing.
+use mathlib.Core.Path.{_≡_, refl, ap, sym, _∙_, subst}
+use mathlib.Core.Bool.{Bool, false, cond}
+use mathlib.Core.List.{List, [], _∷_}
+use mathlib.Core.Logic.{_⊎_, inl, inr, _≢_}
+use Prim.Native.Nat.{ℕ, zero, suc, _+_, _*_, _-_, _<_, _≤_}
+use native.Mathlib.Nat.{suc-mul, zero-mul, not-suc-le-zero, le-of-suc-le-suc, pos-of-ne-zero}
+use native.Mathlib.Numerals.{add-one}
+use native.Mathlib.Omega.{arith}
+use borrow.Author.Tests.{eq-eqb, ne-eqb}
+use lib.Dec.{T, eqb, eqb-refl}
+use lib.ListN.{length, getD, drop}
+use lib.Seq.{drop-cons, drop-length}
+use Rattle.base.specs.Sums.{sumBelow}
+use Rattle.base.specs.Tests.{elem, or-l, or-r}
+use Rattle.network.specs.declared.Found.{Found}
+use Rattle.network.specs.Sizes.{Shape, nodes, queues, adaptiveQueue, escapeQueue, capacity}
+use Rattle.network.specs.Layout.{nodeWords, queueStart, queueEnd, queueLength, held, total, accepted, delivered}
+use Rattle.network.specs.LayoutLaws.{end-next, end-length, node-words, total-zero}
+use Rattle.network.specs.Check.{packetsHeld}
+use Rattle.network.specs.CheckLaws.{Network}
+use Rattle.network.specs.Packet.{distance, heading, hopsLeft}
+use Rattle.network.specs.PacketLaws.{heading-lt}
+use Rattle.network.specs.Routes.{routes, deliver}
+use Rattle.network.specs.RoutesLaws.{Onward, route-of}
+use Rattle.network.specs.Refusals.{head, flowRules, moveRules}
+use Rattle.network.specs.RefusalLaws.{Permitted, permitted-of, permitted-by, flow-of, flow-by}
+use Rattle.network.specs.Calls.{firstOutput, firstInQueue, orElse, search, firstInNode, firstMove}
+use Rattle.network.specs.FirstLaws.{Finds, nothing, named, first-finds}
+use Rattle.packet.specs.Geometry.{shapeOfSizes}
+use Rattle.packet.specs.declared.torus.Sizes.{Sizes}
+use Rattle.queue.specs.QueueLaws.{checked-fits}
+use Rattle.routes.specs.declared.HeadRoutes.{HeadRoutes}
+use Rattle.routes.specs.AreRoutes.{AreRoutes}
+use Rattle.routes.specs.AreRoutesLaws.{routes-count, route-at}
+use Rattle.flow.specs.QueueOf.{QueueOf}
+use Rattle.flow.specs.Places.{queue-checked, count-at, head-at}
+
+-- Numbers searched in order -----------------------------------------------------------------------------------------------------------
+
+module _ (f : ℕ → Found) (i total : ℕ) where
+  step : i < total → search f i (total - i) ≡ orElse (f i) (search f (i + 1) (total - (i + 1)))
+  unfolding search
+  step h =
+      let e : total - i ≡ suc (total - (i + 1)) = omega arith in
+      ap (search f i) e ∙ ap (λ (j : ℕ). orElse (f i) (search f j (total - (i + 1)))) (sym (add-one i))
+
+  pub search-on : i < total → f i ≡ Found.Nothing → search f (i + 1) (total - (i + 1)) ≡ search f i (total - i)
+  unfolding orElse
+  search-on h e = sym (step h ∙ ap (λ (a : Found). orElse a (search f (i + 1) (total - (i + 1)))) e)
+
+  pub search-found : (n q o : ℕ) → i < total → f i ≡ Found.Move n q o → search f i (total - i) ≡ Found.Move n q o
+  unfolding orElse
+  search-found n q o h e = step h ∙ ap (λ (a : Found). orElse a (search f (i + 1) (total - (i + 1)))) e
+
+  pub search-end : total ≤ i → search f i (total - i) ≡ Found.Nothing
+  unfolding search
+  search-end h = let e : total - i ≡ 0 = omega arith in ap (search f i) e
+
+-- The routes of a head ----------------------------------------------------------------------------------------------------------------
+
+-- each is an output
+route-lt : (q p o : ℕ) → T (elem o (routes q p)) → o < queues
+route-lt q p o t = go (route-of q p o t)
+  where
+    by : (r : Onward p o) → heading (r .dimension) p < 4
+        → (o ≡ adaptiveQueue (heading (r .dimension) p)) ⊎ ((o ≡ escapeQueue (heading (r .dimension) p)) × ((j : ℕ) → j < r .dimension → distance j p ≡ 0)) → o < queues
+    by r l (inl e) = omega arith
+    by r l (inr e) = let f = e .0 in omega arith
+
+    go : ((o ≡ deliver) × (hopsLeft p ≡ 0)) ⊎ Onward p o → o < queues
+    go (inl e) = let f = e .0 in omega arith
+    go (inr r) = by r (heading-lt (r .dimension) p (r .below)) (r .by)
+
+elem-getD : (os : List ℕ) (k : ℕ) → k < length os → T (elem (getD os k 0) os)
+unfolding elem
+elem-getD [] k h = absurd (not-suc-le-zero h)
+elem-getD (o ∷ os) zero h = or-l (eqb o o) (elem o os) (eqb-refl o)
+elem-getD (o ∷ os) (suc k) h = or-r (eqb (getD os k 0) o) (elem (getD os k 0) os) (elem-getD os k (le-of-suc-le-suc h))
+
+module _ (S : Shape) (w : List ℕ) (n q : ℕ) where
+  -- an empty queue has no permitted move
+  none-of : (os : List ℕ) → length (held S w n q) ≡ 0 → firstOutput S w n q os ≡ Found.Nothing
+  unfolding firstOutput
+  none-of [] e = refl
+  none-of (o ∷ os) e =
+      ap (λ b. cond b (Found.Move n q o) (firstOutput S w n q os)) (ne-eqb (moveRules S w n q o) 0 (λ z. permitted-of S w n q o z .holds e))
+      ∙ none-of os e
+
+  pub empty : length (held S w n q) ≡ 0 → firstInQueue S w n q ≡ Found.Nothing
+  unfolding firstInQueue
+  empty e = none-of (routes q (head (held S w n q))) e
+
+  output-step : (os : List ℕ) (k : ℕ) → k < length os
+      → firstOutput S w n q (drop k os) ≡ cond (eqb (moveRules S w n q (getD os k 0)) 0) (Found.Move n q (getD os k 0)) (firstOutput S w n q (drop (k + 1) os))
+  unfolding firstOutput
+  output-step os k h =
+      ap (firstOutput S w n q) (drop-cons os k 0 h)
+      ∙ ap (λ (j : ℕ). cond (eqb (moveRules S w n q (getD os k 0)) 0) (Found.Move n q (getD os k 0)) (firstOutput S w n q (drop j os))) (sym (add-one k))
+
+  output-on : (os : List ℕ) (k : ℕ) → k < length os → moveRules S w n q (getD os k 0) ≢ 0 → firstOutput S w n q (drop (k + 1) os) ≡ firstOutput S w n q (drop k os)
+  output-on os k h ne =
+      sym (output-step os k h
+      ∙ ap (λ b. cond b (Found.Move n q (getD os k 0)) (firstOutput S w n q (drop (k + 1) os))) (ne-eqb (moveRules S w n q (getD os k 0)) 0 ne))
+
+  output-found : (os : List ℕ) (k : ℕ) → k < length os → moveRules S w n q (getD os k 0) ≡ 0 → firstOutput S w n q (drop k os) ≡ Found.Move n q (getD os k 0)
+  output-found os k h e =
+      output-step os k h
+      ∙ ap (λ b. cond b (Found.Move n q (getD os k 0)) (firstOutput S w n q (drop (k + 1) os))) (eq-eqb (moveRules S w n q (getD os k 0)) 0 e)
+
+  output-end : (os : List ℕ) (k : ℕ) → k ≡ length os → firstOutput S w n q (drop k os) ≡ Found.Nothing
+  unfolding firstOutput
+  output-end os k e = ap (λ (i : ℕ). firstOutput S w n q (drop i os)) e ∙ ap (firstOutput S w n q) (drop-length os)
+
+  -- a route of a head that is there is permitted exactly when the flow rule lets it pass
+  flow-passes : (o : ℕ) → n < nodes S → q < queues → length (held S w n q) ≢ 0 → T (elem o (routes q (head (held S w n q))))
+      → flowRules S w n q o ≡ 0 → moveRules S w n q o ≡ 0
+  flow-passes o hn hq some t e =
+      permitted-by S w n q o
+      (record { node = hn; queue = hq; output = route-lt q (head (held S w n q)) o t; holds = some; route = t; room = flow-of S w n q o e })
+
+  flow-refuses : (o : ℕ) → flowRules S w n q o ≢ 0 → moveRules S w n q o ≢ 0
+  flow-refuses o ne z = ne (flow-by S w n q o (permitted-of S w n q o z .room))
+
+-- A queue as the code reads it --------------------------------------------------------------------------------------------------------
+
+-- its words start at `start`, its number held is not 0, and r are the routes of the word behind that
+pub record Reading (s : Sizes) (w : List ℕ) (n q start : ℕ) (r : HeadRoutes) : Type 0 where
+  pub queue : QueueOf s w n q
+  pub at : start ≡ queueStart (shapeOfSizes s) n q
+  pub some : getD w start 0 ≢ 0
+  pub are : AreRoutes q (getD w (start + 1) 0) r
+
+-- the routes of its head, and what First finds by those from the j-th on
+abbrev pub headRoutes : Sizes → List ℕ → ℕ → ℕ → List ℕ
+headRoutes s w n q = routes q (head (held (shapeOfSizes s) w n q))
+
+abbrev pub FoundFrom : Sizes → List ℕ → ℕ → ℕ → ℕ → Type 0
+FoundFrom s w n q j = firstOutput (shapeOfSizes s) w n q (drop j (headRoutes s w n q)) ≡ firstInQueue (shapeOfSizes s) w n q
+
+pub found-from-first : (s : Sizes) (w : List ℕ) (n q : ℕ) → FoundFrom s w n q 0
+unfolding firstInQueue
+found-from-first s w n q = refl
+
+module _ {s : Sizes} {w : List ℕ} {n q start : ℕ} {r : HeadRoutes} (k : Reading s w n q start r) where
+  holds : length (held (shapeOfSizes s) w n q) ≢ 0
+  holds z = k .some (count-at s w n q (k .queue) start (k .at) ∙ z)
+
+  routes-are : AreRoutes q (head (held (shapeOfSizes s) w n q)) r
+  routes-are =
+      let some : 0 < length (held (shapeOfSizes s) w n q) = pos-of-ne-zero holds in
+      subst (λ (p : ℕ). AreRoutes q p r) (head-at s w n q (k .queue) start (k .at) some) (k .are)
+
+  listed : (j : ℕ) → j < r .count → j < length (headRoutes s w n q)
+  listed j h = let e = routes-count routes-are in omega arith
+
+  is-route : (j : ℕ) → j < r .count → T (elem (getD (headRoutes s w n q) j 0) (headRoutes s w n q))
+  is-route j h = elem-getD (headRoutes s w n q) j (listed j h)
+
+  pub output-lt : (j : ℕ) → j < r .count → getD (r .outputs) j 0 < queues
+  output-lt j h =
+      let e = route-at routes-are j h in
+      let l = route-lt q (head (held (shapeOfSizes s) w n q)) (getD (headRoutes s w n q) j 0) (is-route j h) in
+      omega arith
+
+  -- the next route, where the flow rule refuses this one; the move, where it lets it pass; and nothing, where no route is left
+  pub route-on : (j : ℕ) → j < r .count → flowRules (shapeOfSizes s) w n q (getD (r .outputs) j 0) ≢ 0 → FoundFrom s w n q j → FoundFrom s w n q (j + 1)
+  route-on j h ne inv =
+      output-on (shapeOfSizes s) w n q (headRoutes s w n q) j (listed j h)
+      (flow-refuses (shapeOfSizes s) w n q (getD (headRoutes s w n q) j 0)
+      (λ z. ne (ap (flowRules (shapeOfSizes s) w n q) (route-at routes-are j h) ∙ z)))
+      ∙ inv
+
+  pub route-found : (j : ℕ) → j < r .count → flowRules (shapeOfSizes s) w n q (getD (r .outputs) j 0) ≡ 0 → FoundFrom s w n q j
+      → firstInQueue (shapeOfSizes s) w n q ≡ Found.Move n q (getD (r .outputs) j 0)
+  route-found j h e inv =
+      sym inv
+      ∙ output-found (shapeOfSizes s) w n q (headRoutes s w n q) j (listed j h)
+      (flow-passes (shapeOfSizes s) w n q (getD (headRoutes s w n q) j 0) (k .queue .node) (k .queue .queue) holds (is-route j h)
+      (ap (flowRules (shapeOfSizes s) w n q) (sym (route-at routes-are j h)) ∙ e))
+      ∙ ap (Found.Move n q) (sym (route-at routes-are j h))
+
+  pub route-none : (j : ℕ) → j ≤ r .count → r .count ≤ j → FoundFrom s w n q j → firstInQueue (shapeOfSizes s) w n q ≡ Found.Nothing
+  route-none j h l inv =
+      sym inv ∙ output-end (shapeOfSizes s) w n q (headRoutes s w n q) j (let e = routes-count routes-are in omega arith)
+
+-- a queue's words end among those lent
+pub end-at : (s : Sizes) (w : List ℕ) (n q : ℕ) → QueueOf s w n q → (start slots : ℕ) → start ≡ queueStart (shapeOfSizes s) n q → slots ≡ capacity (shapeOfSizes s) q
+    → start + (1 + slots) ≤ length w
+unfolding queueEnd queueLength
+end-at s w n q k start slots e f =
+    let l : queueStart (shapeOfSizes s) n q + (1 + capacity (shapeOfSizes s) q) ≤ length w =
+    end-length (shapeOfSizes s) w n q (checked-fits (shapeOfSizes s) w n q (queue-checked s w n q k)) in
+    omega arith
+
+-- a queue that holds none
+pub queue-none : (s : Sizes) (w : List ℕ) (n q start : ℕ) → QueueOf s w n q → start ≡ queueStart (shapeOfSizes s) n q → getD w start 0 ≡ 0
+    → firstInQueue (shapeOfSizes s) w n q ≡ Found.Nothing
+queue-none s w n q start k at z = empty (shapeOfSizes s) w n q (sym (count-at s w n q k start at) ∙ z)
+
+-- The invariants ----------------------------------------------------------------------------------------------------------------------
+
+-- what is left of a queue's routes is found
+pub record AtRoute (s : Sizes) (w : List ℕ) (n q count j : ℕ) : Type 0 where
+  pub within : j ≤ count
+  pub left : FoundFrom s w n q j
+
+-- nothing was found yet, and what is left is found: of a node's queues, of the nodes
+pub record AtQueue (s : Sizes) (w : List ℕ) (n : ℕ) (found : Bool) (start q : ℕ) : Type 0 where
+  pub nothing : found ≡ false
+  pub within : q ≤ queues
+  pub place : start ≡ queueStart (shapeOfSizes s) n q
+  pub left : search (λ r. firstInQueue (shapeOfSizes s) w n r) q (queues - q) ≡ firstInNode (shapeOfSizes s) w n
+
+pub record AtNode (s : Sizes) (w : List ℕ) (found : Bool) (start n : ℕ) : Type 0 where
+  pub nothing : found ≡ false
+  pub within : n ≤ nodes (shapeOfSizes s)
+  pub place : start ≡ queueStart (shapeOfSizes s) n 0
+  pub left : search (λ m. firstInNode (shapeOfSizes s) w m) n (nodes (shapeOfSizes s) - n) ≡ firstMove (shapeOfSizes s) w
+
+module _ {s : Sizes} {w : List ℕ} {n : ℕ} where
+  pub queues-begin : {found : Bool} {start : ℕ} → found ≡ false → start ≡ queueStart (shapeOfSizes s) n 0 → AtQueue s w n found start 0
+  unfolding firstInNode
+  queues-begin f e = record { nothing = f; within = omega arith; place = e; left = refl }
+
+  pub queue-next : {found later : Bool} {start q slots : ℕ} → AtQueue s w n found start q → later ≡ false → q < queues → slots ≡ capacity (shapeOfSizes s) q
+      → firstInQueue (shapeOfSizes s) w n q ≡ Found.Nothing → AtQueue s w n later (start + (1 + slots)) (q + 1)
+  unfolding queueEnd queueLength
+  queue-next {start = start} {q = q} {slots = slots} i f h c e =
+      let next : queueStart (shapeOfSizes s) n q + (1 + capacity (shapeOfSizes s) q) ≡ queueStart (shapeOfSizes s) n (suc q) = end-next (shapeOfSizes s) n q in
+      let at : start ≡ queueStart (shapeOfSizes s) n q = i .place in
+      let one : queueStart (shapeOfSizes s) n (suc q) ≡ queueStart (shapeOfSizes s) n (q + 1) = ap (queueStart (shapeOfSizes s) n) (sym (add-one q)) in
+      record {
+        nothing = f;
+        within = omega arith;
+        place = omega arith;
+        left = search-on (λ r. firstInQueue (shapeOfSizes s) w n r) q queues h e ∙ i .left;
+      }
+
+  pub queue-found : {found : Bool} {start q o : ℕ} → AtQueue s w n found start q → q < queues → firstInQueue (shapeOfSizes s) w n q ≡ Found.Move n q o
+      → firstInNode (shapeOfSizes s) w n ≡ Found.Move n q o
+  queue-found {q = q} {o = o} i h e = sym (i .left) ∙ search-found (λ r. firstInQueue (shapeOfSizes s) w n r) q queues n q o h e
+
+  queues-none : {found : Bool} {start q : ℕ} → AtQueue s w n found start q → queues ≤ q → firstInNode (shapeOfSizes s) w n ≡ Found.Nothing
+  queues-none {q = q} i h = sym (i .left) ∙ search-end (λ r. firstInQueue (shapeOfSizes s) w n r) q queues h
+
+-- the words of a node end where the next node's begin
+after-node : (S : Shape) (n : ℕ) → queueStart S n queues ≡ queueStart S (n + 1) 0
+unfolding queueStart sumBelow
+after-node S n =
+    let all = node-words S in
+    let more = suc-mul n (nodeWords S) in
+    let one : (n + 1) * nodeWords S ≡ suc n * nodeWords S = ap (λ (m : ℕ). m * nodeWords S) (add-one n) in
+    omega arith
+
+before-nodes : (S : Shape) → 8 ≡ queueStart S 0 0
+unfolding queueStart sumBelow
+before-nodes S = let z = zero-mul (nodeWords S) in omega arith
+
+module _ {s : Sizes} {w : List ℕ} where
+  pub nodes-begin : AtNode s w false 8 0
+  unfolding firstMove
+  nodes-begin = record { nothing = refl; within = omega arith; place = before-nodes (shapeOfSizes s); left = ap (search (λ m. firstInNode (shapeOfSizes s) w m) 0) (omega arith) }
+
+  pub node-next : {found : Bool} {start start′ n q : ℕ} {found′ : Bool} → AtNode s w found start n → n < nodes (shapeOfSizes s) → AtQueue s w n found′ start′ q → queues ≤ q
+      → AtNode s w found′ start′ (n + 1)
+  node-next {start′ = start′} {n = n} {q = q} i h j l =
+      let at : start′ ≡ queueStart (shapeOfSizes s) n q = j .place in
+      let b : q ≤ queues = j .within in
+      let last : q ≡ queues = omega arith in
+      let same : queueStart (shapeOfSizes s) n q ≡ queueStart (shapeOfSizes s) n queues = ap (queueStart (shapeOfSizes s) n) last in
+      let next = after-node (shapeOfSizes s) n in
+      record {
+        nothing = j .nothing;
+        within = omega arith;
+        place = omega arith;
+        left = search-on (λ m. firstInNode (shapeOfSizes s) w m) n (nodes (shapeOfSizes s)) h (queues-none j l) ∙ i .left;
+      }
+
+  pub node-found : {found : Bool} {start n q o : ℕ} → AtNode s w found start n → n < nodes (shapeOfSizes s) → firstInNode (shapeOfSizes s) w n ≡ Found.Move n q o
+      → firstMove (shapeOfSizes s) w ≡ Found.Move n q o
+  node-found {n = n} {q = q} {o = o} i h e = sym (i .left) ∙ search-found (λ m. firstInNode (shapeOfSizes s) w m) n (nodes (shapeOfSizes s)) n q o h e
+
+  pub nodes-none : {found : Bool} {start n : ℕ} → AtNode s w found start n → nodes (shapeOfSizes s) ≤ n → firstMove (shapeOfSizes s) w ≡ Found.Nothing
+  nodes-none {n = n} i h = sym (i .left) ∙ search-end (λ m. firstInNode (shapeOfSizes s) w m) n (nodes (shapeOfSizes s)) h
+
+-- A network that holds nothing --------------------------------------------------------------------------------------------------------
+
+-- as many packets were delivered as accepted: no queue holds one, and none can move
+pub nothing-held : (S : Shape) (w : List ℕ) → Network S w → accepted w ≡ delivered w → firstMove S w ≡ Found.Nothing
+unfolding packetsHeld
+nothing-held S w N e = go (firstMove S w) (first-finds S w)
+  where
+    none : total S w length ≡ 0
+    none = let c : delivered w + total S w length ≡ accepted w = N .counted in omega arith
+
+    go : (f : Found) → Finds (Permitted S w) f → f ≡ Found.Nothing
+    go f nothing = refl
+    go f (named {n} {q} {o} P) = absurd (P .holds (ap length (total-zero S w n q none (P .node) (P .queue))))

@@ -1,0 +1,309 @@
+-- `first::first_move` meets its contract. The loops' invariants: nothing was found, and what is left of the nodes, of a node's queues,
+-- or of a queue's routes, is found. Assumes nothing.
+use mathlib.Core.Path.{_≡_, sym, _∙_}
+use mathlib.Core.Bool.{true, false, true≢false}
+use mathlib.Core.Logic.{_⊎_, inl, inr, ⊎-elim}
+use Prim.Native.Nat.{ℕ, _+_, _-_, _<_, _≤_}
+use native.Mathlib.Omega.{arith}
+use borrow.Author.Needs.{needs}
+use lib.ListN.{length}
+use Rattle.network.specs.declared.Found.{Found}
+use Rattle.network.specs.Sizes.{nodes, queues}
+use Rattle.network.specs.Layout.{accepted, delivered}
+use Rattle.network.specs.Calls.{firstInQueue, firstMove}
+use Rattle.packet.specs.Geometry.{shapeOfSizes}
+use Rattle.packet.specs.GeometryLaws.{inRange-rings, rings-nodes}
+use Rattle.flow.specs.QueueOf.{QueueOf}
+use Rattle.flow.specs.Places.{header, inside-at}
+use Rattle.first.proofs.Searching.{Reading, AtRoute, AtQueue, AtNode, found-from-first, output-lt, route-on, route-found, route-none, end-at, queue-none, queues-begin, queue-next, queue-found, nodes-begin, node-next, node-found, nodes-none, nothing-held}
+use Rattle.first.proofs.first_move.Statement.{statement}
+use Rattle.first.proofs.first_move.Tie as tie
+
+abbrev Inv-loop2 : tie.InvT-loop2
+Inv-loop2 words s found₀ node₀ queue₀ output₀ start total n q outputs count k₀ found node queue output k = (found ≡ false) × AtRoute s words n q count k
+
+abbrev μ-loop2 : tie.MeasureT-loop2
+μ-loop2 words s found₀ node₀ queue₀ output₀ start total n q outputs count k₀ found node queue output k = count - k
+
+abbrev Inv-loop : tie.InvT-loop
+Inv-loop words s found₀ node₀ queue₀ output₀ start₀ total n q₀ found node queue output start q = AtQueue s words n found start q
+
+abbrev μ-loop : tie.MeasureT-loop
+μ-loop words s found₀ node₀ queue₀ output₀ start₀ total n q₀ found node queue output start q = queues - q
+
+abbrev Inv-search : tie.InvT-search
+Inv-search words s found₀ node₀ queue₀ output₀ start₀ total n₀ found node queue output start n = AtNode s words found start n
+
+abbrev μ-search : tie.MeasureT-search
+μ-search words s found₀ node₀ queue₀ output₀ start₀ total n₀ found node queue output start n = total - n
+
+-- What is known in a turn -------------------------------------------------------------------------------------------------------------
+
+-- before the first test
+abbrev entry : tie.At-search Inv-loop2 μ-loop2 Inv-loop μ-loop Inv-search μ-search → tie.Start Inv-loop2 μ-loop2 Inv-loop μ-loop Inv-search μ-search
+entry c = c .before .before .before .before .before .before
+
+node-lt : (c : tie.In-search Inv-loop2 μ-loop2 Inv-loop μ-loop Inv-search μ-search) → c .before .search .n < nodes (shapeOfSizes (entry (c .before) .args .s))
+node-lt c = let e = c .before .before .nodes .ensures in omega (arith, e, c .search-test .taken)
+
+queue-of : (c : tie.In-loop Inv-loop2 μ-loop2 Inv-loop μ-loop Inv-search μ-search)
+    → QueueOf (entry (c .before .before .before) .args .s) (entry (c .before .before .before) .args .words .now) (c .before .before .before .search .n) (c .before .loop .q)
+queue-of c = record { network = entry (c .before .before .before) .pre; node = node-lt (c .before .before); queue = c .loop-test .taken }
+
+reading : (c : tie.After-routes Inv-loop2 μ-loop2 Inv-loop μ-loop Inv-search μ-search)
+    → Reading (entry (c .before .before .before .before .before .before .before) .args .s) (entry (c .before .before .before .before .before .before .before) .args .words .now) (c .before .before .before .before .before .before .before .search .n) (c .before .before .before .before .before .loop .q) (c .before .before .before .before .before .loop .start) (c .routes .result)
+reading c =
+    let f = c .before .before .before .before in
+    record { queue = queue-of f; at = f .before .loop .inv .place; some = c .before .before .if2 .taken; are = c .routes .ensures }
+
+-- the two words of the queue are among those lent
+two-words : (c : tie.In-loop Inv-loop2 μ-loop2 Inv-loop μ-loop Inv-search μ-search) → c .before .loop .start + 1 < length (entry (c .before .before .before) .args .words .now)
+two-words c =
+    let a = entry (c .before .before .before) .args in
+    inside-at (a .s) (a .words .now) (c .before .before .before .search .n) (c .before .loop .q) (queue-of c) (c .before .loop .start) (c .before .loop .inv .place)
+
+-- Nothing held ------------------------------------------------------------------------------------------------------------------------
+
+shared-slice-read-if1 : tie.Need-shared-slice-read-if1 Inv-loop2 μ-loop2 Inv-loop μ-loop Inv-search μ-search
+shared-slice-read-if1 c =
+    let f = c .before .before in
+    let l = header (shapeOfSizes (f .args .s)) (f .args .words .now) (f .pre) in
+    omega arith
+
+shared-slice-read-if1-2 : tie.Need-shared-slice-read-if1-2 Inv-loop2 μ-loop2 Inv-loop μ-loop Inv-search μ-search
+shared-slice-read-if1-2 c =
+    let f = c .before .before .before in
+    let l = header (shapeOfSizes (f .args .s)) (f .args .words .now) (f .pre) in
+    omega arith
+
+returns : tie.Need-returns Inv-loop2 μ-loop2 Inv-loop μ-loop Inv-search μ-search
+unfolding accepted delivered
+returns c =
+    let f = c .before .before .before .before in
+    sym (nothing-held (shapeOfSizes (f .args .s)) (f .args .words .now) (f .pre) (c .if1 .taken))
+
+-- The search begins -------------------------------------------------------------------------------------------------------------------
+
+nodes-requires : tie.Need-nodes-requires Inv-loop2 μ-loop2 Inv-loop μ-loop Inv-search μ-search
+nodes-requires c κs = let f = c .before .before .before .before in inRange-rings (f .args .s) (f .pre .in-range)
+
+search-holds : tie.Need-search-holds Inv-loop2 μ-loop2 Inv-loop μ-loop Inv-search μ-search
+search-holds c = nodes-begin
+
+loop-holds : tie.Need-loop-holds Inv-loop2 μ-loop2 Inv-loop μ-loop Inv-search μ-search
+loop-holds c = let i = c .before .search .inv in queues-begin (i .nothing) (i .place)
+
+mul-if2 : tie.Need-mul-if2 Inv-loop2 μ-loop2 Inv-loop μ-loop Inv-search μ-search
+mul-if2 c = omega (arith, two-words c, entry (c .before .before .before) .good)
+
+shared-slice-read-if2 : tie.Need-shared-slice-read-if2 Inv-loop2 μ-loop2 Inv-loop μ-loop Inv-search μ-search
+shared-slice-read-if2 c = omega (arith, two-words (c .before))
+
+add-routes : tie.Need-add-routes Inv-loop2 μ-loop2 Inv-loop μ-loop Inv-search μ-search
+add-routes c = let f = c .before .before in omega (arith, two-words f, entry (f .before .before .before) .good)
+
+mul-routes : tie.Need-mul-routes Inv-loop2 μ-loop2 Inv-loop μ-loop Inv-search μ-search
+mul-routes c = let f = c .before .before in omega (arith, two-words f, entry (f .before .before .before) .good)
+
+shared-slice-read-routes : tie.Need-shared-slice-read-routes Inv-loop2 μ-loop2 Inv-loop μ-loop Inv-search μ-search
+shared-slice-read-routes c = two-words (c .before .before .before)
+
+routes-requires : tie.Need-routes-requires Inv-loop2 μ-loop2 Inv-loop μ-loop Inv-search μ-search
+routes-requires c κs = search needs
+
+-- A queue's routes --------------------------------------------------------------------------------------------------------------------
+
+loop2-holds : tie.Need-loop2-holds Inv-loop2 μ-loop2 Inv-loop μ-loop Inv-search μ-search
+loop2-holds c =
+    let f = c .before .before .before .before .before in
+    let a = entry (f .before .before .before) .args in (
+      f .before .loop .inv .nothing,
+      record { within = omega arith; left = found-from-first (a .s) (a .words .now) (f .before .before .before .search .n) (f .before .loop .q) },
+    )
+
+mul-o : tie.Need-mul-o Inv-loop2 μ-loop2 Inv-loop μ-loop Inv-search μ-search
+mul-o c = omega (arith, c .loop2-test .taken, c .before .before .before .routes .ensures .few)
+
+array-read-o : tie.Need-array-read-o Inv-loop2 μ-loop2 Inv-loop μ-loop Inv-search μ-search
+array-read-o c = omega (arith, c .loop2-test .taken, c .before .before .before .routes .ensures .few)
+
+flow-rules-requires : tie.Need-flow-rules-requires Inv-loop2 μ-loop2 Inv-loop μ-loop Inv-search μ-search
+flow-rules-requires c κs =
+    let k = reading (c .before .before .before) in
+    record { network = k .queue .network; node = k .queue .node; queue = output-lt k (c .before .loop2 .k) (c .loop2-test .taken) }
+
+add-k : tie.Need-add-k Inv-loop2 μ-loop2 Inv-loop μ-loop Inv-search μ-search
+add-k c =
+    let f = c .before .before in
+    omega (arith, f .loop2-test .taken, f .before .before .before .routes .ensures .few)
+
+loop2-less : tie.Need-loop2-less Inv-loop2 μ-loop2 Inv-loop μ-loop Inv-search μ-search
+loop2-less c = omega (arith, c .before .before .loop2-test .taken)
+
+loop2-again : tie.Need-loop2-again Inv-loop2 μ-loop2 Inv-loop μ-loop Inv-search μ-search
+loop2-again c =
+    let f = c .before .before in
+    let i = f .before .loop2 in (
+      i .inv .0,
+      record {
+        within = omega (arith, f .loop2-test .taken);
+        left = route-on (reading (f .before .before .before)) (i .k) (f .loop2-test .taken) (λ z. c .if3 .left (c .before .flow-rules .ensures ∙ z)) (i .inv .1 .left);
+      },
+    )
+
+-- A node's queues ---------------------------------------------------------------------------------------------------------------------
+
+nothing-in-queue : (c : tie.Joined2 Inv-loop2 μ-loop2 Inv-loop μ-loop Inv-search μ-search)
+    → (c .if2 .found ≡ false)
+    × (firstInQueue (shapeOfSizes (entry (c .before .before .before .before .before) .args .s)) (entry (c .before .before .before .before .before) .args .words .now) (c .before .before .before .before .before .search .n) (c .before .before .before .loop .q) ≡ Found.Nothing)
+nothing-in-queue c =
+    let f = c .before .before in
+    let a = entry (f .before .before .before) .args in
+    ⊎-elim
+    (λ v. (
+      v .6 ∙ v .4 .inv .0,
+      route-none
+          (reading (record { before = record { before = record { before = c .before; if2 = v .0 }; shared-slice-known5 = v .1 }; routes = v .2 }))
+          (v .4 .k) (v .4 .inv .1 .within) (v .5 .left) (v .4 .inv .1 .left),
+    ))
+    (λ v. (
+      v .1 ∙ f .before .loop .inv .nothing,
+      queue-none (a .s) (a .words .now) (f .before .before .before .search .n) (f .before .loop .q) (f .before .loop .start) (queue-of f) (f .before .loop .inv .place) (v .0 .left),
+    ))
+    (c .if2 .came)
+
+-- where the next queue's words start is among the words too, or just behind them
+next-start : (c : tie.After-capacity Inv-loop2 μ-loop2 Inv-loop μ-loop Inv-search μ-search) → c .before .before .before .before .loop .start + (1 + c .capacity .result) ≤ length (entry (c .before .before .before .before .before .before) .args .words .now)
+next-start c =
+    let f = c .before .before .before in
+    let a = entry (f .before .before .before) .args in
+    end-at (a .s) (a .words .now) (f .before .before .before .search .n) (f .before .loop .q) (queue-of f) (f .before .loop .start) (c .capacity .result) (f .before .loop .inv .place) (c .capacity .ensures (a .s .x) (a .s .y))
+
+capacity-requires : tie.Need-capacity-requires Inv-loop2 μ-loop2 Inv-loop μ-loop Inv-search μ-search
+capacity-requires c κs = search needs
+
+add-start : tie.Need-add-start Inv-loop2 μ-loop2 Inv-loop μ-loop Inv-search μ-search
+add-start c = omega (arith, next-start c, entry (c .before .before .before .before .before .before) .good)
+
+add-start-2 : tie.Need-add-start-2 Inv-loop2 μ-loop2 Inv-loop μ-loop Inv-search μ-search
+add-start-2 c = omega (arith, next-start c, entry (c .before .before .before .before .before .before) .good)
+
+add-q : tie.Need-add-q Inv-loop2 μ-loop2 Inv-loop μ-loop Inv-search μ-search
+add-q c = omega (arith, c .before .before .before .loop-test .taken)
+
+loop-less : tie.Need-loop-less Inv-loop2 μ-loop2 Inv-loop μ-loop Inv-search μ-search
+loop-less c = omega (arith, c .before .before .before .loop-test .taken)
+
+loop-again : tie.Need-loop-again Inv-loop2 μ-loop2 Inv-loop μ-loop Inv-search μ-search
+loop-again c =
+    let f = c .before .before .before in
+    let a = entry (f .before .before .before) .args in
+    let none = nothing-in-queue (c .before) in
+    queue-next (f .before .loop .inv) (none .0) (f .loop-test .taken) (c .capacity .ensures (a .s .x) (a .s .y)) (none .1)
+
+-- The nodes ---------------------------------------------------------------------------------------------------------------------------
+
+add-n : tie.Need-add-n Inv-loop2 μ-loop2 Inv-loop μ-loop Inv-search μ-search
+add-n c =
+    let f = c .before .before in
+    let s = entry (f .before) .args .s in
+    let l = node-lt f in
+    let m = rings-nodes s (inRange-rings s (entry (f .before) .pre .in-range)) in
+    omega (arith, l, m)
+
+search-less : tie.Need-search-less Inv-loop2 μ-loop2 Inv-loop μ-loop Inv-search μ-search
+search-less c = omega (arith, c .before .before .search-test .taken)
+
+search-again : tie.Need-search-again Inv-loop2 μ-loop2 Inv-loop μ-loop Inv-search μ-search
+search-again c =
+    let f = c .before .before in
+    node-next (f .before .search .inv) (node-lt f) (c .before .loop .inv) (c .loop-test .left)
+
+-- The two answers ---------------------------------------------------------------------------------------------------------------------
+
+outcome : (c : tie.Left-search Inv-loop2 μ-loop2 Inv-loop μ-loop Inv-search μ-search)
+    → ((c .search-test .found ≡ false) × (firstMove (shapeOfSizes (entry (c .before) .args .s)) (entry (c .before) .args .words .now) ≡ Found.Nothing))
+    ⊎ ((c .search-test .found ≡ true)
+    × (firstMove (shapeOfSizes (entry (c .before) .args .s)) (entry (c .before) .args .words .now) ≡ Found.Move (c .search-test .node) (c .search-test .queue) (c .search-test .output)))
+outcome c =
+    let i = c .before .search .inv in
+    let e = c .before .before .nodes .ensures in
+    ⊎-elim
+    (λ v. inl (v .1 ∙ i .nothing, nodes-none i (omega (arith, e, v .0 .left))))
+    (λ v.
+    inr (
+      v .12,
+      node-found i (node-lt (record { before = c .before; search-test = v .0 }))
+          (queue-found (v .1 .inv) (v .2 .taken)
+          (route-found
+          (reading
+          (record {
+            before =
+                record {
+                  before =
+                      record {
+                        before =
+                            record {
+                              before = record { before = record { before = record { before = c .before; search-test = v .0 }; loop = v .1 }; loop-test = v .2 };
+                              shared-slice-known4 = v .3;
+                            };
+                        if2 = v .4;
+                      };
+                  shared-slice-known5 = v .5;
+                };
+            routes = v .6;
+          }))
+          (v .8 .k) (v .9 .taken) (sym (v .10 .ensures) ∙ v .11 .taken) (v .8 .inv .1 .left)))
+          ∙ same (sym (v .13)) (sym (v .14)) (sym (v .15)),
+    ))
+    (c .search-test .came)
+  where
+    same : {n n′ q q′ o o′ : ℕ} → n ≡ n′ → q ≡ q′ → o ≡ o′ → Found.Move n q o ≡ Found.Move n′ q′ o′
+    same en eq eo = cc
+
+returns-2 : tie.Need-returns-2 Inv-loop2 μ-loop2 Inv-loop μ-loop Inv-search μ-search
+returns-2 c = ⊎-elim (λ v. absurd (true≢false (sym (c .if4 .taken) ∙ v .0))) (λ v. sym (v .1)) (outcome (c .before))
+
+returns-3 : tie.Need-returns-3 Inv-loop2 μ-loop2 Inv-loop μ-loop Inv-search μ-search
+returns-3 c = ⊎-elim (λ v. sym (v .1)) (λ v. absurd (true≢false (sym (v .0) ∙ c .if4 .left))) (outcome (c .before))
+
+pub first-move-spec : {M : Type 1} → statement M
+first-move-spec =
+    tie.close
+    (tie.spec
+    Inv-loop2
+    μ-loop2
+    Inv-loop
+    μ-loop
+    Inv-search
+    μ-search
+    shared-slice-read-if1
+    shared-slice-read-if1-2
+    returns
+    nodes-requires
+    search-holds
+    loop-holds
+    mul-if2
+    shared-slice-read-if2
+    add-routes
+    mul-routes
+    shared-slice-read-routes
+    routes-requires
+    loop2-holds
+    mul-o
+    array-read-o
+    flow-rules-requires
+    add-k
+    loop2-less
+    loop2-again
+    capacity-requires
+    add-start
+    add-start-2
+    add-q
+    loop-less
+    loop-again
+    add-n
+    search-less
+    search-again
+    returns-2
+    returns-3)

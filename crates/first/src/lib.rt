@@ -1,0 +1,92 @@
+// The search of First, on words that have passed the check: the first permitted move in the order node, queue, route. Every function equals
+// the definition of its name in the crate `network` (specs/Calls.antt).
+use flow::ACCEPTED_AT;
+use flow::DELIVERED_AT;
+use flow::flow_rules;
+use flow::may_flow;
+use network::Found;
+use packet::torus::Sizes;
+use packet::torus::nodes;
+use queue::capacity;
+use queue::queue_start;
+use routes::QUEUES;
+use routes::routes;
+ghost use mathlib.Core.Path.{_≡_};
+ghost use Rattle.network.specs.CheckLaws.{Network};
+ghost use Rattle.network.specs.Calls.{firstInQueue, firstMove};
+ghost use Rattle.packet.specs.Geometry.{shapeOfSizes};
+ghost use Rattle.packet.specs.Near.{Near};
+ghost use Rattle.flow.specs.QueueOf.{QueueOf};
+
+// The first permitted move of the network. Where as many packets were delivered as accepted, none is held. The place of the words
+// goes on from queue to queue, and an empty queue costs no more than its count word.
+pub fn first_move(words: &[u64], s: Sizes) -> Found
+    requires { ⌜ Network (shapeOfSizes s) (now words) ⌝ }
+    ensures { λ r. ⌜ r ≡ firstMove (shapeOfSizes s) (now (words .entry)) ⌝ }
+{
+    if words[ACCEPTED_AT] == words[DELIVERED_AT] {
+        return Found::Nothing;
+    }
+    let mut found = false;
+    let mut node: u64 = 0;
+    let mut queue: u64 = 0;
+    let mut output: u64 = 0;
+    let mut start: usize = 8;
+    let total = nodes(s);
+    'search: for n in 0..total {
+        for q in 0..QUEUES {
+            if words[start] != 0 {
+                let r = routes(q, words[start + 1]);
+                let outputs = r.outputs;
+                let count = r.count;
+                for k in 0..count {
+                    let o = outputs[k as usize];
+                    if flow_rules(words, s, n, q, o) == 0 {
+                        found = true;
+                        node = n;
+                        queue = q;
+                        output = o;
+                        break 'search;
+                    }
+                }
+            }
+            let slots = capacity(s.escape, s.adaptive, s.injection, q);
+            start += 1 + slots as usize;
+        }
+    }
+    if found {
+        Found::Move {
+            node,
+            queue,
+            output,
+        }
+    } else {
+        Found::Nothing
+    }
+}
+
+// The first permitted move of the head of queue q of node n, if it has one.
+pub fn first_in_queue(words: &[u64], s: Sizes, near: &[u64], n: u64, q: u64) -> Found
+    requires { ⌜ QueueOf s (now words) n q ⌝ }
+    requires { ⌜ Near (shapeOfSizes s) (now near) ⌝ }
+    ensures { λ r. ⌜ r ≡ firstInQueue (shapeOfSizes s) (now (words .entry)) n q ⌝ }
+{
+    let start = queue_start(s.escape, s.adaptive, s.injection, n, q);
+    if words[start] == 0 {
+        return Found::Nothing;
+    }
+    let r = routes(q, words[start + 1]);
+    let outputs = r.outputs;
+    let count = r.count;
+    for k in 0..count {
+        let o = outputs[k as usize];
+        if may_flow(words, s, near, n, q, o) {
+            return Found::Move {
+                node: n,
+                queue: q,
+                output: o,
+            };
+        }
+    }
+    Found::Nothing
+}

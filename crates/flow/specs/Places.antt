@@ -1,0 +1,85 @@
+-- The words of a checked network that the code reads: those of the header, and of a queue the number held and the head, which stand where
+-- the queue starts. Order: the header; what the check says of the queue; the two words; the same at the place that the code computes.
+-- Assumes nothing.
+use mathlib.Core.Path.{_≡_, ap, sym, _∙_}
+use mathlib.Core.List.{List}
+use Prim.Native.Nat.{ℕ, _+_, _-_, _<_, _≤_}
+use native.Mathlib.Nat.{add-zero}
+use native.Mathlib.Omega.{arith}
+use lib.ListN.{length, getD, drop}
+use lib.Seq.{getD-take, getD-drop}
+use Rattle.base.specs.Parts.{getD-span}
+use Rattle.network.specs.Sizes.{Shape, nodes, queues, capacity}
+use Rattle.network.specs.SizesLaws.{range-of, capacity-pos}
+use Rattle.network.specs.Layout.{need, queueStart, queueEnd, queueLength, queuePart, countOf, packetsOf, held}
+use Rattle.network.specs.LayoutLaws.{end-start, end-length}
+use Rattle.network.specs.CheckLaws.{Network}
+use Rattle.network.specs.Refusals.{head}
+use Rattle.packet.specs.Geometry.{shapeOfSizes}
+use Rattle.packet.specs.declared.torus.Sizes.{Sizes}
+use Rattle.queue.specs.Queue.{Checked}
+use Rattle.queue.specs.QueueLaws.{checked-fits, checked-count, places}
+use Rattle.flow.specs.QueueOf.{QueueOf}
+
+-- the header is among the words
+pub header : (S : Shape) (w : List ℕ) → Network S w → 8 ≤ length w
+unfolding need
+header S w k = let l = k .long in omega arith
+
+pub checked-of : (S : Shape) (w : List ℕ) (n q : ℕ) → Network S w → n < nodes S → q < queues → Checked S w n q
+checked-of S w n q k hn hq =
+    let f = k .queue n q hn hq in
+    record { sizes = k .in-range; node = hn; queue = hq; long = k .long; count = f .few; zeros = f .unused }
+
+-- The two words -----------------------------------------------------------------------------------------------------------------------
+
+inside : (S : Shape) (w : List ℕ) (n q : ℕ) → Checked S w n q → queueStart S n q + 1 < length w
+unfolding queueEnd queueLength
+inside S w n q k =
+    let e : queueStart S n q + (1 + capacity S q) ≤ length w = end-length S w n q (checked-fits S w n q k) in
+    let p = capacity-pos S q (range-of S (k .sizes)) in
+    omega arith
+
+wide : (S : Shape) (n q : ℕ) (c : ℕ) → c ≤ capacity S q → c < queueEnd S n q - queueStart S n q
+wide S n q c h = let e = end-start S n q in omega arith
+
+count-word : (S : Shape) (w : List ℕ) (n q : ℕ) → Checked S w n q → getD w (queueStart S n q) 0 ≡ length (held S w n q)
+unfolding countOf queuePart
+count-word S w n q k =
+    ap (λ (i : ℕ). getD w i 0) (sym (add-zero (queueStart S n q)))
+    ∙ sym (getD-span w (queueStart S n q) (queueEnd S n q) 0 (wide S n q 0 (omega arith)))
+    ∙ sym (checked-count S w n q k)
+
+head-word : (S : Shape) (w : List ℕ) (n q : ℕ) → Checked S w n q → 0 < length (held S w n q)
+    → getD w (queueStart S n q + 1) 0 ≡ head (held S w n q)
+unfolding head held packetsOf queuePart
+head-word S w n q k h =
+    let part : List ℕ = queuePart S w n q in
+    let some : 0 < countOf part = let e = checked-count S w n q k in omega arith in
+    let few : countOf part ≤ capacity S q = k .count in
+    sym (getD-span w (queueStart S n q) (queueEnd S n q) 1 (wide S n q 1 (omega arith)))
+    ∙ sym (getD-drop 1 part 0 0)
+    ∙ sym (getD-take (countOf part) (drop 1 part) 0 0 some)
+
+-- At the place that the code computes -------------------------------------------------------------------------------------------------
+
+module _ (s : Sizes) (w : List ℕ) (n q : ℕ) (k : QueueOf s w n q) where
+  pub queue-checked : Checked (shapeOfSizes s) w n q
+  queue-checked = checked-of (shapeOfSizes s) w n q (k .network) (k .node) (k .queue)
+
+  -- what the functions that compute places ask
+  pub asked : (s .escape ≤ 8) × (s .adaptive ≤ 8) × (s .injection ≤ 8) × (n < 256) × (q < queues)
+  asked = places (s .x) (s .y) (s .escape) (s .adaptive) (s .injection) queue-checked
+
+  pub inside-at : (start : ℕ) → start ≡ queueStart (shapeOfSizes s) n q → start + 1 < length w
+  inside-at start e = let i = inside (shapeOfSizes s) w n q queue-checked in omega arith
+
+  pub count-at : (start : ℕ) → start ≡ queueStart (shapeOfSizes s) n q → getD w start 0 ≡ length (held (shapeOfSizes s) w n q)
+  count-at start e = ap (λ (i : ℕ). getD w i 0) e ∙ count-word (shapeOfSizes s) w n q queue-checked
+
+  pub head-at : (start : ℕ) → start ≡ queueStart (shapeOfSizes s) n q → 0 < length (held (shapeOfSizes s) w n q)
+      → getD w (start + 1) 0 ≡ head (held (shapeOfSizes s) w n q)
+  head-at start e h = ap (λ (i : ℕ). getD w (i + 1) 0) e ∙ head-word (shapeOfSizes s) w n q queue-checked h
+
+  pub held-few : length (held (shapeOfSizes s) w n q) ≤ capacity (shapeOfSizes s) q
+  held-few = let e = checked-count (shapeOfSizes s) w n q queue-checked in let f = queue-checked .count in omega arith

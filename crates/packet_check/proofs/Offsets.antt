@@ -1,0 +1,90 @@
+-- An offset by how far it stands above -128: its hops forward and back, its limits, a coordinate moved by it. Assumes nothing.
+use mathlib.Core.Path.{_≡_, refl, ap, ap₂, sym, _∙_}
+use mathlib.Core.Logic.{inl, inr}
+use mathlib.Core.Bool.{Bool, true, false, _&&_, false≢true}
+use Prim.Native.Nat.{ℕ, _+_, _*_, _-_, _/_, _%_, _<_, _≤_}
+use native.Mathlib.Nat.{div-one}
+use native.Mathlib.Decide.{decLt}
+use native.Mathlib.Omega.{arith}
+use borrow.Author.Tests.{le-ltb}
+use lib.Dec.{ltb, ltb→lt, lt→ltb}
+use Rattle.base.specs.Tests.{and-l, and-r, and-i}
+use Rattle.base.specs.Bools.{same-test, and-stop, and-on}
+use Rattle.network.specs.Sizes.{plus, minus}
+use Rattle.network.specs.Packet.{signed, forward, backward, place, offset, hops}
+use Rattle.network.specs.PacketLaws.{signed-small, signed-large, hops-plus, hops-minus}
+use Rattle.packet.specs.GeometryLaws.{moved-is}
+use Rattle.packet_check.specs.PacketLimits.{OneWay}
+
+-- 128 more than the number that a byte stands for
+signed-above : (b : ℕ) → b < 256 → (b + 128) % 256 + backward (signed b) ≡ 128 + forward (signed b)
+unfolding forward backward
+signed-above b h = go (decLt b 128)
+  where
+    go : Dec (b < 128) → (b + 128) % 256 + backward (signed b) ≡ 128 + forward (signed b)
+    go (yes l) = rw (signed-small b l) (omega arith)
+    go (no g) = rw (signed-large b (omega arith)) (omega arith)
+
+-- the byte of dimension i, wherever it is taken from
+pub above-is : (i p b : ℕ) → b ≡ p / place i % 256 → (b + 128) % 256 + hops (minus i) p ≡ 128 + hops (plus i) p
+unfolding offset
+above-is i p b e =
+    ap₂ (λ (u v : ℕ). (u + 128) % 256 + v) e (hops-minus i p)
+    ∙ signed-above (p / place i % 256) (omega arith)
+    ∙ ap (λ (v : ℕ). 128 + v) (sym (hops-plus i p))
+
+pub byte-of-first : (i p : ℕ) → i ≡ 0 → p / 256 % 256 ≡ p / place i % 256
+unfolding place
+byte-of-first i p e = ap (λ (j : ℕ). p / place j % 256) (sym e)
+
+pub byte-of-second : (i p : ℕ) → i ≡ 1 → p % 256 ≡ p / place i % 256
+unfolding place
+byte-of-second i p e = ap (λ (n : ℕ). n % 256) (sym (div-one p)) ∙ ap (λ (j : ℕ). p / place j % 256) (sym e)
+
+module _ (forward back above f b : ℕ) where
+  pub too-far : forward ≤ f → false ≡ (ltb f forward && ltb b back)
+  too-far l = sym (and-stop _ _ (le-ltb f forward l))
+
+  pub none-back : back ≤ b → false ≡ (ltb f forward && ltb b back)
+  none-back l = sym (ap (λ (t : Bool). ltb f forward && t) (le-ltb b back l) ∙ never (ltb f forward))
+    where
+      never : (t : Bool) → t && false ≡ false
+      never true = refl
+      never false = refl
+
+  -- both tests by one: where neither limit is 0, an offset's place above the lowest that passes is compared with how many pass
+  pub one-test : 1 ≤ forward → forward ≤ 16 → 1 ≤ back → back ≤ 16 → above < 256 → OneWay f b → above + b ≡ 128 + f
+      → ltb ((above + 127 + back) % 256) (forward + back - 1) ≡ (ltb f forward && ltb b back)
+  one-test hf lf hb lb l way e =
+      same-test (ltb shifted passing) (ltb f forward && ltb b back)
+      (λ t. let p = there way (ltb→lt shifted passing t) in and-i (ltb f forward) (ltb b back) (lt→ltb f forward (p .0)) (lt→ltb b back (p .1)))
+      (λ t. lt→ltb shifted passing (again way (ltb→lt f forward (and-l (ltb f forward) (ltb b back) t)) (ltb→lt b back (and-r (ltb f forward) (ltb b back) t))))
+    where
+      shifted : ℕ
+      shifted = (above + 127 + back) % 256
+
+      passing : ℕ
+      passing = forward + back - 1
+
+      there : OneWay f b → (above + 127 + back) % 256 < forward + back - 1 → (f < forward) × (b < back)
+      there (inl z) m = (omega arith, omega arith)
+      there (inr z) m = (omega arith, omega arith)
+
+      again : OneWay f b → f < forward → b < back → (above + 127 + back) % 256 < forward + back - 1
+      again (inl z) m n = omega arith
+      again (inr z) m n = omega arith
+
+pub moved-above : (c k above f b : ℕ) → 0 < k → b ≤ k → above + b ≡ 128 + f → 128 < above + k → (c + above + k - 128) % k ≡ (c + (f * 1 + b * (k - 1))) % k
+moved-above c k above f b h l e m = ap (λ (n : ℕ). n % k) (same) ∙ moved-is c f b k h l
+  where
+    same : c + above + k - 128 ≡ c + f + k - b
+    same = omega arith
+
+-- two tests in a row with the rest, by both together
+pub pair-stop : (a b x : Bool) → a && b ≡ false → a && (b && x) ≡ false
+pair-stop true b x e = and-stop b x e
+pair-stop false b x e = refl
+
+pub pair-on : (a b x : Bool) → a && b ≡ true → a && (b && x) ≡ x
+pair-on true b x e = and-on b x e
+pair-on false b x e = absurd (false≢true e)

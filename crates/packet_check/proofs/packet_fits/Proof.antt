@@ -1,0 +1,44 @@
+-- `packet_check::packet_fits` meets its contract. Assumes nothing.
+use borrow.Author.Needs.{needs}
+use borrow.Author.Tests.{not-true, not-false}
+use mathlib.Core.Path.{_≡_, ap₂, sym, _∙_}
+use mathlib.Core.Bool.{true}
+use Prim.Native.Nat.{ℕ}
+use lib.Dec.{eqb}
+use Rattle.base.specs.Tests.{true-T}
+use Rattle.base.specs.Bools.{and-stop, and-on}
+use Rattle.packet_check.specs.PacketLimits.{belowLimits, fitsWithin}
+use Rattle.packet_check.specs.LimitLaws.{no-round}
+use Rattle.packet_check.proofs.packet_fits.Statement.{statement}
+use Rattle.packet_check.proofs.packet_fits.Tie as tie
+
+below-limits-requires : tie.Need-below-limits-requires
+below-limits-requires c κs = search needs
+
+returns : tie.Need-returns
+unfolding fitsWithin
+returns c = sym (and-stop _ _ (sym (c .before .below-limits .ensures) ∙ not-true _ (c .if1 .taken)))
+
+abbrev start : tie.Else1 → tie.Start
+start c = c .before .before .before .before
+
+below : (c : tie.Else1) → belowLimits (start c .args .l) (start c .args .p) ≡ true
+below c = sym (c .before .below-limits .ensures) ∙ not-false _ (c .if1 .left)
+
+destination-requires : tie.Need-destination-requires
+destination-requires c κs = search needs
+
+led-to-requires : tie.Need-led-to-requires
+led-to-requires c κs =
+    let st = start (c .before) in
+    (st .pre .0, no-round _ _ _ (st .pre .1) (true-T _ (below (c .before))), st .pre .2)
+
+returns-2 : tie.Need-returns-2
+unfolding fitsWithin
+returns-2 c =
+    ap₂ (λ (a b : ℕ). eqb a b) (c .before .destination .ensures) (c .led-to .ensures) ∙ sym (and-on _ _ (below (c .before .before)))
+
+pub packet-fits-spec : {M : Type 1} → statement M
+packet-fits-spec =
+    tie.close
+    (tie.spec below-limits-requires returns destination-requires led-to-requires returns-2)

@@ -1,0 +1,358 @@
+-- A packet's clauses of the check are the limits on its hops, with the node that they lead to. Order: the limits by the queue's direction; limits
+-- are small; the limits from the clauses, and the clauses from the limits. `d` is a direction, `i` a dimension. Assumes nothing.
+use mathlib.Core.Path.{_≡_, refl, ap, sym, _∙_}
+use mathlib.Core.Logic.{_⊎_, inl, inr, _≢_}
+use mathlib.Core.Bool.{Bool, true, false, cond, not, _&&_}
+use Prim.Native.Nat.{ℕ, zero, suc, _+_, _/_, _%_, _<_, _≤_}
+use native.Mathlib.Nat.{lt-of-lt-of-le}
+use native.Mathlib.Decide.{ℕ-discrete, decLt}
+use native.Mathlib.Omega.{arith}
+use borrow.Author.Tests.{eq-eqb, ne-eqb, lt-ltb, le-ltb}
+use lib.Dec.{T, ltb, eqb, ltb→lt, lt→ltb, eqb→eq}
+use Rattle.base.specs.Tests.{and-l, and-r, and-i, T-true, passed?, T-false}
+use Rattle.base.specs.Bools.{same-test}
+use Rattle.network.specs.Sizes.{Shape, size, nodes, dimensions, directions, dimensionOf, directionOf, isEscape, isPlus, plus, minus, injectionQueue}
+use Rattle.network.specs.Packet.{destination, distance, hops}
+use Rattle.network.specs.PacketLaws.{one-way, distance-is, hops-le, dimension-lt}
+use Rattle.network.specs.Torus.{movedBy}
+use Rattle.network.specs.TorusLaws.{Torus, movedBy-lt}
+use Rattle.network.specs.Check.{isQueueOf, reach, opposite, packetFits}
+use Rattle.network.specs.CheckLaws.{PacketFits, packet-of, packet-by, eq-T, reach-least, reach-other, opposite-dimension, opposite-lt}
+use Rattle.packet.specs.Geometry.{shapeOfSizes, RingsFit}
+use Rattle.packet.specs.GeometryLaws.{size-x, size-y}
+use Rattle.packet.specs.declared.torus.Sizes.{Sizes}
+use Rattle.packet_check.specs.PacketLimits.{half, limit, limitsOf, LimitsFit, belowLimits, fitsWithin, NoRound}
+use Rattle.packet_check.specs.declared.Limits.{Limits}
+
+-- The limits by the queue's direction -------------------------------------------------------------------------------------------------
+
+module _ (S : Shape) (q d : ℕ) where
+  pub limit-injection : q ≡ injectionQueue → limit S q d ≡ half S (dimensionOf d) + 1
+  unfolding limit
+  limit-injection e = rw (eq-eqb q injectionQueue e)
+
+  pub limit-own : q ≢ injectionQueue → directionOf q ≡ d → limit S q d ≡ half S (dimensionOf d)
+  unfolding limit
+  limit-own ne e = rw (ne-eqb q injectionQueue ne, eq-eqb (directionOf q) d e)
+
+  pub limit-back : q ≢ injectionQueue → directionOf q ≢ d → dimensionOf (directionOf q) ≡ dimensionOf d → limit S q d ≡ 1
+  unfolding limit
+  limit-back ne nd e = rw (ne-eqb q injectionQueue ne, ne-eqb (directionOf q) d nd, eq-eqb (dimensionOf (directionOf q)) (dimensionOf d) e)
+
+  pub limit-lower : q ≢ injectionQueue → T (isEscape q) → dimensionOf d < dimensionOf (directionOf q) → limit S q d ≡ 1
+  unfolding limit
+  limit-lower ne t l =
+      let nd : directionOf q ≢ d = λ e. differ (directionOf q) d l e in
+      let ni : dimensionOf (directionOf q) ≢ dimensionOf d = λ e. apart (dimensionOf (directionOf q)) (dimensionOf d) l e in
+      rw (
+        ne-eqb q injectionQueue ne,
+        ne-eqb (directionOf q) d nd,
+        ne-eqb (dimensionOf (directionOf q)) (dimensionOf d) ni,
+        T-true (isEscape q) t,
+        lt-ltb (dimensionOf d) (dimensionOf (directionOf q)) l,
+      )
+    where
+      differ : (a b : ℕ) → dimensionOf b < dimensionOf a → a ≡ b → ⊥
+      differ a b l e = omega arith
+
+      apart : (a b : ℕ) → b < a → a ≡ b → ⊥
+      apart a b l e = omega arith
+
+  -- in every other case
+  pub limit-adaptive : q ≢ injectionQueue → dimensionOf (directionOf q) ≢ dimensionOf d → isEscape q ≡ false → limit S q d ≡ half S (dimensionOf d) + 1
+  unfolding limit
+  limit-adaptive ne ni t =
+      let nd : directionOf q ≢ d = λ e. ni (ap dimensionOf e) in
+      rw (ne-eqb q injectionQueue ne, ne-eqb (directionOf q) d nd, ne-eqb (dimensionOf (directionOf q)) (dimensionOf d) ni, t)
+
+  pub limit-higher : q ≢ injectionQueue → dimensionOf (directionOf q) < dimensionOf d → limit S q d ≡ half S (dimensionOf d) + 1
+  unfolding limit
+  limit-higher ne l =
+      let ni : dimensionOf (directionOf q) ≢ dimensionOf d = λ e. apart (dimensionOf (directionOf q)) (dimensionOf d) l e in
+      let nd : directionOf q ≢ d = λ e. ni (ap dimensionOf e) in
+      rw (ne-eqb q injectionQueue ne, ne-eqb (directionOf q) d nd, ne-eqb (dimensionOf (directionOf q)) (dimensionOf d) ni, le-ltb (dimensionOf d) (dimensionOf (directionOf q)) (omega arith))
+      (other (isEscape q))
+    where
+      apart : (a b : ℕ) → a < b → a ≡ b → ⊥
+      apart a b l e = omega arith
+
+      other : (b : Bool) → cond (b && false) 1 (half S (dimensionOf d) + 1) ≡ half S (dimensionOf d) + 1
+      other true = refl
+      other false = refl
+
+  -- none is more than one above half of the ring
+  pub limit-most : limit S q d ≤ half S (dimensionOf d) + 1
+  unfolding limit
+  limit-most = go (eqb q injectionQueue) (eqb (directionOf q) d) (eqb (dimensionOf (directionOf q)) (dimensionOf d)) (isEscape q && ltb (dimensionOf d) (dimensionOf (directionOf q)))
+    where
+      go : (a b c e : Bool)
+          → cond a (half S (dimensionOf d) + 1) (cond b (half S (dimensionOf d)) (cond c 1 (cond e 1 (half S (dimensionOf d) + 1)))) ≤ half S (dimensionOf d) + 1
+      go true b c e = omega arith
+      go false true c e = omega arith
+      go false false true e = omega arith
+      go false false false true = omega arith
+      go false false false false = omega arith
+
+-- Limits are small --------------------------------------------------------------------------------------------------------------------
+
+half-most : (k : ℕ) → 1 ≤ k → k / 2 + 1 ≤ k
+half-most k h = omega arith
+
+pub limits-fit : (s : Sizes) (q : ℕ) → RingsFit s → LimitsFit s (limitsOf (shapeOfSizes s) q)
+unfolding limitsOf half
+limits-fit s q r =
+    record {
+      x-plus = small 0 (s .x) (r .x-least) (size-x s 0 refl);
+      x-minus = small 1 (s .x) (r .x-least) (size-x s 0 refl);
+      y-plus = small 2 (s .y) (r .y-least) (size-y s 1 refl);
+      y-minus = small 3 (s .y) (r .y-least) (size-y s 1 refl);
+    }
+  where
+    small : (d k : ℕ) → 1 ≤ k → k ≡ size (shapeOfSizes s) (dimensionOf d) → limit (shapeOfSizes s) q d ≤ k
+    small d k l e =
+        let m : limit (shapeOfSizes s) q d ≤ size (shapeOfSizes s) (dimensionOf d) / 2 + 1 = limit-most (shapeOfSizes s) q d in
+        let h : k / 2 + 1 ≤ k = half-most k l in
+        omega arith
+
+-- hops that are below limits, direction by direction
+record Below (l : Limits) (p : ℕ) : Type 0 where
+  x-plus : hops 0 p < l .0
+  x-minus : hops 1 p < l .1
+  y-plus : hops 2 p < l .2
+  y-minus : hops 3 p < l .3
+
+below : (l : Limits) (p : ℕ) → T (belowLimits l p) → Below l p
+unfolding belowLimits
+below l p t =
+    record {
+      x-plus = ltb→lt (hops 0 p) (l .0) (and-l a (b && (c && d)) t);
+      x-minus = ltb→lt (hops 1 p) (l .1) (and-l b (c && d) (and-r a (b && (c && d)) t));
+      y-plus = ltb→lt (hops 2 p) (l .2) (and-l c d (and-r b (c && d) (and-r a (b && (c && d)) t)));
+      y-minus = ltb→lt (hops 3 p) (l .3) (and-r c d (and-r b (c && d) (and-r a (b && (c && d)) t)));
+    }
+  where
+    a : Bool
+    a = ltb (hops 0 p) (l .0)
+
+    b : Bool
+    b = ltb (hops 1 p) (l .1)
+
+    c : Bool
+    c = ltb (hops 2 p) (l .2)
+
+    d : Bool
+    d = ltb (hops 3 p) (l .3)
+
+-- below limits that fit, no ring is gone round
+pub no-round : (s : Sizes) (l : Limits) (p : ℕ) → LimitsFit s l → T (belowLimits l p) → NoRound s p
+no-round s l p f t =
+    let b = below l p t in
+    record {
+      x-plus = lt-of-lt-of-le (b .x-plus) (f .x-plus);
+      x-minus = lt-of-lt-of-le (b .x-minus) (f .x-minus);
+      y-plus = lt-of-lt-of-le (b .y-plus) (f .y-plus);
+      y-minus = lt-of-lt-of-le (b .y-minus) (f .y-minus);
+    }
+
+-- The limits from the clauses, and the clauses from the limits ------------------------------------------------------------------------
+
+below-by : (S : Shape) (q p : ℕ) → ((d : ℕ) → d < directions → hops d p < limit S q d) → T (belowLimits (limitsOf S q) p)
+unfolding belowLimits limitsOf
+below-by S q p h =
+    and-i (t 0) (t 1 && (t 2 && t 3)) (passes 0 (omega arith))
+    (and-i (t 1) (t 2 && t 3) (passes 1 (omega arith))
+    (and-i (t 2) (t 3) (passes 2 (omega arith)) (passes 3 (omega arith))))
+  where
+    t : ℕ → Bool
+    t d = ltb (hops d p) (limit S q d)
+
+    passes : (d : ℕ) → d < directions → T (t d)
+    passes d k = lt→ltb (hops d p) (limit S q d) (h d k)
+
+below-of : (S : Shape) (q p : ℕ) → T (belowLimits (limitsOf S q) p) → (d : ℕ) → d < directions → hops d p < limit S q d
+unfolding limitsOf
+below-of S q p t d k = go (below (limitsOf S q) p t) d k
+  where
+    none : (d : ℕ) → suc (suc (suc (suc d))) < directions → ⊥
+    none d k = omega arith
+
+    go : Below (limitsOf S q) p → (d : ℕ) → d < directions → hops d p < limit S q d
+    go b zero k = b .x-plus
+    go b (suc zero) k = b .x-minus
+    go b (suc (suc zero)) k = b .y-plus
+    go b (suc (suc (suc zero))) k = b .y-minus
+    go b (suc (suc (suc (suc d)))) k = absurd (none d k)
+
+-- in a queue of a dimension one more than the distance is bounded
+reach-own : (q p : ℕ) → q ≢ injectionQueue → reach (dimensionOf (directionOf q)) q p ≡ distance (dimensionOf (directionOf q)) p + 1
+unfolding reach isQueueOf
+reach-own q p ne = rw (ne-eqb q injectionQueue ne, eq-eqb (dimensionOf (directionOf q)) (dimensionOf (directionOf q)) refl)
+
+reach-injection : (i q p : ℕ) → q ≡ injectionQueue → reach i q p ≡ distance i p
+unfolding reach isQueueOf
+reach-injection i q p e = rw (eq-eqb q injectionQueue e)
+
+-- the other direction along the queue's dimension
+is-opposite : (e d : ℕ) → e ≢ d → dimensionOf e ≡ dimensionOf d → opposite e ≡ d
+unfolding opposite
+is-opposite e d ne s = go (ℕ-discrete (e % 2) 0)
+  where
+    go : Dec (e % 2 ≡ 0) → cond (isPlus e) (minus (dimensionOf e)) (plus (dimensionOf e)) ≡ d
+    go (yes z) = rw (eq-eqb (e % 2) 0 z) (omega arith)
+    go (no z) = rw (ne-eqb (e % 2) 0 z) (omega arith)
+
+-- a direction is not its opposite, and the hops both ways are the distance
+away : (e : ℕ) → e ≢ opposite e
+unfolding opposite
+away e s = by (ℕ-discrete (e % 2) 0)
+  where
+    by : Dec (e % 2 ≡ 0) → ⊥
+    by (yes z) = let t : e ≡ minus (dimensionOf e) = rw (eq-eqb (e % 2) 0 z) at s in omega arith
+    by (no z) = let t : e ≡ plus (dimensionOf e) = rw (ne-eqb (e % 2) 0 z) at s in omega arith
+
+both-ways : (d p : ℕ) → distance (dimensionOf d) p ≡ hops d p + hops (opposite d) p
+unfolding opposite
+both-ways d p = by (ℕ-discrete (d % 2) 0) (distance-is (dimensionOf d) p)
+  where
+    same : (e : ℕ) → e ≡ d → hops e p ≡ hops d p
+    same e s = ap (λ (x : ℕ). hops x p) s
+
+    by : Dec (d % 2 ≡ 0) → distance (dimensionOf d) p ≡ hops (plus (dimensionOf d)) p + hops (minus (dimensionOf d)) p
+        → distance (dimensionOf d) p ≡ hops d p + hops (cond (isPlus d) (minus (dimensionOf d)) (plus (dimensionOf d))) p
+    by (yes z) e = rw (eq-eqb (d % 2) 0 z) (let w = same (plus (dimensionOf d)) (omega arith) in omega arith)
+    by (no z) e = rw (ne-eqb (d % 2) 0 z) (let w = same (minus (dimensionOf d)) (omega arith) in omega arith)
+
+module _ (S : Shape) (n q p : ℕ) where
+  hops-below : PacketFits S n q p → (d : ℕ) → d < directions → hops d p < limit S q d
+  unfolding half
+  hops-below f d h =
+      go (ℕ-discrete q injectionQueue) (ℕ-discrete (directionOf q) d) (ℕ-discrete (dimensionOf (directionOf q)) (dimensionOf d)) (passed? (isEscape q))
+      (decLt (dimensionOf d) (dimensionOf (directionOf q)))
+    where
+      -- what half of the ring bounds
+      far : hops d p < half S (dimensionOf d) + 1
+      far =
+          let a = hops-le d p in
+          let b = reach-least (dimensionOf d) q p in
+          let m : reach (dimensionOf d) q p ≤ size S (dimensionOf d) / 2 = f .near (dimensionOf d) (dimension-lt d h) in
+          omega arith
+
+      own : q ≢ injectionQueue → directionOf q ≡ d → hops d p < limit S q d
+      own ne e =
+          let a = hops-le d p in
+          let b : reach (dimensionOf d) q p ≡ distance (dimensionOf d) p + 1 = rw e at (reach-own q p ne) in
+          let m : reach (dimensionOf d) q p ≤ size S (dimensionOf d) / 2 = f .near (dimensionOf d) (dimension-lt d h) in
+          let l : limit S q d ≡ size S (dimensionOf d) / 2 = limit-own S q d ne e in
+          omega arith
+
+      back : q ≢ injectionQueue → directionOf q ≢ d → dimensionOf (directionOf q) ≡ dimensionOf d → hops d p < limit S q d
+      back ne nd s =
+          let z : hops d p ≡ 0 = ap (λ (e : ℕ). hops e p) (sym (is-opposite (directionOf q) d nd s)) ∙ f .sign ne in
+          let l = limit-back S q d ne nd s in
+          omega arith
+
+      lower : q ≢ injectionQueue → T (isEscape q) → dimensionOf d < dimensionOf (directionOf q) → hops d p < limit S q d
+      lower ne t b =
+          let a = hops-le d p in
+          let z = f .lower t (dimensionOf d) b in
+          let l = limit-lower S q d ne t b in
+          omega arith
+
+      go : Dec (q ≡ injectionQueue) → Dec (directionOf q ≡ d) → Dec (dimensionOf (directionOf q) ≡ dimensionOf d) → T (isEscape q) ⊎ T (not (isEscape q))
+          → Dec (dimensionOf d < dimensionOf (directionOf q)) → hops d p < limit S q d
+      go (yes e) x y z w = let l = limit-injection S q d e in let m = far in omega arith
+      go (no ne) (yes e) y z w = own ne e
+      go (no ne) (no nd) (yes s) z w = back ne nd s
+      go (no ne) (no nd) (no ni) (inl t) (yes b) = lower ne t b
+      go (no ne) (no nd) (no ni) (inl t) (no g) = let l = limit-higher S q d ne (omega arith) in let m = far in omega arith
+      go (no ne) (no nd) (no ni) (inr t) w = let l = limit-adaptive S q d ne ni (T-false (isEscape q) t) in let m = far in omega arith
+
+  -- the distance along a dimension is bounded as the hops both ways are, since there are none one way
+  distance-below : (i : ℕ) → hops (plus i) p < half S i + 1 → hops (minus i) p < half S i + 1 → distance i p ≤ half S i
+  distance-below i a b = go (one-way i p) (distance-is i p)
+    where
+      go : (hops (plus i) p ≡ 0) ⊎ (hops (minus i) p ≡ 0) → distance i p ≡ hops (plus i) p + hops (minus i) p → distance i p ≤ half S i
+      go (inl z) e = omega arith
+      go (inr z) e = omega arith
+
+  clauses : Torus S → n < nodes S → ((d : ℕ) → d < directions → hops d p < limit S q d) → movedBy S p n ≡ destination p → PacketFits S n q p
+  unfolding half
+  clauses torus hn h e =
+      record {
+        addressed = let l = movedBy-lt S n p torus hn in omega arith;
+        arrives = e;
+        near = λ i k. near i k (ℕ-discrete q injectionQueue) (ℕ-discrete (dimensionOf (directionOf q)) i);
+        sign = sign;
+        lower = lower;
+      }
+    where
+      own-lt : directionOf q < directions
+      own-lt = omega arith
+
+      sign : q ≢ injectionQueue → hops (opposite (directionOf q)) p ≡ 0
+      sign ne =
+          let d = opposite (directionOf q) in
+          let l : limit S q d ≡ 1 = limit-back S q d ne (away (directionOf q)) (sym (opposite-dimension (directionOf q))) in
+          let b = h d (opposite-lt (directionOf q) own-lt) in
+          omega arith
+
+      lower : T (isEscape q) → (i : ℕ) → i < dimensionOf (directionOf q) → distance i p ≡ 0
+      lower t i k = go (distance-is i p)
+        where
+          escape : q ≢ injectionQueue
+          escape z = no-escape q (ltb→lt directions q t) z
+            where
+              no-escape : (q : ℕ) → directions < q → q ≡ 0 → ⊥
+              no-escape q l z = omega arith
+
+          none : (d : ℕ) → dimensionOf d ≡ i → d < directions → hops d p ≡ 0
+          none d s b =
+              let l = limit-lower S q d escape t (omega arith) in
+              let m = h d b in
+              omega arith
+
+          go : distance i p ≡ hops (plus i) p + hops (minus i) p → distance i p ≡ 0
+          go e =
+              let a = none (plus i) (omega arith) (omega arith) in
+              let b = none (minus i) (omega arith) (omega arith) in
+              omega arith
+
+      far : (i : ℕ) → i < dimensions → distance i p ≤ size S i / 2
+      far i k = distance-below i (each (plus i) (omega arith) (omega arith)) (each (minus i) (omega arith) (omega arith))
+        where
+          each : (d : ℕ) → d < directions → dimensionOf d ≡ i → hops d p < half S i + 1
+          each d l e =
+              let a = h d l in
+              let b = limit-most S q d in
+              let c : half S (dimensionOf d) ≡ half S i = ap (half S) e in
+              omega arith
+
+      near : (i : ℕ) → i < dimensions → Dec (q ≡ injectionQueue) → Dec (dimensionOf (directionOf q) ≡ i) → reach i q p ≤ size S i / 2
+      near i k (yes z) d = let r = reach-injection i q p z in let l = far i k in omega arith
+      near i k (no ne) (no a) = let r = reach-other i q p a in let l = far i k in omega arith
+      near i k (no ne) (yes a) = rw (← a) within
+        where
+          within : reach (dimensionOf (directionOf q)) q p ≤ size S (dimensionOf (directionOf q)) / 2
+          within =
+              let r = reach-own q p ne in
+              let z = sign ne in
+              let b : hops (directionOf q) p < limit S q (directionOf q) = h (directionOf q) own-lt in
+              let l : limit S q (directionOf q) ≡ size S (dimensionOf (directionOf q)) / 2 = limit-own S q (directionOf q) ne refl in
+              let e = both-ways (directionOf q) p in
+              omega arith
+
+  -- the check of a packet is that of its limits
+  pub fits-is : Torus S → n < nodes S → packetFits S n q p ≡ fitsWithin S n (limitsOf S q) p
+  unfolding fitsWithin
+  fits-is torus hn =
+      same-test (packetFits S n q p) (near && there)
+      (λ t. let f = packet-of S n q p t in and-i near there (below-by S q p (hops-below f)) (eq-T (destination p) (movedBy S p n) (sym (f .arrives))))
+      (λ t.
+      packet-by S n q p
+      (clauses torus hn (below-of S q p (and-l near there t)) (sym (eqb→eq (destination p) (movedBy S p n) (and-r near there t)))))
+    where
+      near : Bool
+      near = belowLimits (limitsOf S q) p
+
+      there : Bool
+      there = eqb (destination p) (movedBy S p n)

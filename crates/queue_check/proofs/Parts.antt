@@ -1,0 +1,73 @@
+-- A queue's clauses by its words: which of them fails first, or that the packets' clauses are left. Assumes nothing.
+use mathlib.Core.Path.{_≡_, refl, ap, ap₂, sym, _∙_}
+use mathlib.Core.Bool.{Bool, true, false, _&&_}
+use mathlib.Core.List.{List, [], _∷_}
+use Prim.Native.Nat.{ℕ, _+_, _<_, _≤_}
+use native.Mathlib.Omega.{arith}
+use borrow.Author.Tests.{le-leb, lt-leb}
+use lib.Dec.{leb, eqb}
+use lib.ListN.{length, take, drop}
+use lib.Seq.{drop-drop}
+use Rattle.base.specs.Tests.{allOf}
+use Rattle.base.specs.Sums.{sumOf}
+use Rattle.base.specs.Bools.{and-stop, and-on}
+use Rattle.network.specs.Sizes.{Shape, nodes, capacity}
+use Rattle.network.specs.Packet.{work}
+use Rattle.network.specs.Layout.{countOf, packetsOf, unusedOf, queueLength}
+use Rattle.network.specs.TorusLaws.{Torus}
+use Rattle.network.specs.Check.{packetFits}
+use Rattle.packet_check.specs.declared.Limits.{Limits}
+use Rattle.packet_check.specs.PacketLimits.{limitsOf, fitsWithin}
+use Rattle.packet_check.specs.LimitLaws.{fits-is}
+use Rattle.queue_check.specs.QueueTally.{tally, partFits}
+
+-- the same test of every element
+all-same : (f g : ℕ → Bool) (l : List ℕ) → ((x : ℕ) → f x ≡ g x) → allOf f l ≡ allOf g l
+unfolding allOf
+all-same f g [] h = refl
+all-same f g (x ∷ xs) h = ap₂ (λ a b. a && b) (h x) (all-same f g xs h)
+
+module _ (S : Shape) (n q : ℕ) (part : List ℕ) (long : length part ≡ queueLength S q) where
+  -- it holds more than its capacity
+  pub part-over : length part ≤ countOf part → partFits S n q part ≡ false
+  unfolding partFits queueLength
+  part-over h = and-stop _ _ (lt-leb (countOf part) (capacity S q) (omega arith))
+
+  few : countOf part < length part → leb (countOf part) (capacity S q) ≡ true
+  unfolding queueLength
+  few h = le-leb (countOf part) (capacity S q) (omega arith)
+
+  unused : drop (countOf part + 1) part ≡ unusedOf part
+  unfolding unusedOf
+  unused = ap (λ (k : ℕ). drop k part) (let e : countOf part + 1 ≡ 1 + countOf part = omega arith in e) ∙ sym (drop-drop (countOf part) 1 part)
+
+  -- an unused word is not 0
+  pub part-used : countOf part < length part → allOf (eqb 0) (drop (countOf part + 1) part) ≡ false → partFits S n q part ≡ false
+  unfolding partFits
+  part-used h e = and-on _ _ (few h) ∙ and-stop _ _ (ap (allOf (eqb 0)) (sym unused) ∙ e)
+
+  -- it is for the packets to decide
+  pub part-packets : countOf part < length part → allOf (eqb 0) (drop (countOf part + 1) part) ≡ true
+      → partFits S n q part ≡ allOf (packetFits S n q) (packetsOf part)
+  unfolding partFits
+  part-packets h e = and-on _ _ (few h) ∙ and-on _ _ (ap (allOf (eqb 0)) (sym unused) ∙ e)
+
+  pub part-limits : (l : Limits) → l ≡ limitsOf S q → Torus S → n < nodes S → countOf part < length part → allOf (eqb 0) (drop (countOf part + 1) part) ≡ true
+      → partFits S n q part ≡ allOf (fitsWithin S n l) (packetsOf part)
+  part-limits l el torus hn h e =
+      part-packets h e
+      ∙ all-same (packetFits S n q) (fitsWithin S n (limitsOf S q)) (packetsOf part) (λ p. fits-is S n q p torus hn)
+      ∙ ap (λ (k : Limits). allOf (fitsWithin S n k) (packetsOf part)) (sym el)
+
+  -- it holds nothing
+  pub part-empty : countOf part ≡ 0 → countOf part < length part → allOf (eqb 0) (drop (countOf part + 1) part) ≡ true
+      → record { ok = true; held = 0; work = 0 } ≡ tally (partFits S n q part) (length (packetsOf part)) (sumOf work (packetsOf part))
+  unfolding tally allOf sumOf packetsOf
+  part-empty z h e =
+      ap₂ (λ (a : Bool) (l : List ℕ). tally a (length l) (sumOf work l)) (sym (part-packets h e ∙ ap (allOf (packetFits S n q)) nothing)) (sym nothing)
+    where
+      nothing : packetsOf part ≡ []
+      nothing = none (countOf part) (drop 1 part) z
+        where
+          none : (k : ℕ) (l : List ℕ) → k ≡ 0 → take k l ≡ []
+          none k l z = ap (λ (j : ℕ). take j l) z

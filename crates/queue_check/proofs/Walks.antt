@@ -1,0 +1,250 @@
+-- The queues of a node one by one, and the nodes of a network one by one. Order: what every queue comes to; a node's queues, with the place of the
+-- next one; a network's nodes, with the next one's place. `S` are sizes, `w` the words. Assumes nothing.
+use mathlib.Core.Path.{_≡_, ap, ap₂, sym, _∙_}
+use mathlib.Core.Bool.{Bool, true, false}
+use mathlib.Core.List.{List}
+use Prim.Native.Nat.{ℕ, suc, _+_, _*_, _<_, _≤_}
+use native.Mathlib.Numerals.{add-one}
+use native.Mathlib.Nat.{min-le-right, suc-mul, mul-le-mul-right}
+use native.Mathlib.Omega.{arith}
+use lib.ListN.{length, take, drop, length-take, length-drop}
+use Rattle.base.specs.Tests.{allBelow}
+use Rattle.base.specs.Sums.{sumBelow, sumOf}
+use Rattle.base.specs.Parts.{span}
+use Rattle.network.specs.Sizes.{Shape, nodes, queues, capacity}
+use Rattle.network.specs.SizesLaws.{range-of, capacity-most}
+use Rattle.network.specs.Packet.{work}
+use Rattle.network.specs.Layout.{need, nodeWords, queueStart, queueEnd, queueLength, queuePart, countOf, packetsOf, held, total}
+use Rattle.network.specs.LayoutLaws.{Fits, end-next, end-length, length-queuePart}
+use Rattle.network.specs.Check.{queueFits, queuesFit, packetsHeld, workLeft}
+use Rattle.packet.specs.Geometry.{shapeOfSizes, RingsFit, nodeAt, OnTorus}
+use Rattle.packet.specs.GeometryLaws.{rings-nodes, stands}
+use Rattle.packet.specs.declared.torus.Sizes.{Sizes}
+use Rattle.queue.specs.Queue.{Enough}
+use Rattle.queue_check.specs.declared.Tally.{Tally}
+use Rattle.queue_check.specs.QueueTally.{tally, partFits, nodeTally}
+use Rattle.queue_check.specs.TallyLaws.{tally-fails}
+use Rattle.queue_check.proofs.Tallies.{Upto, upto-start, upto-more, upto-stop, upto-end, below-most, of-most, work-most}
+
+-- What every queue comes to ---------------------------------------------------------------------------------------------------------------
+
+abbrev pub fits : Shape → List ℕ → ℕ → ℕ → Bool
+fits S w n q = queueFits S w n q
+
+abbrev pub holds : Shape → List ℕ → ℕ → ℕ → ℕ
+holds S w n q = length (held S w n q)
+
+abbrev pub works : Shape → List ℕ → ℕ → ℕ → ℕ
+works S w n q = sumOf work (held S w n q)
+
+take-most : (k : ℕ) (l : List ℕ) → length (take k l) ≤ length l
+take-most k l = let e = length-take k l in let m = min-le-right k (length l) in omega arith
+
+module _ (S : Shape) (w : List ℕ) (enough : Enough S w) (n : ℕ) (node : n < nodes S) where
+  in-words : (q : ℕ) → q < queues → Fits S w n q
+  in-words q h = record { node = node; queue = h; long = enough .long }
+
+  pub part-length : (q : ℕ) → q < queues → length (queuePart S w n q) ≡ queueLength S q
+  part-length q h = length-queuePart S w n q (in-words q h)
+
+  pub part-small : (q : ℕ) → q < queues → length (queuePart S w n q) ≤ 9
+  unfolding queueLength
+  part-small q h = let l : length (queuePart S w n q) ≡ 1 + capacity S q = part-length q h in let m = capacity-most S q (range-of S (enough .sizes)) in omega arith
+
+  pub part-end : (q : ℕ) → q < queues → queueEnd S n q ≤ length w
+  part-end q h = end-length S w n q (in-words q h)
+
+  holds-most : (q : ℕ) → q < queues → holds S w n q ≤ 8
+  unfolding held packetsOf
+  holds-most q h =
+      let a : holds S w n q ≤ length (drop 1 (queuePart S w n q)) = take-most (countOf (queuePart S w n q)) (drop 1 (queuePart S w n q)) in
+      let b = length-drop 1 (queuePart S w n q) in
+      let m = part-small q h in
+      omega arith
+
+  works-most : (q : ℕ) → q < queues → works S w n q ≤ 4088
+  works-most q h = let a = of-most 511 work (held S w n q) work-most in let b = holds-most q h in omega arith
+
+  -- the sums over a node's queues
+  pub node-holds : (k : ℕ) → k ≤ queues → sumBelow k (holds S w n) ≤ 72
+  node-holds k h =
+      let a = below-most k 8 (holds S w n) (λ q l. holds-most q (let b : q < queues = omega arith in b)) in
+      omega arith
+
+  pub node-works : (k : ℕ) → k ≤ queues → sumBelow k (works S w n) ≤ 36792
+  node-works k h =
+      let a = below-most k 4088 (works S w n) (λ q l. works-most q (let b : q < queues = omega arith in b)) in
+      omega arith
+
+-- A node's queues -------------------------------------------------------------------------------------------------------------------------
+
+-- those before q have been tested and summed, and q's words begin at `at`
+pub record NodeWalk (S : Shape) (w : List ℕ) (n q at held work : ℕ) : Type 0 where
+  pub place : at ≡ queueStart S n q
+  pub upto : Upto (fits S w n) (holds S w n) (works S w n) q held work
+  pub within : q ≤ queues
+
+module _ (S : Shape) (w : List ℕ) (n : ℕ) where
+  pub node-start : (at : ℕ) → at ≡ queueStart S n 0 → NodeWalk S w n 0 at 0 0
+  node-start at e = record { place = e; upto = upto-start (fits S w n) (holds S w n) (works S w n); within = omega arith }
+
+  -- where the words of q end
+  pub node-end : (q at held work c : ℕ) → NodeWalk S w n q at held work → c ≡ capacity S q → at + c + 1 ≡ queueEnd S n q
+  unfolding queueEnd queueLength
+  node-end q at held work c walk e = let p = walk .place in omega arith
+
+  -- its words
+  pub node-part : (q at held work c : ℕ) → NodeWalk S w n q at held work → c ≡ capacity S q → span w at (at + c + 1) ≡ queuePart S w n q
+  unfolding queuePart
+  node-part q at held work c walk e = ap₂ (λ (a b : ℕ). span w a b) (walk .place) (node-end q at held work c walk e)
+
+  -- what its words come to is what it comes to
+  pub node-tally : (q : ℕ) (part : List ℕ) (t : Tally) → part ≡ queuePart S w n q
+      → t ≡ tally (partFits S n q part) (length (packetsOf part)) (sumOf work (packetsOf part)) → t ≡ tally (fits S w n q) (holds S w n q) (works S w n q)
+  unfolding queueFits partFits held
+  node-tally q part t e f = f ∙ ap (λ (l : List ℕ). tally (partFits S n q l) (length (packetsOf l)) (sumOf work (packetsOf l))) e
+
+  pub node-more : (q at held work c : ℕ) (t : Tally) → NodeWalk S w n q at held work → c ≡ capacity S q → t ≡ tally (fits S w n q) (holds S w n q) (works S w n q)
+      → t .ok ≡ true → q < queues → NodeWalk S w n (q + 1) (at + c + 1) (held + t .held) (work + t .work)
+  node-more q at held work c t walk ec e ok h =
+      record {
+        place = node-end q at held work c walk ec ∙ end-next S n q ∙ ap (queueStart S n) (sym (add-one q));
+        upto = upto-more (fits S w n) (holds S w n) (works S w n) q held work t (walk .upto) e ok;
+        within = omega arith;
+      }
+
+  -- the sums are small
+  pub node-small : Enough S w → n < nodes S → (q at held work : ℕ) → NodeWalk S w n q at held work → (held ≤ 72) × (work ≤ 36792)
+  node-small enough node q at held work walk =
+      let a = node-holds S w enough n node q (walk .within) in
+      let b = node-works S w enough n node q (walk .within) in
+      let d = walk .upto .packets in
+      let e = walk .upto .hops-left in
+      (omega arith, omega arith)
+
+  pub node-stop : (q : ℕ) (t r : Tally) → t ≡ tally (fits S w n q) (holds S w n q) (works S w n q) → t .ok ≡ false → q < queues
+      → ((held work : ℕ) → r ≡ tally false held work) → r ≡ nodeTally S w n
+  unfolding nodeTally
+  node-stop q t r e no′ h u =
+      tally-fails r (allBelow queues (fits S w n)) (sumBelow queues (holds S w n)) (sumBelow queues (works S w n)) u
+      (upto-stop (fits S w n) (holds S w n) (works S w n) queues q t h e no′)
+
+  pub node-done : (q at held work : ℕ) → NodeWalk S w n q at held work → queues ≤ q → record { ok = true; held = held; work = work } ≡ nodeTally S w n
+  unfolding nodeTally
+  node-done q at held work walk h =
+      let m = walk .within in
+      let e : q ≡ queues = omega arith in
+      let u : Upto (fits S w n) (holds S w n) (works S w n) q held work = walk .upto in
+      upto-end (fits S w n) (holds S w n) (works S w n) queues held work (rw e at u)
+
+-- A network's nodes -----------------------------------------------------------------------------------------------------------------------
+
+abbrev pub nodeFits : Shape → List ℕ → ℕ → Bool
+nodeFits S w n = allBelow queues (fits S w n)
+
+abbrev pub nodeHolds : Shape → List ℕ → ℕ → ℕ
+nodeHolds S w n = sumBelow queues (holds S w n)
+
+abbrev pub nodeWorks : Shape → List ℕ → ℕ → ℕ
+nodeWorks S w n = sumBelow queues (works S w n)
+
+-- those before n have been tested and summed, n stands in column x and row y, and its words begin at `start`
+pub record NetWalk (s : Sizes) (w : List ℕ) (n x y start held work : ℕ) : Type 0 where
+  pub place : start ≡ queueStart (shapeOfSizes s) n 0
+  pub node : nodeAt s x y ≡ n
+  pub column : x < s .x
+  pub upto : Upto (nodeFits (shapeOfSizes s) w) (nodeHolds (shapeOfSizes s) w) (nodeWorks (shapeOfSizes s) w) n held work
+  pub within : n ≤ nodes (shapeOfSizes s)
+
+module _ (s : Sizes) (w : List ℕ) where
+  pub net-start : RingsFit s → NetWalk s w 0 0 0 8 0 0
+  unfolding queueStart sumBelow
+  net-start r =
+      record {
+        place = omega arith;
+        node = omega arith;
+        column = r .x-least;
+        upto = upto-start (nodeFits (shapeOfSizes s) w) (nodeHolds (shapeOfSizes s) w) (nodeWorks (shapeOfSizes s) w);
+        within = omega arith;
+      }
+
+  pub net-on : RingsFit s → (n x y start held work : ℕ) → NetWalk s w n x y start held work → n < nodes (shapeOfSizes s) → OnTorus s x y
+  net-on r n x y start held work walk h = stands s x y n r (walk .node) (walk .column) h
+
+  pub net-first : (n x y start held work : ℕ) → NetWalk s w n x y start held work → start ≡ queueStart (shapeOfSizes s) (nodeAt s x y) 0
+  net-first n x y start held work walk = walk .place ∙ ap (λ (m : ℕ). queueStart (shapeOfSizes s) m 0) (sym (walk .node))
+
+  pub net-tally : (n x y start held work : ℕ) (t : Tally) → NetWalk s w n x y start held work → t ≡ nodeTally (shapeOfSizes s) w (nodeAt s x y)
+      → t ≡ tally (nodeFits (shapeOfSizes s) w n) (nodeHolds (shapeOfSizes s) w n) (nodeWorks (shapeOfSizes s) w n)
+  unfolding nodeTally
+  net-tally n x y start held work t walk e = e ∙ ap (nodeTally (shapeOfSizes s) w) (walk .node)
+
+  -- the next node's words begin behind this one's
+  net-next : (n words : ℕ) → words ≡ nodeWords (shapeOfSizes s) → queueStart (shapeOfSizes s) n 0 + words ≡ queueStart (shapeOfSizes s) (n + 1) 0
+  unfolding queueStart sumBelow
+  net-next n words e =
+      let m : suc n * nodeWords (shapeOfSizes s) ≡ n * nodeWords (shapeOfSizes s) + nodeWords (shapeOfSizes s) = suc-mul n (nodeWords (shapeOfSizes s)) in
+      let a : (n + 1) * nodeWords (shapeOfSizes s) ≡ suc n * nodeWords (shapeOfSizes s) = ap (λ (k : ℕ). k * nodeWords (shapeOfSizes s)) (add-one n) in
+      omega arith
+
+  -- and within the words, or at their end
+  pub net-within : Enough (shapeOfSizes s) w → (n x y start held work words : ℕ) → NetWalk s w n x y start held work → n < nodes (shapeOfSizes s)
+      → words ≡ nodeWords (shapeOfSizes s) → start + words ≤ length w
+  unfolding queueStart sumBelow need
+  net-within enough n x y start held work words walk h e =
+      let p : start ≡ 8 + n * nodeWords (shapeOfSizes s) + 0 = walk .place in
+      let l : 8 + nodes (shapeOfSizes s) * nodeWords (shapeOfSizes s) ≤ length w = enough .long in
+      let m : suc n * nodeWords (shapeOfSizes s) ≤ nodes (shapeOfSizes s) * nodeWords (shapeOfSizes s) = mul-le-mul-right (nodeWords (shapeOfSizes s)) h in
+      let a : suc n * nodeWords (shapeOfSizes s) ≡ n * nodeWords (shapeOfSizes s) + nodeWords (shapeOfSizes s) = suc-mul n (nodeWords (shapeOfSizes s)) in
+      omega arith
+
+  pub net-more : (n x y start held work words x′ y′ : ℕ) (t : Tally) → NetWalk s w n x y start held work → n < nodes (shapeOfSizes s)
+      → words ≡ nodeWords (shapeOfSizes s) → t ≡ nodeTally (shapeOfSizes s) w (nodeAt s x y) → t .ok ≡ true
+      → x′ < s .x → nodeAt s x′ y′ ≡ nodeAt s x y + 1 → NetWalk s w (n + 1) x′ y′ (start + words) (held + t .held) (work + t .work)
+  net-more n x y start held work words x′ y′ t walk h ew e ok c en =
+      record {
+        place = ap (λ (k : ℕ). k + words) (walk .place) ∙ net-next n words ew;
+        node = en ∙ ap (λ (k : ℕ). k + 1) (walk .node);
+        column = c;
+        upto =
+            upto-more (nodeFits (shapeOfSizes s) w) (nodeHolds (shapeOfSizes s) w) (nodeWorks (shapeOfSizes s) w) n held work t (walk .upto)
+            (net-tally n x y start held work t walk e) ok;
+        within = omega arith;
+      }
+
+  -- the sums are small
+  pub net-small : Enough (shapeOfSizes s) w → RingsFit s → (n held work : ℕ) (t : Tally)
+      → Upto (nodeFits (shapeOfSizes s) w) (nodeHolds (shapeOfSizes s) w) (nodeWorks (shapeOfSizes s) w) n held work → n < nodes (shapeOfSizes s)
+      → t ≡ tally (nodeFits (shapeOfSizes s) w n) (nodeHolds (shapeOfSizes s) w n) (nodeWorks (shapeOfSizes s) w n) → t .ok ≡ true
+      → (held + t .held ≤ 18432) × (work + t .work ≤ 9418752)
+  net-small enough r n held work t upto h e ok = sums (upto-more (nodeFits S w) (nodeHolds S w) (nodeWorks S w) n held work t upto e ok)
+    where
+      S : Shape
+      S = shapeOfSizes s
+
+      sums : Upto (nodeFits S w) (nodeHolds S w) (nodeWorks S w) (n + 1) (held + t .held) (work + t .work) → (held + t .held ≤ 18432) × (work + t .work ≤ 9418752)
+      sums u =
+          let m = rings-nodes s r in
+          let a = below-most (n + 1) 72 (nodeHolds S w) (λ k l. node-holds S w enough k (let b : k < nodes S = omega arith in b) queues (omega arith)) in
+          let b = below-most (n + 1) 36792 (nodeWorks S w) (λ k l. node-works S w enough k (let b : k < nodes S = omega arith in b) queues (omega arith)) in
+          let c = u .packets in
+          let d = u .hops-left in
+          (omega arith, omega arith)
+
+  pub net-stop : (n x y start held work : ℕ) (t r : Tally) → NetWalk s w n x y start held work → n < nodes (shapeOfSizes s)
+      → t ≡ nodeTally (shapeOfSizes s) w (nodeAt s x y) → t .ok ≡ false → ((held work : ℕ) → r ≡ tally false held work)
+      → r ≡ tally (queuesFit (shapeOfSizes s) w) (packetsHeld (shapeOfSizes s) w) (workLeft (shapeOfSizes s) w)
+  unfolding queuesFit packetsHeld workLeft total
+  net-stop n x y start held work t r walk h e no′ u =
+      tally-fails r (queuesFit (shapeOfSizes s) w) (packetsHeld (shapeOfSizes s) w) (workLeft (shapeOfSizes s) w) u
+      (upto-stop (nodeFits (shapeOfSizes s) w) (nodeHolds (shapeOfSizes s) w) (nodeWorks (shapeOfSizes s) w) (nodes (shapeOfSizes s)) n t h
+      (net-tally n x y start held work t walk e) no′)
+
+  pub net-done : (n x y start held work : ℕ) → NetWalk s w n x y start held work → nodes (shapeOfSizes s) ≤ n
+      → record { ok = true; held = held; work = work } ≡ tally (queuesFit (shapeOfSizes s) w) (packetsHeld (shapeOfSizes s) w) (workLeft (shapeOfSizes s) w)
+  unfolding queuesFit packetsHeld workLeft total
+  net-done n x y start held work walk h =
+      let m = walk .within in
+      let e : n ≡ nodes (shapeOfSizes s) = omega arith in
+      let u : Upto (nodeFits (shapeOfSizes s) w) (nodeHolds (shapeOfSizes s) w) (nodeWorks (shapeOfSizes s) w) n held work = walk .upto in
+      upto-end (nodeFits (shapeOfSizes s) w) (nodeHolds (shapeOfSizes s) w) (nodeWorks (shapeOfSizes s) w) (nodes (shapeOfSizes s)) held work (rw e at u)

@@ -1,0 +1,132 @@
+-- `queue_check::packets_fit` meets its contract. The loop's invariant: what is left to test decides for all, and what is left to sum is
+-- missing from the sum. Assumes nothing.
+use borrow.Author.Needs.{needs}
+use borrow.Author.Tests.{not-true, not-false}
+use mathlib.Core.Path.{_≡_, refl, sym, _∙_}
+use mathlib.Core.Bool.{Bool, true, false}
+use mathlib.Core.List.{List}
+use Prim.Native.Nat.{ℕ, _+_, _-_, _≤_}
+use native.Mathlib.Omega.{arith}
+use lib.ListN.{getD}
+use Rattle.network.specs.Packet.{work}
+use Rattle.network.specs.Layout.{countOf, packetsOf}
+use Rattle.packet.specs.Geometry.{shapeOfSizes, nodeAt}
+use Rattle.packet_check.specs.PacketLimits.{fitsWithin}
+use Rattle.queue_check.specs.TallyLaws.{tally-fails}
+use Rattle.queue_check.proofs.Tallies.{Left, left-start, packets-stop, packets-more, packets-small, packets-end}
+use Rattle.queue_check.proofs.packets_fit.Statement.{statement}
+use Rattle.queue_check.proofs.packets_fit.Tie as tie
+
+abbrev Inv-loop : tie.InvT-loop
+Inv-loop part columns rows s x y l count sum₀ i₀ sum i = Left (fitsWithin (shapeOfSizes s) (nodeAt s x y) l) work (packetsOf part) i sum × (i ≤ count)
+
+abbrev μ-loop : tie.MeasureT-loop
+μ-loop part columns rows s x y l count sum₀ i₀ sum i = count - i
+
+-- where the function starts, the queue's words, and the test of a packet
+abbrev start : tie.At-loop Inv-loop μ-loop → tie.Start Inv-loop μ-loop
+start c = c .before .before .before .before .before
+
+abbrev part : tie.Start Inv-loop μ-loop → List ℕ
+part st = st .args .part .now
+
+abbrev test : tie.Start Inv-loop μ-loop → ℕ → Bool
+test st = fitsWithin (shapeOfSizes (st .args .s)) (nodeAt (st .args .s) (st .args .x) (st .args .y)) (st .args .l)
+
+shared-slice-read-count : tie.Need-shared-slice-read-count Inv-loop μ-loop
+unfolding countOf
+shared-slice-read-count c = omega arith
+
+loop-holds : tie.Need-loop-holds Inv-loop μ-loop
+loop-holds c = (left-start _ work _, omega arith)
+
+add-p : tie.Need-add-p Inv-loop μ-loop
+unfolding countOf
+add-p c = omega arith
+
+mul-p : tie.Need-mul-p Inv-loop μ-loop
+unfolding countOf
+mul-p c = omega arith
+
+shared-slice-read-p : tie.Need-shared-slice-read-p Inv-loop μ-loop
+unfolding countOf
+shared-slice-read-p c = omega arith
+
+packet-fits-requires : tie.Need-packet-fits-requires Inv-loop μ-loop
+packet-fits-requires c κs = search needs
+
+unfit-requires : tie.Need-unfit-requires Inv-loop μ-loop
+unfit-requires c κs = search needs
+
+-- the packet has failed, or passed
+abbrev word : tie.After-packet-fits Inv-loop μ-loop → ℕ
+word c = getD (part (start (c .before .before .before))) (c .before .before .before .loop .i + 1) 0
+
+failed : (c : tie.Then1 Inv-loop μ-loop) → test (start (c .before .before .before .before)) (word (c .before)) ≡ false
+failed c = sym (c .before .packet-fits .ensures) ∙ not-true _ (c .if1 .taken)
+
+passed : (c : tie.Else1 Inv-loop μ-loop) → test (start (c .before .before .before .before)) (word (c .before)) ≡ true
+passed c = sym (c .before .packet-fits .ensures) ∙ not-false _ (c .if1 .left)
+
+returns : tie.Need-returns Inv-loop μ-loop
+unfolding countOf
+returns c =
+    let st = start (c .before .before .before .before .before) in
+    tally-fails _ _ _ _ (c .unfit .ensures)
+    (packets-stop (test st) (part st) (st .pre .2) _ _ (c .before .before .before .before .before .loop .inv .0) (c .before .before .before .before .loop-test .taken)
+    (failed (c .before)))
+
+work-requires : tie.Need-work-requires Inv-loop μ-loop
+work-requires c κs = search needs
+
+add-work : tie.Need-add-work Inv-loop μ-loop
+unfolding countOf
+add-work c =
+    let st = start (c .before .before .before .before .before) in
+    let l = packets-small (test st) (part st) (st .pre .2) _ _ (c .work .result) (c .before .before .before .before .before .loop .inv .0)
+    (c .before .before .before .before .loop-test .taken) (c .work .ensures) (st .pre .3) in
+    omega arith
+
+add-i : tie.Need-add-i Inv-loop μ-loop
+unfolding countOf
+add-i c = omega arith
+
+loop-less : tie.Need-loop-less Inv-loop μ-loop
+unfolding countOf
+loop-less c = omega arith
+
+loop-again : tie.Need-loop-again Inv-loop μ-loop
+unfolding countOf
+loop-again c =
+    let st = start (c .before .before .before .before .before) in (
+      packets-more (test st) (part st) (st .pre .2) _ _ (c .work .result) (c .before .before .before .before .before .loop .inv .0)
+          (c .before .before .before .before .loop-test .taken) (passed (c .before)) (c .work .ensures),
+      omega arith,
+    )
+
+returns-2 : tie.Need-returns-2 Inv-loop μ-loop
+unfolding countOf
+returns-2 c =
+    let st = start (c .before) in
+    packets-end (test st) (part st) (st .pre .2) _ _ _ (c .before .loop .inv .0) refl (c .loop-test .left)
+
+pub packets-fit-spec : {M : Type 1} → statement M
+packets-fit-spec =
+    tie.close
+    (tie.spec
+    Inv-loop
+    μ-loop
+    shared-slice-read-count
+    loop-holds
+    add-p
+    mul-p
+    shared-slice-read-p
+    packet-fits-requires
+    unfit-requires
+    returns
+    work-requires
+    add-work
+    add-i
+    loop-less
+    loop-again
+    returns-2)

@@ -1,0 +1,118 @@
+-- `queue_check::queue_fits` meets its contract. Assumes nothing.
+use borrow.Author.Needs.{needs}
+use borrow.Author.Tests.{not-true, not-false}
+use mathlib.Core.Path.{_≡_, sym, subst, _∙_}
+use mathlib.Core.Bool.{true}
+use Prim.Native.Nat.{ℕ, _+_}
+use native.Mathlib.Omega.{arith}
+use lib.Dec.{eqb}
+use lib.ListN.{drop}
+use Rattle.base.specs.Tests.{allOf}
+use Rattle.network.specs.Sizes.{Shape}
+use Rattle.network.specs.Layout.{countOf, packetsOf, queueLength}
+use Rattle.packet.specs.Geometry.{shapeOfSizes, nodeAt}
+use Rattle.packet.specs.GeometryLaws.{rings-torus, node-lt}
+use Rattle.packet_check.specs.PacketLimits.{LimitsFit, fitsWithin}
+use Rattle.packet_check.specs.LimitLaws.{limits-fit}
+use Rattle.queue_check.specs.QueueTally.{partFits}
+use Rattle.queue_check.specs.TallyLaws.{tally-fails, tally-same}
+use Rattle.queue_check.proofs.Parts.{part-over, part-used, part-limits, part-empty}
+use Rattle.queue_check.proofs.queue_fits.Statement.{statement}
+use Rattle.queue_check.proofs.queue_fits.Tie as tie
+
+-- where the function starts, the sizes and the node
+abbrev start : tie.After-shared-slice-known4 → tie.Start
+start c = c .before .before .before .before
+
+abbrev S : tie.Start → Shape
+S st = shapeOfSizes (st .args .s)
+
+abbrev n : tie.Start → ℕ
+n st = nodeAt (st .args .s) (st .args .x) (st .args .y)
+
+shared-slice-read-count : tie.Need-shared-slice-read-count
+unfolding queueLength
+shared-slice-read-count c = let l = start c .pre .1 in omega arith
+
+unfit-requires : tie.Need-unfit-requires
+unfit-requires c κs = search needs
+
+returns : tie.Need-returns
+unfolding countOf
+returns c =
+    let st = start (c .before .before) in
+    tally-fails _ _ _ _ (c .unfit .ensures) (part-over (S st) (n st) (st .args .q) (st .args .part .now) (st .pre .1) (c .before .if1 .taken))
+
+add-all-zero : tie.Need-add-all-zero
+add-all-zero c = search needs
+
+all-zero-requires : tie.Need-all-zero-requires
+all-zero-requires c κs = search needs
+
+unfit-requires-2 : tie.Need-unfit-requires-2
+unfit-requires-2 c κs = search needs
+
+returns-2 : tie.Need-returns-2
+unfolding countOf
+returns-2 c =
+    let st = start (c .before .before .before .before) in
+    tally-fails _ _ _ _ (c .unfit2 .ensures)
+    (part-used (S st) (n st) (st .args .q) (st .args .part .now) (st .pre .1) (c .before .before .before .if1 .left)
+    (sym (c .before .before .all-zero .ensures) ∙ not-true _ (c .before .if2 .taken)))
+
+-- the unused words are 0
+zeros : (c : tie.Else2) → allOf (eqb 0) (drop (countOf (start (c .before .before .before) .args .part .now) + 1) (start (c .before .before .before) .args .part .now)) ≡ true
+unfolding countOf
+zeros c = sym (c .before .all-zero .ensures) ∙ not-false _ (c .if2 .left)
+
+returns-3 : tie.Need-returns-3
+unfolding countOf
+returns-3 c =
+    let st = start (c .before .before .before .before) in
+    part-empty (S st) (n st) (st .args .q) (st .args .part .now) (st .pre .1) (c .if3 .taken) (c .before .before .before .if1 .left) (zeros (c .before))
+
+limits-of-requires : tie.Need-limits-of-requires
+limits-of-requires c κs = search needs
+
+packets-fit-requires : tie.Need-packets-fit-requires
+unfolding countOf
+packets-fit-requires c κs =
+    let st = start (c .before .before .before .before .before) in (
+      st .pre .0,
+      subst (LimitsFit (st .args .s)) (sym (c .limits-of .ensures)) (limits-fit (st .args .s) (st .args .q) (st .pre .0 .rings)),
+      c .before .before .before .before .if1 .left,
+      st .pre .2,
+      st .pre .3,
+    )
+
+-- it is for the packets to decide, by the limits
+decide : (c : tie.After-limits-of)
+    → partFits (S (start (c .before .before .before .before .before))) (n (start (c .before .before .before .before .before))) (start (c .before .before .before .before .before) .args .q)
+    (start (c .before .before .before .before .before) .args .part .now)
+    ≡ allOf (fitsWithin (S (start (c .before .before .before .before .before))) (n (start (c .before .before .before .before .before))) (c .limits-of .result))
+    (packetsOf (start (c .before .before .before .before .before) .args .part .now))
+unfolding countOf
+decide c =
+    let st = start (c .before .before .before .before .before) in
+    part-limits (S st) (n st) (st .args .q) (st .args .part .now) (st .pre .1) (c .limits-of .result) (c .limits-of .ensures)
+    (rings-torus (st .args .s) (st .pre .0 .rings)) (node-lt (st .args .s) (st .args .x) (st .args .y) (st .pre .0))
+    (c .before .before .before .before .if1 .left) (zeros (c .before .before))
+
+returns-4 : tie.Need-returns-4
+returns-4 c = tally-same _ _ _ _ _ (c .packets-fit .ensures) (decide (c .before))
+
+pub queue-fits-spec : {M : Type 1} → statement M
+queue-fits-spec =
+    tie.close
+    (tie.spec
+    shared-slice-read-count
+    unfit-requires
+    returns
+    add-all-zero
+    all-zero-requires
+    unfit-requires-2
+    returns-2
+    returns-3
+    limits-of-requires
+    packets-fit-requires
+    returns-4)

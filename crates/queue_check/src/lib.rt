@@ -1,0 +1,191 @@
+// The queues' clauses of the check, and the sums over their packets, in one pass over the words: from a queue's own words to all nodes.
+use packet::torus::Place;
+use packet::torus::Sizes;
+use packet::torus::next_place;
+use packet_check::Limits;
+use packet_check::fill_ring;
+use packet_check::limits_of;
+use packet_check::packet_fits;
+ghost use mathlib.Core.Path.{_≡_};
+ghost use mathlib.Core.Bool.{false};
+ghost use Prim.Native.Nat.{ℕ, _+_, _<_, _≤_};
+ghost use lib.Dec.{eqb};
+ghost use lib.ListN.{length, drop};
+ghost use Rattle.base.specs.Tests.{allOf};
+ghost use Rattle.base.specs.Sums.{sumOf};
+ghost use Rattle.network.specs.Packet.{work};
+ghost use Rattle.network.specs.Layout.{countOf, packetsOf, queueStart, queueLength};
+ghost use Rattle.network.specs.Check.{queuesFit, packetsHeld, workLeft};
+ghost use Rattle.packet.specs.Geometry.{shapeOfSizes, nodeAt, OnTorus};
+ghost use Rattle.queue.specs.Queue.{Enough};
+ghost use Rattle.packet_check.specs.PacketLimits.{LimitsFit, fitsWithin};
+ghost use Rattle.packet_check.specs.Tables.{Tables};
+ghost use Rattle.queue_check.specs.QueueTally.{tally, partFits, nodeTally};
+
+// What a run of queues comes to: whether it passes the check, and if it does how many packets it holds and what work these have left.
+pub struct Tally {
+    pub ok: bool,
+    pub held: u64,
+    pub work: u64,
+}
+
+// What a run of queues that does not pass comes to.
+fn unfit() -> Tally
+    ensures { λ r. ⌜ ((held work : ℕ) → r ≡ tally false held work) ⌝ }
+{
+    Tally {
+        ok: false,
+        held: 0,
+        work: 0,
+    }
+}
+
+// Whether the words from this place on are 0. They are gathered and tested once, so that the loop has no branch on a word: in a network all of
+// them are 0, and an early end is no gain.
+fn all_zero(part: &[u64], from: usize) -> bool
+    ensures { λ r. ⌜ r ≡ allOf (eqb 0) (drop from (now (part .entry))) ⌝ }
+{
+    let mut any = 0;
+    let mut i = from;
+    while i < part.len() {
+        any = any | part[i];
+        i += 1;
+    }
+    any == 0
+}
+
+// The packets of a queue's words, which hold no more than they have room for.
+fn packets_fit(
+    part: &[u64],
+    columns: &[u64],
+    rows: &[u64],
+    s: Sizes,
+    x: u64,
+    y: u64,
+    l: Limits,
+) -> Tally
+    requires { ⌜ OnTorus s x y × LimitsFit s l × (countOf (now part) < length (now part)) × (length (now part) ≤ 9)
+        × Tables s (now columns) (now rows) ⌝ }
+    ensures { λ r. ⌜ r ≡ tally (allOf (fitsWithin (shapeOfSizes s) (nodeAt s x y) l) (packetsOf (now (part .entry))))
+        (length (packetsOf (now (part .entry)))) (sumOf work (packetsOf (now (part .entry)))) ⌝ }
+{
+    let count = part[0] as usize;
+    let mut work = 0;
+    let mut i = 0;
+    while i < count {
+        let p = part[i + 1];
+        if !packet_fits(columns, rows, s, x, y, l, p) {
+            return unfit();
+        }
+        work += packet::work(p);
+        i += 1;
+    }
+    Tally {
+        ok: true,
+        held: count as u64,
+        work,
+    }
+}
+
+// The words of queue q of the node in column x and row y. Most queues are empty, and need no limits.
+fn queue_fits(
+    part: &[u64],
+    columns: &[u64],
+    rows: &[u64],
+    s: Sizes,
+    x: u64,
+    y: u64,
+    q: u64,
+) -> Tally
+    requires { ⌜ OnTorus s x y × (length (now part) ≡ queueLength (shapeOfSizes s) q) × (length (now part) ≤ 9)
+        × Tables s (now columns) (now rows) ⌝ }
+    ensures { λ r. ⌜ r ≡ tally (partFits (shapeOfSizes s) (nodeAt s x y) q (now (part .entry)))
+        (length (packetsOf (now (part .entry)))) (sumOf work (packetsOf (now (part .entry)))) ⌝ }
+{
+    let count = part[0];
+    if part.len() as u64 <= count {
+        return unfit();
+    }
+    if !all_zero(part, count as usize + 1) {
+        return unfit();
+    }
+    if count == 0 {
+        return Tally {
+            ok: true,
+            held: 0,
+            work: 0,
+        };
+    }
+    packets_fit(part, columns, rows, s, x, y, limits_of(s, q))
+}
+
+// The nine queues of the node in column x and row y, whose words begin at this place.
+fn node_fits(
+    words: &[u64],
+    columns: &[u64],
+    rows: &[u64],
+    s: Sizes,
+    x: u64,
+    y: u64,
+    start: usize,
+) -> Tally
+    requires { ⌜ OnTorus s x y × Enough (shapeOfSizes s) (now words) × (start ≡ queueStart (shapeOfSizes s) (nodeAt s x y) 0)
+        × Tables s (now columns) (now rows) ⌝ }
+    ensures { λ r. ⌜ r ≡ nodeTally (shapeOfSizes s) (now (words .entry)) (nodeAt s x y) ⌝ }
+{
+    let mut held = 0;
+    let mut work = 0;
+    let mut at = start;
+    let mut q = 0;
+    while q < 9 {
+        let end = at + queue::capacity(s.escape, s.adaptive, s.injection, q) as usize + 1;
+        let t = queue_fits(&words[at..end], columns, rows, s, x, y, q);
+        if !t.ok {
+            return unfit();
+        }
+        held += t.held;
+        work += t.work;
+        at = end;
+        q += 1;
+    }
+    Tally {
+        ok: true,
+        held,
+        work,
+    }
+}
+
+// All nodes in order. The tables of both rings are filled first.
+pub fn queues_fit(words: &[u64], s: Sizes) -> Tally
+    requires { ⌜ Enough (shapeOfSizes s) (now words) ⌝ }
+    ensures { λ r. ⌜ r ≡ tally (queuesFit (shapeOfSizes s) (now (words .entry)))
+        (packetsHeld (shapeOfSizes s) (now (words .entry))) (workLeft (shapeOfSizes s) (now (words .entry))) ⌝ }
+{
+    let mut columns = [0u64; 48];
+    fill_ring(&mut columns, s.x, 1);
+    let mut rows = [0u64; 48];
+    fill_ring(&mut rows, s.y, s.x);
+    let nodes = packet::torus::nodes(s);
+    let node = queue::node_words(s.escape, s.adaptive, s.injection) as usize;
+    let mut held = 0;
+    let mut work = 0;
+    let mut start = 8;
+    let mut place = Place { x: 0, y: 0 };
+    let mut n = 0;
+    while n < nodes {
+        let t = node_fits(words, &columns, &rows, s, place.x, place.y, start);
+        if !t.ok {
+            return unfit();
+        }
+        held += t.held;
+        work += t.work;
+        start += node;
+        place = next_place(s, place);
+        n += 1;
+    }
+    Tally {
+        ok: true,
+        held,
+        work,
+    }
+}

@@ -1,0 +1,1 @@
+-- Proofs of what a Drain does with its set of heads.

@@ -1,0 +1,178 @@
+-- `ready::next_move` meets its contract. The loop's invariant: no head before `from` is left in the set, and the set still covers every
+-- head that has a permitted move. Assumes nothing.
+use borrow.Author.Needs.{needs}
+use mathlib.Core.Path.{_≡_, refl, sym, _∙_}
+use Prim.Native.Nat.{ℕ, _+_, _-_, _<_, _≤_}
+use native.Mathlib.Omega.{arith}
+use lib.ListN.{length}
+use denote.Ref.{now}
+use Rattle.network.specs.Sizes.{nodes}
+use Rattle.packet.specs.Geometry.{shapeOfSizes}
+use Rattle.packet.specs.GeometryLaws.{inRange-rings, rings-nodes}
+use Rattle.ready.specs.Ready.{Searched, searched-start, searched-next, searched-up, searched-all, lowest-first, lowest-none, refused-some, move-some}
+use Rattle.ready.proofs.next_move.Statement.{statement}
+use Rattle.ready.proofs.next_move.Tie as tie
+use Rattle.ready.proofs.next_move.Reads as reads
+use Rattle.ready.proofs.next_move.Lts as lts
+use Rattle.headset.proofs.lowest.Reads as lowest-reads
+use Rattle.headset.proofs.remove.Reads as remove-reads
+use Rattle.first.proofs.first_in_queue.Reads as first-in-queue-reads
+
+abbrev Inv-loop : tie.InvT-loop
+Inv-loop words s near ready₀ from₀ ready from = Searched (shapeOfSizes s) words ready from × (length ready ≡ length ready₀)
+
+abbrev μ-loop : tie.MeasureT-loop
+μ-loop words s near ready₀ from₀ ready from = 4096 - from
+
+less : (t x n : ℕ) → x ≤ n → n < t → t - (n + 1) < t - x
+less t x n a b = omega arith
+
+-- there are at most 256 nodes
+few : (c : tie.Start Inv-loop μ-loop) → nodes (shapeOfSizes (c .args .s)) ≤ 256
+few c = rings-nodes (c .args .s) (inRange-rings (c .args .s) (c .pre .0 .in-range))
+
+-- src/lib.rt:77:5
+loop-holds : tie.Need-loop-holds Inv-loop μ-loop
+loop-holds c =
+    let a = c .before .before .before in
+    (searched-start (shapeOfSizes (a .args .s)) (now (a .args .words)) (now (a .args .ready)) (a .pre .1 .1), refl)
+
+-- src/lib.rt:78:13
+lowest-requires : tie.Need-lowest-requires Inv-loop μ-loop
+lowest-requires c κs = search needs
+
+-- src/lib.rt:80:13
+same-length : tie.Need-same-length Inv-loop μ-loop
+same-length c = search needs
+
+-- src/lib.rt:80:13
+returns : tie.Need-returns Inv-loop μ-loop
+returns c =
+    let l = c .before .before .before .before in
+    let a = l .before .before .before .before in (
+      sym (lowest-none (shapeOfSizes (a .args .s)) (now (a .args .words)) (l .loop .ready) (c .before .lowest .result) (l .loop .inv .0 .covers) (c .before .lowest .ensures) (few a) (c .if1 .taken)),
+      l .loop .inv .0 .covers,
+    )
+
+-- src/lib.rt:82:13
+first-in-queue-requires : tie.Need-first-in-queue-requires Inv-loop μ-loop
+first-in-queue-requires c κs =
+    let l = c .before .before .before .before in
+    let a = l .before .before .before .before in
+    let h = l .loop .inv .0 .covers .heads (c .before .lowest .result) (c .before .lowest .ensures .found (c .if1 .left)) in
+    (record { network = a .pre .0; node = h .0; queue = h .1 }, a .pre .1 .0)
+
+-- src/lib.rt:85:17
+enum-told : tie.Need-enum-told Inv-loop μ-loop
+enum-told c = search needs
+
+-- src/lib.rt:85:17
+same-length-2 : tie.Need-same-length-2 Inv-loop μ-loop
+same-length-2 c = search needs
+
+-- src/lib.rt:85:17
+returns-2 : tie.Need-returns-2 Inv-loop μ-loop
+returns-2 c =
+    let f = c .before .before in
+    let l = f .before .before .before .before .before in
+    let a = l .before .before .before .before in (
+      sym
+          (lowest-first (shapeOfSizes (a .args .s)) (now (a .args .words)) (l .loop .ready) (f .before .before .lowest .result) (f .first-in-queue .result) (l .loop .inv .0 .covers)
+          (f .before .before .lowest .ensures) (f .before .if1 .left) (sym (f .first-in-queue .ensures)) (refused-some (f .first-in-queue .result) _ (c .enum-told .given .1))),
+      l .loop .inv .0 .covers,
+    )
+
+enum-told-2 : tie.Need-enum-told-2 Inv-loop μ-loop
+enum-told-2 c = search needs
+
+-- src/lib.rt:93:17
+enum-told-3 : tie.Need-enum-told-3 Inv-loop μ-loop
+enum-told-3 c = search needs
+
+-- src/lib.rt:93:17
+same-length-3 : tie.Need-same-length-3 Inv-loop μ-loop
+same-length-3 c = search needs
+
+-- src/lib.rt:93:17
+returns-3 : tie.Need-returns-3 Inv-loop μ-loop
+returns-3 c =
+    let f = c .before .before in
+    let l = f .before .before .before .before .before in
+    let a = l .before .before .before .before in (
+      sym
+          (lowest-first (shapeOfSizes (a .args .s)) (now (a .args .words)) (l .loop .ready) (f .before .before .lowest .result) (f .first-in-queue .result) (l .loop .inv .0 .covers)
+          (f .before .before .lowest .ensures) (f .before .if1 .left) (sym (f .first-in-queue .ensures)) (move-some (f .first-in-queue .result) _ _ _ (c .enum-told3 .given .1))),
+      l .loop .inv .0 .covers,
+    )
+
+-- src/lib.rt:96:9
+remove-requires : tie.Need-remove-requires Inv-loop μ-loop
+remove-requires c κs =
+    let f = c .before .before .before in
+    let l = f .before .before .before .before .before in
+    let a = l .before .before .before .before in
+    (l .loop .inv .0 .covers .set-of, f .before .if1 .left)
+
+-- src/lib.rt:97:16
+add-from : tie.Need-add-from Inv-loop μ-loop
+add-from c = search needs
+
+-- src/lib.rt:77:5
+loop-less : tie.Need-loop-less Inv-loop μ-loop
+loop-less c =
+    let f = c .before .before .before .before .before .before in
+    let l = f .before .before .before .before .before in
+    let a = l .before .before .before .before in
+    let h = f .before .before .lowest .result in
+    let up : l .loop .from ≤ h =
+    searched-up (shapeOfSizes (a .args .s)) (now (a .args .words)) (l .loop .ready) (l .loop .from) h (l .loop .inv .0) (f .before .before .lowest .ensures) (f .before .if1 .left) in
+    less 4096 (l .loop .from) h up (f .before .if1 .left)
+
+-- src/lib.rt:77:5
+loop-again : tie.Need-loop-again Inv-loop μ-loop
+loop-again c =
+    let f = c .before .before .before .before .before .before in
+    let l = f .before .before .before .before .before in
+    let a = l .before .before .before .before in
+    let r = c .before .before in
+    let e = c .before .before .before .before in (
+      searched-next (shapeOfSizes (a .args .s)) (now (a .args .words)) (l .loop .ready) (r .remove .last .0) (l .loop .from) (f .before .before .lowest .result) (l .loop .inv .0)
+          (f .before .before .lowest .ensures) (sym (f .first-in-queue .ensures) ∙ e .enum-told2 .given .1) (r .remove .ensures),
+      r .remove .ensures .set .words ∙ sym (l .loop .inv .0 .covers .set-of .words) ∙ l .loop .inv .1,
+    )
+
+-- src/lib.rt:69:1
+same-length-4 : tie.Need-same-length-4 Inv-loop μ-loop
+same-length-4 c = search needs
+
+-- src/lib.rt:69:1
+returns-4 : tie.Need-returns-4 Inv-loop μ-loop
+returns-4 c =
+    let l = c .before in
+    let a = l .before .before .before .before in
+    (sym (searched-all (shapeOfSizes (a .args .s)) (now (a .args .words)) (l .loop .ready) (l .loop .from) (l .loop .inv .0) (few a) (c .loop-test .left)), l .loop .inv .0 .covers)
+
+pub next-move-spec : {M : Type 1} → statement M
+next-move-spec =
+    tie.close
+    (tie.spec
+    Inv-loop
+    μ-loop
+    loop-holds
+    lowest-requires
+    same-length
+    returns
+    first-in-queue-requires
+    enum-told
+    same-length-2
+    returns-2
+    enum-told-2
+    enum-told-3
+    same-length-3
+    returns-3
+    remove-requires
+    add-from
+    loop-less
+    loop-again
+    same-length-4
+    returns-4)

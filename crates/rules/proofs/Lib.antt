@@ -1,4 +1,0 @@
--- Laws that several proofs of this crate cite.
-pub mod Places
-pub mod Cases
-pub mod Searching

@@ -1,0 +1,109 @@
+-- `rules::offer_rules` meets its contract. Assumes nothing.
+use mathlib.Core.Path.{_≡_, refl}
+use mathlib.Core.Bool.{Bool, true, false, _||_}
+use mathlib.Core.List.{List}
+use Prim.Native.Nat.{ℕ}
+use native.Mathlib.Omega.{arith}
+use borrow.Author.Needs.{needs}
+use borrow.Author.Tests.{eq-eqb, ne-eqb, le-leb, lt-leb}
+use lib.Dec.{leb, eqb}
+use lib.ListN.{length}
+use Rattle.network.specs.Sizes.{Shape, nodes, capacity, injectionQueue}
+use Rattle.network.specs.Layout.{accepted, held}
+use Rattle.network.specs.Check.{mostAccepted}
+use Rattle.network.specs.Refusals.{refuse, offerRules, noSuchNode, countSpent, injectionFull}
+use Rattle.packet.specs.Geometry.{shapeOfSizes}
+use Rattle.packet.specs.GeometryLaws.{inRange-rings}
+use Rattle.flow.specs.Places.{header}
+use Rattle.rules.proofs.offer_rules.Statement.{statement}
+use Rattle.rules.proofs.offer_rules.Tie as tie
+
+-- by what the tests said
+tested : (S : Shape) (w : List ℕ) (n destination count held-there slots : ℕ) (a b d e : Bool) → count ≡ nodes S
+    → held-there ≡ length (held S w n injectionQueue) → slots ≡ capacity S injectionQueue
+    → leb count n ≡ a → leb count destination ≡ b → eqb (accepted w) mostAccepted ≡ d → eqb held-there slots ≡ e
+    → refuse (a || b) noSuchNode (refuse d countSpent (refuse e injectionFull 0)) ≡ offerRules S w n destination
+unfolding offerRules
+tested S w n destination count held-there slots a b d e ec eh es ea eb ed ee = cc
+
+nodes-requires : tie.Need-nodes-requires
+nodes-requires c κs = let f = c .before in inRange-rings (f .args .s) (f .pre .in-range)
+
+returns : tie.Need-returns
+returns c =
+    let a = c .before .before .before .args in
+    let S = shapeOfSizes (a .s) in
+    let count = c .before .nodes in
+    tested S (a .words .now) (a .n) (a .destination) (count .result) _ _ true _ _ _ (count .ensures) refl refl
+    (le-leb (count .result) (a .n) (c .if1 .taken)) refl refl refl
+
+returns-2 : tie.Need-returns-2
+returns-2 c =
+    let a = c .before .before .before .before .args in
+    let S = shapeOfSizes (a .s) in
+    let count = c .before .before .nodes in
+    tested S (a .words .now) (a .n) (a .destination) (count .result) _ _ false true _ _ (count .ensures) refl refl
+    (lt-leb (count .result) (a .n) (c .before .if1 .left)) (le-leb (count .result) (a .destination) (c .if2 .taken)) refl refl
+
+shared-slice-read-accepted : tie.Need-shared-slice-read-accepted
+shared-slice-read-accepted c =
+    let f = c .before .before .before .before .before in
+    let l = header (shapeOfSizes (f .args .s)) (f .args .words .now) (f .pre) in
+    omega arith
+
+capacity-requires : tie.Need-capacity-requires
+capacity-requires c κs = search needs
+
+held-count-requires : tie.Need-held-count-requires
+held-count-requires c κs = search needs
+
+-- where both nodes are there, by the last two tests
+by-last : (c : tie.After-held-count) (d e : Bool)
+    → eqb (accepted (c .before .before .before .before .before .before .before .args .words .now)) mostAccepted ≡ d
+    → eqb (c .held-count .result) (c .before .capacity .result) ≡ e
+    → refuse d countSpent (refuse e injectionFull 0)
+    ≡ offerRules (shapeOfSizes (c .before .before .before .before .before .before .before .args .s)) (c .before .before .before .before .before .before .before .args .words .now) (c .before .before .before .before .before .before .before .args .n) (c .before .before .before .before .before .before .before .args .destination)
+by-last c d e ed ee =
+    let held = c .held-count in
+    let slots = c .before .capacity in
+    let f = c .before .before .before in
+    let a = f .before .before .before .before .args in
+    let count = f .before .before .nodes in
+    tested (shapeOfSizes (a .s)) (a .words .now) (a .n) (a .destination) (count .result) (held .result) (slots .result) false false d e
+    (count .ensures) (held .ensures) (slots .ensures (a .s .x) (a .s .y))
+    (lt-leb (count .result) (a .n) (f .before .if1 .left)) (lt-leb (count .result) (a .destination) (f .if2 .left)) ed ee
+
+returns-3 : tie.Need-returns-3
+unfolding accepted
+returns-3 c =
+    let f = c .before in
+    let w = f .before .before .before .before .before .before .before .args .words .now in
+    by-last f true (eqb (f .held-count .result) (f .before .capacity .result)) (eq-eqb (accepted w) mostAccepted (c .if3 .taken)) refl
+
+returns-4 : tie.Need-returns-4
+unfolding accepted
+returns-4 c =
+    let f = c .before .before in
+    let w = f .before .before .before .before .before .before .before .args .words .now in
+    by-last f false true (ne-eqb (accepted w) mostAccepted (c .before .if3 .left)) (eq-eqb (f .held-count .result) (f .before .capacity .result) (c .if4 .taken))
+
+returns-5 : tie.Need-returns-5
+unfolding accepted
+returns-5 c =
+    let f = c .before .before in
+    let w = f .before .before .before .before .before .before .before .args .words .now in
+    by-last f false false (ne-eqb (accepted w) mostAccepted (c .before .if3 .left)) (ne-eqb (f .held-count .result) (f .before .capacity .result) (c .if4 .left))
+
+pub offer-rules-spec : {M : Type 1} → statement M
+offer-rules-spec =
+    tie.close
+    (tie.spec
+    nodes-requires
+    returns
+    returns-2
+    shared-slice-read-accepted
+    capacity-requires
+    held-count-requires
+    returns-3
+    returns-4
+    returns-5)
