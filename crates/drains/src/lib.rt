@@ -14,7 +14,7 @@ ghost use Rattle.drains.specs.Drains.{DrainedTo};
 fn take_turns(
     words: &mut [u64],
     s: Sizes,
-    near: &[u64],
+    near: &[u8],
     ready: &mut [u64],
     budget: u32,
     ledger: &mut [u64],
@@ -64,7 +64,7 @@ pub fn drain_network(words: &mut [u64], s: Sizes, budget: u32, ledger: &mut [u64
             stop: Stop::Emptied,
         };
     }
-    let mut near = [0u64; 1024];
+    let mut near = [0u8; 1024];
     packet::near::fill(&mut near, s);
     let mut ready = [0u64; 65];
     headset::fill(&mut ready, packet::torus::nodes(s));

@@ -1,4 +1,4 @@
-// A table of neighbours, for a search that asks for them again and again: word 4 * n + d of 1024 lent words is the neighbour of node n in
+// A table of neighbours, for a search that asks for them again and again: byte 4 * n + d of 1024 lent bytes is the neighbour of node n in
 // direction d. It is filled without a division.
 use super::torus::Place;
 use super::torus::Sizes;
@@ -13,29 +13,29 @@ ghost use Rattle.network.specs.Torus.{coordinate, neighbour};
 ghost use Rattle.packet.specs.Geometry.{shapeOfSizes, RingsFit, nodeAt, OnTorus};
 ghost use Rattle.packet.specs.Near.{Near, NearTo};
 
-// One word more: the neighbour of node n in direction d, where its coordinate in that dimension is c.
-fn fill_word(near: &mut [u64], s: Sizes, d: u64, n: u64, c: u64)
+// One byte more: the neighbour of node n in direction d, where its coordinate in that dimension is c.
+fn fill_byte(near: &mut [u8], s: Sizes, d: u64, n: u64, c: u64)
     requires { ⌜ RingsFit s × (d < directions) × (n < nodes (shapeOfSizes s)) × (c ≡ coordinate (shapeOfSizes s) (dimensionOf d) n) ⌝ }
     requires { ⌜ (n < 256) × NearTo (shapeOfSizes s) (4 * n + d) (now near) ⌝ }
     ensures { λ _. ⌜ NearTo (shapeOfSizes s) (4 * n + d + 1) (now (near .exit)) ⌝ }
 {
     let there = step_from(s, d, n, c);
-    near[(4 * n + d) as usize] = there;
+    near[(4 * n + d) as usize] = there as u8;
 }
 
-// The four words of node n, which stands in column x and row y.
-fn fill_node(near: &mut [u64], s: Sizes, n: u64, x: u64, y: u64)
+// The four bytes of node n, which stands in column x and row y.
+fn fill_node(near: &mut [u8], s: Sizes, n: u64, x: u64, y: u64)
     requires { ⌜ OnTorus s x y × (nodeAt s x y ≡ n) × NearTo (shapeOfSizes s) (4 * n) (now near) ⌝ }
     ensures { λ _. ⌜ NearTo (shapeOfSizes s) (4 * (n + 1)) (now (near .exit)) ⌝ }
 {
-    fill_word(near, s, 0, n, x);
-    fill_word(near, s, 1, n, x);
-    fill_word(near, s, 2, n, y);
-    fill_word(near, s, 3, n, y);
+    fill_byte(near, s, 0, n, x);
+    fill_byte(near, s, 1, n, x);
+    fill_byte(near, s, 2, n, y);
+    fill_byte(near, s, 3, n, y);
 }
 
 // The neighbours of all nodes.
-pub fn fill(near: &mut [u64], s: Sizes)
+pub fn fill(near: &mut [u8], s: Sizes)
     requires { ⌜ RingsFit s × (length (now near) ≡ 1024) ⌝ }
     ensures { λ _. ⌜ Near (shapeOfSizes s) (now (near .exit)) ⌝ }
 {
@@ -50,9 +50,9 @@ pub fn fill(near: &mut [u64], s: Sizes)
 }
 
 // The neighbour of node n in direction d, out of the table.
-pub fn look_up(near: &[u64], d: u64, n: u64) -> u64
+pub fn look_up(near: &[u8], d: u64, n: u64) -> u64
     requires { ⌜ (d < directions) × (n < 256) × (length (now near) ≡ 1024) ⌝ }
     ensures { λ r. ⌜ ((S : Shape) → Near S (now (near .entry)) → n < nodes S → r ≡ neighbour S d n) ⌝ }
 {
-    near[(4 * n + d) as usize]
+    near[(4 * n + d) as usize] as u64
 }

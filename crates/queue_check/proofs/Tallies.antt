@@ -1,4 +1,4 @@
--- Tallies. Order: a list's elements tested, gathered and summed one by one; so many queues or nodes tested and summed one by one;
+-- Tallies. Order: a list's elements tested and summed one by one, or tested two by two; so many queues or nodes tested and summed one by one;
 -- bounds of sums; a queue's packets one by one. Assumes nothing.
 use mathlib.Core.Path.{_≡_, refl, ap, ap₂, sym, _∙_}
 use mathlib.Core.Bool.{Bool, true, false, _&&_}
@@ -7,7 +7,7 @@ use Prim.Native.Nat.{ℕ, zero, suc, _+_, _*_, _-_, _<_, _≤_}
 use native.Mathlib.Numerals.{add-one}
 use native.Mathlib.Nat.{le-step, suc-mul}
 use native.Mathlib.Omega.{arith}
-use borrow.Author.Tests.{ne-eqb}
+use borrow.Author.Tests.{eq-eqb, ne-eqb}
 use lib.Bits.{bitAnd, bitOr, or-add-and, and-le-r}
 use lib.Dec.{eqb, eqb·zero-suc, eqb·suc-zero}
 use lib.ListN.{length, getD, drop, drop-of-length-le}
@@ -42,35 +42,46 @@ sum-end : (g : ℕ → ℕ) (l : List ℕ) (i : ℕ) → length l ≤ i → sumO
 unfolding sumOf
 sum-end g l i h = ap (sumOf g) (drop-of-length-le l h)
 
--- words gathered by `|` are 0 when each of them is
-pub or-none : (a b : ℕ) → eqb (bitOr a b) 0 ≡ eqb a 0 && eqb 0 b
+-- two words are 0 when what they have in either is
+or-none : (a b : ℕ) → eqb (bitOr a b) 0 ≡ eqb 0 a && eqb 0 b
 or-none zero zero = refl
 or-none zero (suc b) = eqb·suc-zero b ∙ sym (eqb·zero-suc b)
 or-none (suc a) b =
     ne-eqb (bitOr (suc a) b) 0 (some (bitOr (suc a) b) (bitAnd (suc a) b) (or-add-and (suc a) b) (and-le-r (suc a) b))
-    ∙ sym (and-stop _ _ (eqb·suc-zero a))
+    ∙ sym (and-stop _ _ (eqb·zero-suc a))
   where
     some : (o n : ℕ) → o + n ≡ suc a + b → n ≤ b → o ≡ 0 → ⊥
     some o n e l z = omega arith
 
--- words gathered by `|`, and those from place i on
-pub gather-more : (l : List ℕ) (i any : ℕ) → i < length l
-    → eqb (bitOr any (getD l i 0)) 0 && allOf (eqb 0) (drop (i + 1) l) ≡ eqb any 0 && allOf (eqb 0) (drop i l)
-gather-more l i any h =
-    ap (λ (t : Bool). t && allOf (eqb 0) (drop (i + 1) l)) (or-none any (getD l i 0))
-    ∙ regroup (eqb any 0) (eqb 0 (getD l i 0)) (allOf (eqb 0) (drop (i + 1) l))
-    ∙ ap (λ (t : Bool). eqb any 0 && t) (sym (all-from (eqb 0) l i h))
-  where
-    regroup : (a b c : Bool) → a && b && c ≡ a && (b && c)
-    regroup true b c = refl
-    regroup false b c = refl
+-- the words from place i on, two by two: both, and those behind them; the last one; none
+module _ (l : List ℕ) (i : ℕ) where
+  two-words : i + 1 < length l → allOf (eqb 0) (drop i l) ≡ eqb (bitOr (getD l i 0) (getD l (i + 1) 0)) 0 && allOf (eqb 0) (drop (i + 2) l)
+  two-words h =
+      all-from (eqb 0) l i (omega arith)
+      ∙ ap (λ (t : Bool). eqb 0 (getD l i 0) && t) (all-from (eqb 0) l (i + 1) h)
+      ∙ regroup (eqb 0 (getD l i 0)) (eqb 0 (getD l (i + 1) 0)) (allOf (eqb 0) (drop (i + 1 + 1) l))
+      ∙ ap₂ (λ (t : Bool) (j : ℕ). t && allOf (eqb 0) (drop j l)) (sym (or-none (getD l i 0) (getD l (i + 1) 0))) (let e : i + 1 + 1 ≡ i + 2 = omega arith in e)
+    where
+      regroup : (a b c : Bool) → a && (b && c) ≡ a && b && c
+      regroup true b c = refl
+      regroup false b c = refl
 
-pub gather-end : (l : List ℕ) (i any : ℕ) → length l ≤ i → eqb any 0 ≡ eqb any 0 && allOf (eqb 0) (drop i l)
-gather-end l i any h = sym (ap (λ (t : Bool). eqb any 0 && t) (all-end (eqb 0) l i h) ∙ last (eqb any 0))
-  where
-    last : (a : Bool) → a && true ≡ a
-    last true = refl
-    last false = refl
+  pub pair-stop : i + 1 < length l → (bitOr (getD l i 0) (getD l (i + 1) 0) ≡ 0 → ⊥) → false ≡ allOf (eqb 0) (drop i l)
+  pair-stop h ne = sym (two-words h ∙ and-stop _ _ (ne-eqb (bitOr (getD l i 0) (getD l (i + 1) 0)) 0 ne))
+
+  pub pair-on : i + 1 < length l → bitOr (getD l i 0) (getD l (i + 1) 0) ≡ 0 → allOf (eqb 0) (drop (i + 2) l) ≡ allOf (eqb 0) (drop i l)
+  pair-on h e = sym (two-words h ∙ and-on _ _ (eq-eqb (bitOr (getD l i 0) (getD l (i + 1) 0)) 0 e))
+
+  pub last-word : i < length l → length l ≤ i + 1 → eqb (getD l i 0) 0 ≡ allOf (eqb 0) (drop i l)
+  last-word h n =
+      sym (all-from (eqb 0) l i h ∙ ap (λ (t : Bool). eqb 0 (getD l i 0) && t) (all-end (eqb 0) l (i + 1) n) ∙ alone (getD l i 0))
+    where
+      alone : (a : ℕ) → eqb 0 a && true ≡ eqb a 0
+      alone zero = refl
+      alone (suc a) = and-stop _ _ (eqb·zero-suc a) ∙ sym (eqb·suc-zero a)
+
+  pub no-word : length l ≤ i → true ≡ allOf (eqb 0) (drop i l)
+  no-word n = sym (all-end (eqb 0) l i n)
 
 -- the first i have passed, and the sum of theirs is `sum`
 pub record Left (f : ℕ → Bool) (g : ℕ → ℕ) (l : List ℕ) (i sum : ℕ) : Type 0 where

@@ -86,28 +86,25 @@ lowest-first S w set h f c l small e ne =
     (λ r hr. c .others (h / 16) r hn (lt-trans hr hq) (l .below (headOf (h / 16) r) (omega arith)))
     e ne
 
--- after a move of queue q of node n by output o: the heads that it may have given a move are in the set, and those that were
-pub record Marked (S : Shape) (n q o : ℕ) (set after : List ℕ) : Type 0 where
+-- the set after holds what the set before did, all of it heads of queues that exist; a head that is not in it then is apart from those that were put in
+pub record Added (S : Shape) (set after : List ℕ) (Apart : ℕ → ℕ → Type 0) : Type 0 where
   pub set-of : IsSet after
   pub heads : Heads S set → Heads S after
-  pub others : (k r : ℕ) → r < queues → member after (headOf k r) ≡ false → (member set (headOf k r) ≡ false) × Untouched S n q o k r
+  pub others : (k r : ℕ) → r < queues → member after (headOf k r) ≡ false → (member set (headOf k r) ≡ false) × Apart k r
 
--- the same for its source alone, for its target alone, and for the node that feeds its source alone
-pub record SourceMarked (S : Shape) (n q : ℕ) (set after : List ℕ) : Type 0 where
-  pub set-of : IsSet after
-  pub heads : Heads S set → Heads S after
-  pub others : (k r : ℕ) → r < queues → member after (headOf k r) ≡ false → (member set (headOf k r) ≡ false) × ((n ≡ k) × (q ≡ r) → ⊥)
+-- put in were the heads that a move of queue q of node n by output o may have given a move
+abbrev pub Marked : Shape → ℕ → ℕ → ℕ → List ℕ → List ℕ → Type 0
+Marked S n q o set after = Added S set after (λ k r. Untouched S n q o k r)
 
-pub record ArrivalMarked (S : Shape) (n o : ℕ) (set after : List ℕ) : Type 0 where
-  pub set-of : IsSet after
-  pub heads : Heads S set → Heads S after
-  pub others : (k r : ℕ) → r < queues → member after (headOf k r) ≡ false
-      → (member set (headOf k r) ≡ false) × (o ≢ deliver → (target S n o ≡ k) × (o ≡ r) → ⊥)
+-- of these its source alone, its target alone, and those of the node that feeds its source alone
+abbrev pub SourceMarked : Shape → ℕ → ℕ → List ℕ → List ℕ → Type 0
+SourceMarked S n q set after = Added S set after (λ k r. (n ≡ k) × (q ≡ r) → ⊥)
 
-pub record FeederMarked (S : Shape) (n q : ℕ) (set after : List ℕ) : Type 0 where
-  pub set-of : IsSet after
-  pub heads : Heads S set → Heads S after
-  pub others : (k r : ℕ) → r < queues → member after (headOf k r) ≡ false → (member set (headOf k r) ≡ false) × (q ≢ deliver → k ≢ before S n q)
+abbrev pub ArrivalMarked : Shape → ℕ → ℕ → List ℕ → List ℕ → Type 0
+ArrivalMarked S n o set after = Added S set after (λ k r. o ≢ deliver → (target S n o ≡ k) × (o ≡ r) → ⊥)
+
+abbrev pub FeederMarked : Shape → ℕ → ℕ → List ℕ → List ℕ → Type 0
+FeederMarked S n q set after = Added S set after (λ k r. q ≢ deliver → k ≢ before S n q)
 
 pub covered-moved : (S : Shape) (w set after : List ℕ) (n q o : ℕ) → Torus S → Network S w → Permitted S w n q o → Covered S w set → Marked S n q o set after
     → Covered S (afterMove S w n q o) after
@@ -142,9 +139,6 @@ source-marked S n q set after hn hq i =
     apart : (k r : ℕ) → (eqb (headOf k r) (headOf n q) ≡ false) × (member set (headOf k r) ≡ false) → (member set (headOf k r) ≡ false) × ((n ≡ k) × (q ≡ r) → ⊥)
     apart k r x = (x .1, λ e. eqb-false (headOf k r) (headOf n q) (x .0) (ap₂ headOf (sym (e .0)) (sym (e .1))))
 
-pub arrival-none : (S : Shape) (n o : ℕ) (set : List ℕ) → IsSet set → o ≡ 0 → ArrivalMarked S n o set set
-arrival-none S n o set i z = record { set-of = i; heads = λ hs. hs; others = λ k r hr e. (e, λ ne. absurd (ne z)) }
-
 pub arrival-marked : (S : Shape) (n o there : ℕ) (set after : List ℕ) → there ≡ target S n o → SourceMarked S there o set after → ArrivalMarked S n o set after
 arrival-marked S n o there set after t m =
     record {
@@ -152,9 +146,6 @@ arrival-marked S n o there set after t m =
       heads = m .heads;
       others = λ k r hr e. let (x, apart) = m .others k r hr e in (x, λ ne y. apart (t ∙ y .0, y .1));
     }
-
-pub feeder-none : (S : Shape) (n q : ℕ) (set : List ℕ) → IsSet set → q ≡ 0 → FeederMarked S n q set set
-feeder-none S n q set i z = record { set-of = i; heads = λ hs. hs; others = λ k r hr e. (e, λ ne. absurd (ne z)) }
 
 pub feeder-marked : (S : Shape) (n q there : ℕ) (set after : List ℕ) → there < nodes S → there ≡ before S n q → NodeInserted set after there → FeederMarked S n q set after
 feeder-marked S n q there set after ht t i =

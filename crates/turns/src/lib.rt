@@ -24,7 +24,7 @@ pub enum Turn {
 fn turn_by_move(
     words: &mut [u64],
     s: Sizes,
-    near: &[u64],
+    near: &[u8],
     ready: &mut [u64],
     room: u64,
     n: u64,
@@ -56,7 +56,7 @@ fn turn_by_move(
 pub fn take_turn(
     words: &mut [u64],
     s: Sizes,
-    near: &[u64],
+    near: &[u8],
     ready: &mut [u64],
     budget: u64,
     room: u64,

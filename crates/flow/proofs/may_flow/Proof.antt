@@ -83,7 +83,7 @@ look-up-requires c κs =
     let f = c .before .before .before in
     let a = f .args in
     let small = asked (a .s) (a .words .now) (a .n) (a .o) (f .pre .0) in
-    (omega arith, small .3, f .pre .1 .words)
+    (omega arith, small .3, f .pre .1 .bytes)
 
 capacity-requires : tie.Need-capacity-requires
 capacity-requires c κs = search needs

@@ -1,44 +1,87 @@
--- `queue_check::all_zero` meets its contract. The loop's invariant: what is gathered and what is left decide for all. Assumes nothing.
+-- `queue_check::all_zero` meets its contract. The loop's invariant: the words from place i on decide for all. Assumes nothing.
 use mathlib.Core.Path.{_≡_, refl, _∙_}
-use mathlib.Core.Bool.{_&&_}
-use Prim.Native.Nat.{_-_}
+use Prim.Native.Nat.{_-_, _≤_}
 use native.Mathlib.Omega.{arith}
 use lib.Dec.{eqb}
 use lib.ListN.{length, drop}
 use Rattle.base.specs.Tests.{allOf}
-use Rattle.queue_check.proofs.Tallies.{gather-more, gather-end}
+use Rattle.queue_check.proofs.Tallies.{pair-stop, pair-on, last-word, no-word}
 use Rattle.queue_check.proofs.all_zero.Statement.{statement}
 use Rattle.queue_check.proofs.all_zero.Tie as tie
 
 abbrev Inv-loop : tie.InvT-loop
-Inv-loop part from any₀ i₀ any i = (eqb any 0 && allOf (eqb 0) (drop i part)) ≡ allOf (eqb 0) (drop from part)
+Inv-loop part from i₀ i = (allOf (eqb 0) (drop i part) ≡ allOf (eqb 0) (drop from part)) × (i ≤ length part)
 
 abbrev μ-loop : tie.MeasureT-loop
-μ-loop part from any₀ i₀ any i = length part - i
+μ-loop part from i₀ i = length part - i
 
+-- src/lib.rt:49:5
 loop-holds : tie.Need-loop-holds Inv-loop μ-loop
-loop-holds c = refl
+loop-holds c = (refl, c .pre)
 
-mul-any : tie.Need-mul-any Inv-loop μ-loop
-mul-any c = omega arith
+-- src/lib.rt:49:11
+add-loop : tie.Need-add-loop Inv-loop μ-loop
+add-loop c = omega arith
 
-shared-slice-read-any : tie.Need-shared-slice-read-any Inv-loop μ-loop
-shared-slice-read-any c = omega arith
+-- src/lib.rt:50:19
+mul-two : tie.Need-mul-two Inv-loop μ-loop
+mul-two c = omega arith
 
+-- src/lib.rt:50:19
+shared-slice-read-two : tie.Need-shared-slice-read-two Inv-loop μ-loop
+shared-slice-read-two c = omega arith
+
+-- src/lib.rt:50:34
+add-two : tie.Need-add-two Inv-loop μ-loop
+add-two c = omega arith
+
+-- src/lib.rt:50:29
+mul-two-2 : tie.Need-mul-two-2 Inv-loop μ-loop
+mul-two-2 c = omega arith
+
+-- src/lib.rt:50:29
+shared-slice-read-two-2 : tie.Need-shared-slice-read-two-2 Inv-loop μ-loop
+shared-slice-read-two-2 c = omega arith
+
+-- src/lib.rt:52:13
+returns : tie.Need-returns Inv-loop μ-loop
+returns c =
+    let l = c .before .before .before .before in
+    pair-stop (l .before .args .part .now) (l .loop .i) (c .before .before .before .loop-test .taken) (c .if1 .taken) ∙ l .loop .inv .0
+
+-- src/lib.rt:54:9
 add-i : tie.Need-add-i Inv-loop μ-loop
 add-i c = omega arith
 
+-- src/lib.rt:49:5
 loop-less : tie.Need-loop-less Inv-loop μ-loop
 loop-less c = omega arith
 
+-- src/lib.rt:49:5
 loop-again : tie.Need-loop-again Inv-loop μ-loop
 loop-again c =
-    gather-more (c .before .before .before .args .part .now) (c .before .before .loop .i) (c .before .before .loop .any) (c .before .loop-test .taken)
-    ∙ c .before .before .loop .inv
+    let l = c .before .before .before .before in
+    (pair-on (l .before .args .part .now) (l .loop .i) (c .before .before .before .loop-test .taken) (c .if1 .left) ∙ l .loop .inv .0, omega arith)
 
-returns : tie.Need-returns Inv-loop μ-loop
-returns c =
-    gather-end (c .before .before .args .part .now) (c .before .loop .i) (c .before .loop .any) (c .loop-test .left) ∙ c .before .loop .inv
+-- src/lib.rt:57:16
+mul-result : tie.Need-mul-result Inv-loop μ-loop
+mul-result c = omega arith
+
+-- src/lib.rt:57:16
+shared-slice-read-result : tie.Need-shared-slice-read-result Inv-loop μ-loop
+shared-slice-read-result c = omega arith
+
+-- src/lib.rt:57:9
+returns-2 : tie.Need-returns-2 Inv-loop μ-loop
+returns-2 c =
+    let l = c .before .before .before in
+    last-word (l .before .args .part .now) (l .loop .i) (c .before .if2 .taken) (c .before .before .loop-test .left) ∙ l .loop .inv .0
+
+-- src/lib.rt:44:1
+returns-3 : tie.Need-returns-3 Inv-loop μ-loop
+returns-3 c =
+    let l = c .before .before in
+    no-word (l .before .args .part .now) (l .loop .i) (c .if2 .left) ∙ l .loop .inv .0
 
 pub all-zero-spec : {M : Type 1} → statement M
 all-zero-spec =
@@ -47,9 +90,17 @@ all-zero-spec =
     Inv-loop
     μ-loop
     loop-holds
-    mul-any
-    shared-slice-read-any
+    add-loop
+    mul-two
+    shared-slice-read-two
+    add-two
+    mul-two-2
+    shared-slice-read-two-2
+    returns
     add-i
     loop-less
     loop-again
-    returns)
+    mul-result
+    shared-slice-read-result
+    returns-2
+    returns-3)

@@ -29,7 +29,7 @@ sub-look-up c = search needs
 look-up-requires : tie.Need-look-up-requires
 look-up-requires c κs =
     let a = c .before .before .before in
-    (omega arith, lt-of-lt-of-le (a .pre .1 .0 .1) (rings-nodes (a .args .s) (a .pre .1 .0 .0)), a .pre .1 .1 .words)
+    (omega arith, lt-of-lt-of-le (a .pre .1 .0 .1) (rings-nodes (a .args .s) (a .pre .1 .0 .0)), a .pre .1 .1 .bytes)
 
 -- the neighbour that was looked up
 abbrev start : tie.After-look-up → tie.Start

@@ -1,4 +1,4 @@
--- `packet::near::fill` meets its contract. The loop's invariant: the words of the nodes before n are there, and n stands at the place. Assumes nothing.
+-- `packet::near::fill` meets its contract. The loop's invariant: the bytes of the nodes before n are there, and n stands at the place. Assumes nothing.
 use borrow.Author.Needs.{needs}
 use mathlib.Core.Path.{_≡_, ap, sym, subst, _∙_}
 use Prim.Native.Nat.{ℕ, _+_, _*_, _-_, _<_, _≤_}

@@ -14,7 +14,7 @@ use Rattle.packet.proofs.near.fill_node.Statement.{statement}
 use Rattle.packet.proofs.near.fill_node.Tie as tie
 use Rattle.packet.proofs.near.fill_node.Reads as reads
 use Rattle.packet.proofs.near.fill_node.Lts as lts
-use Rattle.packet.proofs.near.fill_word.Reads as fill-word-reads
+use Rattle.packet.proofs.near.fill_byte.Reads as fill-byte-reads
 
 is-node : (c : tie.Start) → c .args .n < nodes (shapeOfSizes (c .args .s))
 is-node c =
@@ -29,36 +29,36 @@ column c = column-is (c .args .s) (c .args .x) (c .args .y) (c .pre .0) ∙ ap (
 row : (c : tie.Start) → c .args .y ≡ coordinate (shapeOfSizes (c .args .s)) 1 (c .args .n)
 row c = row-is (c .args .s) (c .args .x) (c .args .y) (c .pre .0) ∙ ap (coordinate (shapeOfSizes (c .args .s)) 1) (c .pre .1)
 
--- the same words, counted otherwise
+-- the same bytes, counted otherwise
 counted : {S : Shape} {a b : ℕ} {near : List ℕ} → a ≡ b → NearTo S a near → NearTo S b near
 counted {S} {near = near} e t = subst (λ (k : ℕ). NearTo S k near) e t
 
 -- src/near.rt:31:5
-fill-word-requires : tie.Need-fill-word-requires
-fill-word-requires c κs =
+fill-byte-requires : tie.Need-fill-byte-requires
+fill-byte-requires c κs =
     let a = c .before .before in
     ((a .pre .0 .rings, omega arith, is-node a, column a), (few a, counted (omega arith) (a .pre .2)))
 
 -- src/near.rt:32:5
-fill-word-requires-2 : tie.Need-fill-word-requires-2
-fill-word-requires-2 c κs =
+fill-byte-requires-2 : tie.Need-fill-byte-requires-2
+fill-byte-requires-2 c κs =
     let f = c .before .before .before in
     let a = f .before .before .before in
-    ((a .pre .0 .rings, omega arith, is-node a, column a), (few a, counted (omega arith) (f .fill-word .ensures)))
+    ((a .pre .0 .rings, omega arith, is-node a, column a), (few a, counted (omega arith) (f .fill-byte .ensures)))
 
 -- src/near.rt:33:5
-fill-word-requires-3 : tie.Need-fill-word-requires-3
-fill-word-requires-3 c κs =
+fill-byte-requires-3 : tie.Need-fill-byte-requires-3
+fill-byte-requires-3 c κs =
     let f = c .before .before .before in
     let a = f .before .before .before .before .before .before .before in
-    ((a .pre .0 .rings, omega arith, is-node a, row a), (few a, counted (omega arith) (f .fill-word2 .ensures)))
+    ((a .pre .0 .rings, omega arith, is-node a, row a), (few a, counted (omega arith) (f .fill-byte2 .ensures)))
 
 -- src/near.rt:34:5
-fill-word-requires-4 : tie.Need-fill-word-requires-4
-fill-word-requires-4 c κs =
+fill-byte-requires-4 : tie.Need-fill-byte-requires-4
+fill-byte-requires-4 c κs =
     let f = c .before .before .before in
     let a = f .before .before .before .before .before .before .before .before .before .before .before in
-    ((a .pre .0 .rings, omega arith, is-node a, row a), (few a, counted (omega arith) (f .fill-word3 .ensures)))
+    ((a .pre .0 .rings, omega arith, is-node a, row a), (few a, counted (omega arith) (f .fill-byte3 .ensures)))
 
 -- src/near.rt:27:1
 same-length : tie.Need-same-length
@@ -66,15 +66,15 @@ same-length c = search needs
 
 -- src/near.rt:27:1
 returns : tie.Need-returns
-returns c = counted (omega arith) (c .before .before .fill-word4 .ensures)
+returns c = counted (omega arith) (c .before .before .fill-byte4 .ensures)
 
 pub fill-node-spec : {M : Type 1} → statement M
 fill-node-spec =
     tie.close
     (tie.spec
-    fill-word-requires
-    fill-word-requires-2
-    fill-word-requires-3
-    fill-word-requires-4
+    fill-byte-requires
+    fill-byte-requires-2
+    fill-byte-requires-3
+    fill-byte-requires-4
     same-length
     returns)

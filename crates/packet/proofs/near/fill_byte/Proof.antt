@@ -1,0 +1,54 @@
+-- `packet::near::fill_byte` meets its contract. Assumes nothing.
+use borrow.Author.Needs.{needs}
+use mathlib.Core.Path.{refl}
+use Prim.Native.Nat.{_+_, _*_, _<_}
+use native.Mathlib.Omega.{arith}
+use Rattle.network.specs.TorusLaws.{neighbour-lt}
+use Rattle.packet.specs.Geometry.{shapeOfSizes}
+use Rattle.packet.specs.GeometryLaws.{rings-torus, rings-nodes}
+use Rattle.packet.specs.Near.{near-more}
+use Rattle.packet.proofs.near.fill_byte.Statement.{statement}
+use Rattle.packet.proofs.near.fill_byte.Tie as tie
+use Rattle.packet.proofs.near.fill_byte.Reads as reads
+use Rattle.packet.proofs.near.fill_byte.Lts as lts
+use Rattle.packet.proofs.torus.step_from.Reads as step-from-reads
+
+-- src/near.rt:22:9
+step-from-requires : tie.Need-step-from-requires
+step-from-requires c κs = search needs
+
+-- src/near.rt:23:34
+cast-near : tie.Need-cast-near
+cast-near c =
+    let a = c .before .before in
+    let e = c .step-from .ensures in
+    let l = neighbour-lt (shapeOfSizes (a .args .s)) (a .args .d) (a .args .n) (rings-torus (a .args .s) (a .pre .0 .0)) (a .pre .0 .1) (a .pre .0 .2) in
+    let m = rings-nodes (a .args .s) (a .pre .0 .0) in
+    omega arith
+
+-- src/near.rt:23:11
+mul-near : tie.Need-mul-near
+mul-near c = search needs
+
+-- src/near.rt:23:11
+add-near : tie.Need-add-near
+add-near c = search needs
+
+-- src/near.rt:23:5
+slice-write-near : tie.Need-slice-write-near
+slice-write-near c = search needs
+
+-- src/near.rt:17:1
+same-length : tie.Need-same-length
+same-length c = search needs
+
+-- src/near.rt:17:1
+returns : tie.Need-returns
+returns c =
+    let a = c .before .before in
+    near-more (4 * a .args .n + a .args .d) (c .step-from .result) (a .args .d) (a .args .n) (a .pre .1 .1) (omega arith) refl (a .pre .0 .1) (c .step-from .ensures)
+
+pub fill-byte-spec : {M : Type 1} → statement M
+fill-byte-spec =
+    tie.close
+    (tie.spec step-from-requires cast-near mul-near add-near slice-write-near same-length returns)
