@@ -51,7 +51,7 @@ pub fn accept(words: &mut [u64], s: Sizes, n: u64, destination: u64, tag: u32)
 {
     let p = packet::torus::offered(s, n, destination, tag);
     queue::push(words, s.x, s.y, s.escape, s.adaptive, s.injection, n, 0, p);
-    queue::raise(words, 5);
+    queue::raise(words, queue::ACCEPTED_AT);
 }
 
 // Move: the head of queue q of node n leaves. It is handed out, or becomes the newest packet of its target after a hop.
@@ -64,8 +64,8 @@ pub fn make_move(words: &mut [u64], s: Sizes, n: u64, q: u64, o: u64) -> u64
 {
     let p = queue::pop(words, s.x, s.y, s.escape, s.adaptive, s.injection, n, q);
     if o == 0 {
-        queue::raise(words, 6);
-        queue::raise(words, 7);
+        queue::raise(words, queue::DELIVERED_AT);
+        queue::raise(words, queue::MOVES_AT);
         return p;
     }
     let d = (o - 1) % 4;
@@ -82,6 +82,6 @@ pub fn make_move(words: &mut [u64], s: Sizes, n: u64, q: u64, o: u64) -> u64
         o,
         hopped,
     );
-    queue::raise(words, 7);
+    queue::raise(words, queue::MOVES_AT);
     p
 }

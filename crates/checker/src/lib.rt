@@ -18,7 +18,7 @@ ghost use Rattle.queue.specs.Queue.{Enough};
 pub fn network_refusal(words: &[u64]) -> u64
     ensures { λ r. ⌜ r ≡ networkRefusal (now (words .entry)) ⌝ }
 {
-    if words.len() < 8 {
+    if words.len() < queue::HEADER_WORDS {
         return 1;
     }
     let s = sizes_of(words);
@@ -97,9 +97,9 @@ fn counters_fit(words: &[u64], held: u64, work: u64) -> bool
     ensures { λ r. ⌜ ((S : Shape) → held ≡ packetsHeld S (now (words .entry)) → work ≡ workLeft S (now (words .entry))
         → r ≡ countersFit S (now (words .entry))) ⌝ }
 {
-    let accepted = words[5];
-    let delivered = words[6];
-    let moves = words[7];
+    let accepted = words[queue::ACCEPTED_AT];
+    let delivered = words[queue::DELIVERED_AT];
+    let moves = words[queue::MOVES_AT];
     if 4294967295 < accepted {
         return false;
     }

@@ -55,8 +55,8 @@ pub fn drain_network(words: &mut [u64], s: Sizes, budget: u32, ledger: &mut [u64
     requires { ⌜ Network (shapeOfSizes s) (now words) ⌝ }
     ensures { λ r. ⌜ DrainedTo (shapeOfSizes s) (now (words .entry)) budget (now (ledger .entry)) r (now (words .exit)) (now (ledger .exit)) ⌝ }
 {
-    let accepted = words[5];
-    let delivered = words[6];
+    let accepted = words[queue::ACCEPTED_AT];
+    let delivered = words[queue::DELIVERED_AT];
     if accepted == delivered {
         return Drained::Stopped {
             moves: 0,

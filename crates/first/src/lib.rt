@@ -1,7 +1,5 @@
 // The search of First, on words that have passed the check: the first permitted move in the order node, queue, route. Every function equals
 // the definition of its name in the crate `network` (specs/Calls.antt).
-use flow::ACCEPTED_AT;
-use flow::DELIVERED_AT;
 use flow::flow_rules;
 use flow::may_flow;
 use network::Found;
@@ -24,14 +22,14 @@ pub fn first_move(words: &[u64], s: Sizes) -> Found
     requires { ⌜ Network (shapeOfSizes s) (now words) ⌝ }
     ensures { λ r. ⌜ r ≡ firstMove (shapeOfSizes s) (now (words .entry)) ⌝ }
 {
-    if words[ACCEPTED_AT] == words[DELIVERED_AT] {
+    if words[queue::ACCEPTED_AT] == words[queue::DELIVERED_AT] {
         return Found::Nothing;
     }
     let mut found = false;
     let mut node: u64 = 0;
     let mut queue: u64 = 0;
     let mut output: u64 = 0;
-    let mut start: usize = 8;
+    let mut start: usize = queue::HEADER_WORDS;
     let total = nodes(s);
     'search: for n in 0..total {
         for q in 0..QUEUES {

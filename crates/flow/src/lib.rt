@@ -18,11 +18,6 @@ ghost use Rattle.packet.specs.Near.{Near};
 ghost use Rattle.network.specs.Sizes.{nodes, queues};
 ghost use Rattle.flow.specs.QueueOf.{QueueOf};
 
-// The words of the header that count the packets accepted and delivered.
-pub const ACCEPTED_AT: usize = 5;
-
-pub const DELIVERED_AT: usize = 6;
-
 // The numbers of document 01's table for what the flow rule refuses.
 pub const NO_SLOT: u64 = 11;
 

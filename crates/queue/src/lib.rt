@@ -13,6 +13,15 @@ ghost use Rattle.network.specs.Refusals.{head};
 ghost use Rattle.network.specs.Calls.{shapeOf, packetArrives, headLeaves};
 ghost use Rattle.queue.specs.Queue.{IsQueue, QueueAt, Checked, slots};
 
+// The words of the header, and where the counts of packets accepted, packets delivered and moves made stand among them.
+pub const HEADER_WORDS: usize = 8;
+
+pub const ACCEPTED_AT: usize = 5;
+
+pub const DELIVERED_AT: usize = 6;
+
+pub const MOVES_AT: usize = 7;
+
 // The packet becomes the newest of a queue with a free slot.
 pub fn append(q: &mut [u64], p: u64)
     requires { ⌜ IsQueue (now q) ⌝ }
@@ -104,7 +113,7 @@ pub fn queue_start(e: u64, a: u64, j: u64, n: u64, q: u64) -> usize
 {
     let node = node_words(e, a, j);
     let before = words_before(e, a, j, q);
-    (8 + n * node + before) as usize
+    HEADER_WORDS + (n * node + before) as usize
 }
 
 pub fn queue_end(e: u64, a: u64, j: u64, n: u64, q: u64) -> usize
@@ -122,7 +131,7 @@ pub fn need(x: u64, y: u64, e: u64, a: u64, j: u64) -> usize
     ensures { λ r. ⌜ r ≡ need (shapeOf x y e a j) ⌝ }
 {
     let node = node_words(e, a, j);
-    (8 + x * y * node) as usize
+    HEADER_WORDS + (x * y * node) as usize
 }
 
 // The packet becomes the newest of queue q of node n, which has a free slot.

@@ -174,7 +174,7 @@ pub fn queues_fit(words: &[u64], s: Sizes) -> Tally
     let node = queue::node_words(s.escape, s.adaptive, s.injection) as usize;
     let mut held = 0;
     let mut work = 0;
-    let mut start = 8;
+    let mut start = queue::HEADER_WORDS;
     let mut place = Place { x: 0, y: 0 };
     let mut n = 0;
     while n < nodes {

@@ -1,6 +1,5 @@
 // The tests that each call makes after the check, in document 01's order: the number of the first that applies, or 0. Every function equals
 // the definition of its name in the crate `network` (specs/Refusals.antt).
-use flow::ACCEPTED_AT;
 use flow::flow_rules;
 use flow::head;
 use flow::held_count;
@@ -43,7 +42,7 @@ pub fn offer_rules(words: &[u64], s: Sizes, n: u64, destination: u64) -> u64
     if count <= destination {
         return NO_SUCH_NODE;
     }
-    let accepted = words[ACCEPTED_AT];
+    let accepted = words[queue::ACCEPTED_AT];
     let slots = capacity(s.escape, s.adaptive, s.injection, 0);
     let held = held_count(words, s, n, 0);
     if accepted == MOST_ACCEPTED {

@@ -68,7 +68,7 @@ pub fn take_turn(
     ensures words { λ _. ⌜ now (words .exit) ≡ turnWords (shapeOfSizes s) (now (words .entry)) budget room ⌝ }
     ensures set { λ _. ⌜ Covered (shapeOfSizes s) (turnWords (shapeOfSizes s) (now (words .entry)) budget room) (now (ready .exit)) ⌝ }
 {
-    if words[5] == words[6] {
+    if words[queue::ACCEPTED_AT] == words[queue::DELIVERED_AT] {
         return Turn::Stopped(Stop::Emptied);
     }
     if budget == 0 {
