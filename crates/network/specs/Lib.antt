@@ -15,6 +15,8 @@ pub mod Refusals
 pub mod RefusalLaws
 pub mod Calls
 pub mod FirstLaws
+pub mod DrainLaws
 pub mod OfferLaws
 pub mod Run
+pub mod RunLaws
 pub mod Cases

@@ -4,17 +4,17 @@ use mathlib.Core.Path.{_≡_}
 use mathlib.Core.Logic.{_↔_, _≢_}
 use mathlib.Core.Bool.{Bool, cond, _&&_}
 use mathlib.Core.List.{List, [], _∷_, _++_, map}
-use Prim.Native.Nat.{ℕ, _+_, _<_}
+use Prim.Native.Nat.{ℕ, _+_, _<_, _≤_}
 use lib.Dec.{T, eqb}
-use lib.ListN.{length, drop}
+use lib.ListN.{length, take, drop}
 use Rattle.base.specs.Tests.{allOf}
 use Rattle.base.specs.Sums.{sumOf}
 use Rattle.network.specs.Sizes.{Shape, nodes, directions}
 use Rattle.network.specs.Packet.{label, destination}
 use Rattle.network.specs.Layout.{shape, need, total, delivered, movesMade}
 use Rattle.network.specs.Check.{packetsHeld, workLeft, ringHasRoom}
-use Rattle.network.specs.Refusals.{networkRefusal, moveRefusal}
-use Rattle.network.specs.Calls.{Delivery, moveWords, moveAnswer, movedPackets, drained, drainWords, drainAnswer, drainedMoves}
+use Rattle.network.specs.Refusals.{networkRefusal, moveRefusal, head}
+use Rattle.network.specs.Calls.{Delivery, moveWords, moveAnswer, movedPackets, drained, drainWords, drainLedger, drainAnswer, drainedMoves, drainedDelivered}
 
 -- "a list of Moves and Drains of any length, the empty one too, with any arguments": a Move's node, queue and output; a Drain's budget and its
 -- ledger, "of any length, apart from the network's words"
@@ -22,37 +22,59 @@ pub data Call : Type 0 where
   move : ℕ → ℕ → ℕ → Call
   drain : ℕ → List ℕ → Call
 
--- the words as they are left, what was handed out and where, in order, and the number of moves made
+-- a Drain's ledger: as it was lent, as it was left, and how many of its words the Drain answers that it wrote
+pub record Ledger : Type 0 where
+  pub lent : List ℕ
+  pub left : List ℕ
+  pub written : ℕ
+
+-- the words as they are left, what was handed out and where, in order, the number of moves made, and the ledgers of the Drains
 pub record Outcome : Type 0 where
   pub words : List ℕ
   pub handedOut : List Delivery
   pub moves : ℕ
+  pub ledgers : List Ledger
 
--- "The moves of a run are the permitted ones among its Moves, every other Move being refused, and, for each Drain that is not refused, the moves
--- that First names in turn until one of Drain's stops holds, as many as that Drain answers. Each does to the words what Calls says. Handed out
--- are the packet words that the Moves gave and the Drains wrote to their ledgers, each at the node of its move."
+-- packet words, each beside the node of the move that gave it
+unfoldable pub atNodes : List ℕ → List ℕ → List Delivery
+atNodes ns [] = []
+atNodes ns (p ∷ ps) = record { node = head ns; packet = p } ∷ atNodes (drop 1 ns) ps
+
+unfoldable pub ledgerOf : List ℕ → ℕ → List ℕ → Ledger
+ledgerOf w budget ledger =
+    record { lent = ledger; left = drainLedger w budget ledger; written = drainedDelivered (drainAnswer w budget (length ledger)) }
+
+-- the words that a Drain handed out are those that stand in its ledger when it returns, from the first on
+unfoldable pub wordsWritten : Ledger → List ℕ
+wordsWritten L = take (L .written) (L .left)
+
+-- A Move that is permitted is one move, any other none. A Drain that is not refused makes the moves that First names one after the other, as many as
+-- it answers. What a Move gave and what a Drain left in its ledger is handed out, each word at the node of its move.
 unfoldable pub outcome : Call → List ℕ → Outcome
 outcome (move n q o) w =
     record {
       words = moveWords w n q o;
       handedOut = map (λ p. record { node = n; packet = p }) (movedPackets (moveAnswer w n q o));
       moves = cond (eqb (moveRefusal w n q o) 0) 1 0;
+      ledgers = [];
     }
 outcome (drain budget ledger) w =
     record {
       words = drainWords w budget (length ledger);
-      handedOut = cond (eqb (networkRefusal w) 0) (drained w budget (length ledger) .deliveries) [];
+      handedOut = atNodes (map (λ d. d .node) (drained w budget (length ledger) .deliveries)) (wordsWritten (ledgerOf w budget ledger));
       moves = drainedMoves (drainAnswer w budget (length ledger));
+      ledgers = ledgerOf w budget ledger ∷ [];
     }
 
--- "each call is lent the words as the last one left them, and nothing else writes them meanwhile"
+-- every call is lent the words as the one before it left them
 unfoldable pub run : List Call → List ℕ → Outcome
-run [] w = record { words = w; handedOut = []; moves = 0 }
+run [] w = record { words = w; handedOut = []; moves = 0; ledgers = [] }
 run (c ∷ calls) w =
     record {
       words = run calls (outcome c w .words) .words;
       handedOut = outcome c w .handedOut ++ run calls (outcome c w .words) .handedOut;
       moves = outcome c w .moves + run calls (outcome c w .words) .moves;
+      ledgers = outcome c w .ledgers ++ run calls (outcome c w .words) .ledgers;
     }
 
 -- the packets of one label among those held, and among those handed out
@@ -76,6 +98,16 @@ pub record SomeMove (w : List ℕ) : Type 0 where
   pub output : ℕ
   pub permitted : moveRefusal w node queue output ≡ 0
 
+-- a ledger that a Drain left: what was written fits, the words behind it are as they were, and it is as long as it was
+pub record LedgerKept (L : Ledger) : Type 0 where
+  pub fits : L .written ≤ length (L .lent)
+  pub later-untouched : drop (L .written) (L .left) ≡ drop (L .written) (L .lent)
+  pub same-length : length (L .left) ≡ length (L .lent)
+
+unfoldable pub AllKept : List Ledger → Type 0
+AllKept [] = Unit
+AllKept (L ∷ Ls) = LedgerKept L × AllKept Ls
+
 -- "After every run:", of the words w at its start and what the run gave
 pub record AfterRun (w : List ℕ) (r : Outcome) : Type 0 where
   -- "Each word handed out is its own label, and its destination is the node of its move."
@@ -97,6 +129,8 @@ pub record AfterRun (w : List ℕ) (r : Outcome) : Type 0 where
   pub same-shape : shape (r .words) ≡ shape w
   pub same-length : length (r .words) ≡ length w
   pub rest-untouched : drop (need (shape w)) (r .words) ≡ drop (need (shape w)) w
+  -- every Drain's ledger is as it was lent behind the words that were handed out
+  pub ledgers-kept : AllKept (r .ledgers)
 
 -- Demand 3: "This holds for every list of Move and Drain calls, refused ones included, from any words that pass the check of a network, however
 -- the arbiter picks"

@@ -27,7 +27,8 @@ use Rattle.network.specs.Routes.{deliver}
 use Rattle.network.specs.Refusals.{networkRefusal, moveRules, moveRefusal, elseBy, head}
 use Rattle.network.specs.RefusalLaws.{network-passed, network-passes, neither, elseBy-zero, Permitted, permitted-of, permitted-by}
 use Rattle.network.specs.Calls.{Delivery, afterMove, moveWords, moveAnswer, movedPackets, drained, drainWords, drainAnswer, drainedMoves}
-use Rattle.network.specs.Run.{Call, move, drain, Outcome, outcome, run, SomeMove, AfterRun, Demand3}
+use Rattle.network.specs.Run.{Call, move, drain, Outcome, outcome, run, ledgerOf, SomeMove, AfterRun, Demand3}
+use Rattle.network.specs.RunLaws.{drain-handed, run-kept}
 use Rattle.run.specs.Step.{Ran, ran-none, ran-then, handsOut, step}
 use Rattle.run.specs.Alive.{Some, alive}
 use Rattle.run.specs.Drains.{drain-ran}
@@ -72,9 +73,9 @@ abbrev pub Made : List ℕ → Outcome → Type 0
 Made w r = Ran (shape w) w (r .words) (r .handedOut) (r .moves)
 
 made-move : (w : List ℕ) (n q o : ℕ) → moveRefusal w n q o ≡ 0
-    → outcome (move n q o) w ≡ record { words = afterMove (shape w) w n q o; handedOut = handsOut (shape w) w n q o; moves = 1 }
+    → outcome (move n q o) w ≡ record { words = afterMove (shape w) w n q o; handedOut = handsOut (shape w) w n q o; moves = 1; ledgers = [] }
 unfolding outcome moveWords moveAnswer handsOut movedPackets
-made-move w n q o e = rw (eq-eqb (moveRefusal w n q o) 0 e) (ap {B = Outcome} (λ (ds : List Delivery). record { words = afterMove (shape w) w n q o; handedOut = ds; moves = 1 }) (by (eqb o deliver)))
+made-move w n q o e = rw (eq-eqb (moveRefusal w n q o) 0 e) (ap {B = Outcome} (λ (ds : List Delivery). record { words = afterMove (shape w) w n q o; handedOut = ds; moves = 1; ledgers = [] }) (by (eqb o deliver)))
   where
     p : ℕ
     p = head (held (shape w) w n q)
@@ -83,7 +84,7 @@ made-move w n q o e = rw (eq-eqb (moveRefusal w n q o) 0 e) (ap {B = Outcome} (�
     by true = refl
     by false = refl
 
-refused-move : (w : List ℕ) (n q o : ℕ) → moveRefusal w n q o ≢ 0 → outcome (move n q o) w ≡ record { words = w; handedOut = []; moves = 0 }
+refused-move : (w : List ℕ) (n q o : ℕ) → moveRefusal w n q o ≢ 0 → outcome (move n q o) w ≡ record { words = w; handedOut = []; moves = 0; ledgers = [] }
 unfolding outcome moveWords moveAnswer movedPackets
 refused-move w n q o ne = rw (ne-eqb (moveRefusal w n q o) 0 ne)
 
@@ -93,9 +94,20 @@ made-drain : (w : List ℕ) (budget : ℕ) (ledger : List ℕ) → networkRefusa
       words = drained w budget (length ledger) .words;
       handedOut = drained w budget (length ledger) .deliveries;
       moves = drained w budget (length ledger) .moves;
+      ledgers = ledgerOf w budget ledger ∷ [];
     }
 unfolding outcome drainWords drainAnswer drainedMoves
-made-drain w budget ledger e = rw (eq-eqb (networkRefusal w) 0 e)
+made-drain w budget ledger e =
+    ap
+    (λ (ds : List Delivery).
+    record {
+      words = drainWords w budget (length ledger);
+      handedOut = ds;
+      moves = drainedMoves (drainAnswer w budget (length ledger));
+      ledgers = ledgerOf w budget ledger ∷ [];
+    })
+    (drain-handed w budget ledger e)
+    ∙ rw (eq-eqb (networkRefusal w) 0 e)
 
 pub call-made : (c : Call) (w : List ℕ) → Network (shape w) w → Made w (outcome c w)
 unfolding moveRefusal drained
@@ -163,4 +175,5 @@ demand3 w calls e = after (run-made calls w (network-passed w e))
           same-shape = r .same-shape;
           same-length = r .same-length;
           rest-untouched = r .rest;
+          ledgers-kept = run-kept calls w;
         }

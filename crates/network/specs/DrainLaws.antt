@@ -1,0 +1,66 @@
+-- What a Drain cannot go beyond, whatever the words are: its moves are at most the budget, its deliveries at most the room in the ledger.
+-- Order: one move more; the next move; a whole Drain. Assumes nothing.
+use mathlib.Core.Path.{_≡_}
+use mathlib.Core.Bool.{Bool, true, false, cond}
+use mathlib.Core.List.{List, [], _∷_, _++_}
+use Prim.Native.Nat.{ℕ, zero, suc, _+_, _≤_}
+use native.Mathlib.Omega.{arith}
+use lib.Dec.{eqb}
+use lib.ListN.{length, length-append}
+use Rattle.network.specs.declared.Found.{Found}
+use Rattle.network.specs.declared.Stop.{Stop}
+use Rattle.network.specs.Sizes.{Shape}
+use Rattle.network.specs.Layout.{held}
+use Rattle.network.specs.Check.{packetsHeld}
+use Rattle.network.specs.Routes.{deliver}
+use Rattle.network.specs.Refusals.{head}
+use Rattle.network.specs.Calls.{Delivery, Progress, afterMove, firstMove, stopped, oneMore, deliverNext, moveNext, drainFrom}
+
+pub record Within (budget room : ℕ) (r : Progress) : Type 0 where
+  pub few-moves : r .moves ≤ budget
+  pub few-deliveries : length (r .deliveries) ≤ room
+
+within-stopped : (budget room : ℕ) (w : List ℕ) (why : Stop) → Within budget room (stopped w why)
+unfolding stopped
+within-stopped budget room w why = record { few-moves = omega arith; few-deliveries = omega arith }
+
+within-more : (budget left room : ℕ) (ds : List Delivery) (r : Progress) → length ds + left ≤ room → Within budget left r → Within (suc budget) room (oneMore ds r)
+unfolding oneMore
+within-more budget left room ds r e h =
+    let m = h .few-moves in
+    let d = h .few-deliveries in
+    let l : length (ds ++ r .deliveries) ≡ length ds + length (r .deliveries) = length-append ds (r .deliveries) in
+    record { few-moves = omega arith; few-deliveries = omega arith }
+
+module _ (S : Shape) (w : List ℕ) (budget : ℕ) (on : ℕ → List ℕ → Progress) (rec : (room : ℕ) (v : List ℕ) → Within budget room (on room v)) where
+  within-delivery : (n q room : ℕ) → Within (suc budget) room (deliverNext S w n q room on)
+  unfolding deliverNext
+  within-delivery n q zero = within-stopped (suc budget) zero w Stop.Full
+  within-delivery n q (suc room) =
+      within-more budget room (suc room) (record { node = n; packet = head (held S w n q) } ∷ []) (on room (afterMove S w n q deliver)) (omega arith)
+      (rec room (afterMove S w n q deliver))
+
+  within-next : (room : ℕ) (f : Found) → Within (suc budget) room (moveNext S w room f on)
+  unfolding moveNext
+  within-next room (Found.Refused r) = within-stopped (suc budget) room w Stop.Emptied
+  within-next room Found.Nothing = within-stopped (suc budget) room w Stop.Emptied
+  within-next room (Found.Move n q o) = go (eqb o deliver)
+    where
+      go : (t : Bool) → Within (suc budget) room (cond t (deliverNext S w n q room on) (oneMore [] (on room (afterMove S w n q o))))
+      go true = within-delivery n q room
+      go false = within-more budget room room [] (on room (afterMove S w n q o)) (omega arith) (rec room (afterMove S w n q o))
+
+pub drain-within : (S : Shape) (budget room : ℕ) (w : List ℕ) → Within budget room (drainFrom S budget room w)
+unfolding drainFrom
+drain-within S zero room w = go (eqb (packetsHeld S w) 0)
+  where
+    go : (t : Bool) → Within zero room (cond t (stopped w Stop.Emptied) (stopped w Stop.Spent))
+    go true = within-stopped zero room w Stop.Emptied
+    go false = within-stopped zero room w Stop.Spent
+drain-within S (suc budget) room w =
+    go (eqb (packetsHeld S w) 0) (within-next S w budget (λ room′ w′. drainFrom S budget room′ w′) (λ r v. drain-within S budget r v) room (firstMove S w))
+  where
+    go : (t : Bool) → Within (suc budget) room (moveNext S w room (firstMove S w) (λ room′ w′. drainFrom S budget room′ w′))
+        → Within (suc budget) room (cond t (stopped w Stop.Emptied) (moveNext S w room (firstMove S w) (λ room′ w′. drainFrom S budget room′ w′)))
+    go true h = within-stopped (suc budget) room w Stop.Emptied
+    go false h = h
