@@ -16,6 +16,7 @@ pub mod RefusalLaws
 pub mod Calls
 pub mod FirstLaws
 pub mod DrainLaws
+pub mod Answers
 pub mod OfferLaws
 pub mod Run
 pub mod RunLaws
