@@ -1,16 +1,14 @@
--- What First's search names: a move that no rule refuses, and none only where every move is refused. Order: one search; the outputs of a head;
--- the queues of a node and the nodes; where a search ends. Assumes nothing.
-use mathlib.Core.Path.{_≡_, refl, ap, ap₂, sym, _∙_}
+-- What First's search names: a move that no rule refuses, and none only where every move is refused. ChoiceLaws.antt has that it is the earliest.
+-- Order: one search; the outputs of a head; the queues of a node and the nodes; where a search ends. Assumes nothing.
+use mathlib.Core.Path.{_≡_, refl, ap, sym, _∙_}
 use mathlib.Core.Logic.{_⊎_, inl, inr, _≢_}
-use mathlib.Core.Bool.{Bool, true, false, cond, _||_}
+use mathlib.Core.Bool.{cond}
 use mathlib.Core.List.{List, [], _∷_}
 use Prim.Native.Nat.{ℕ, zero, suc, _+_, _<_, _≤_}
-use native.Mathlib.Nat.{add-zero, zero-add, suc-add}
 use native.Mathlib.Decide.{ℕ-discrete}
 use native.Mathlib.Omega.{arith}
 use borrow.Author.Tests.{eq-eqb, ne-eqb}
 use lib.Dec.{T, eqb, eqb→eq}
-use lib.ListN.{length}
 use Rattle.base.specs.Tests.{elem, or-e}
 use Rattle.network.specs.declared.Found.{Found}
 use Rattle.network.specs.Sizes.{Shape, nodes, queues}
@@ -59,7 +57,7 @@ search-nothing f i (suc count) e j a b = go (ℕ-discrete i j) (orElse-nothing (
     go (yes here) r later = rw (← here) (r .0)
     go (no ne) r later = later (r .1) (omega arith)
 
-finds-map : (P Q : ℕ → ℕ → ℕ → Type 0) → ((n q o : ℕ) → P n q o → Q n q o) → (f : Found) → Finds P f → Finds Q f
+pub finds-map : (P Q : ℕ → ℕ → ℕ → Type 0) → ((n q o : ℕ) → P n q o → Q n q o) → (f : Found) → Finds P f → Finds Q f
 finds-map P Q h f nothing = nothing
 finds-map P Q h f (named {n} {q} {o} r) = named (h n q o r)
 
@@ -107,7 +105,7 @@ node-finds S w n =
     search-finds (Permitted S w) (λ q. firstInQueue S w n q) 0 queues
     (λ q a b. finds-map (Its S w n q) (Permitted S w) (λ m r o h. h .2) (firstInQueue S w n q) (queue-finds S w n q))
 
-node-nothing : (S : Shape) (w : List ℕ) (n : ℕ) → firstInNode S w n ≡ Found.Nothing → (q o : ℕ) → Permitted S w n q o → ⊥
+pub node-nothing : (S : Shape) (w : List ℕ) (n : ℕ) → firstInNode S w n ≡ Found.Nothing → (q o : ℕ) → Permitted S w n q o → ⊥
 unfolding firstInNode
 node-nothing S w n e q o p =
     queue-nothing S w n q (search-nothing (λ r. firstInQueue S w n r) 0 queues e q (omega arith) (omega (arith, p .queue))) o p

@@ -9,5 +9,6 @@ pub mod Ready
 pub mod Alive
 pub mod Drains
 pub mod Theorem
+pub mod Stops
 pub mod Corollaries
 pub mod Reached

@@ -5,27 +5,27 @@
 -- very definitions that the contracts of Move and Drain cite; here is its proof.
 -- Order: nothing is held exactly when no work is left; one call; a list of calls; the theorem. Assumes nothing.
 use mathlib.Core.Path.{_≡_, refl, ap, sym, _∙_, subst}
-use mathlib.Core.Logic.{_↔_, _≢_}
+use mathlib.Core.Logic.{_≢_}
 use mathlib.Core.Bool.{Bool, true, false, cond}
 use mathlib.Core.List.{List, [], _∷_, _++_, map}
-use Prim.Native.Nat.{ℕ, zero, suc, _+_, _<_, _≤_}
+use Prim.Native.Nat.{ℕ, _+_, _≤_}
 use native.Mathlib.Decide.{ℕ-discrete}
 use native.Mathlib.Omega.{arith}
 use borrow.Author.Tests.{eq-eqb, ne-eqb}
-use lib.Dec.{T, eqb}
+use lib.Dec.{eqb}
 use lib.ListN.{length}
 use Rattle.base.specs.Sums.{sumOf, sumBelow, sum-zero}
 use Rattle.network.specs.declared.Moved.{Moved}
 use Rattle.network.specs.Sizes.{Shape, nodes, queues}
-use Rattle.network.specs.Packet.{work, hopsLeft}
+use Rattle.network.specs.Packet.{work}
 use Rattle.network.specs.TorusLaws.{Torus, inRange-torus}
 use Rattle.network.specs.Layout.{shape, held, total}
 use Rattle.network.specs.LayoutLaws.{total-zero, some-held, total-part}
 use Rattle.network.specs.Check.{packetsHeld, workLeft}
 use Rattle.network.specs.CheckLaws.{Network}
 use Rattle.network.specs.Routes.{deliver}
-use Rattle.network.specs.Refusals.{networkRefusal, moveRules, moveRefusal, elseBy, head}
-use Rattle.network.specs.RefusalLaws.{network-passed, network-passes, neither, elseBy-zero, Permitted, permitted-of, permitted-by}
+use Rattle.network.specs.Refusals.{networkRefusal, moveRules, moveRefusal, head}
+use Rattle.network.specs.RefusalLaws.{network-passed, network-passes, neither, elseBy-zero, permitted-of, permitted-by}
 use Rattle.network.specs.Calls.{Delivery, afterMove, moveWords, moveAnswer, movedPackets, drained, drainWords, drainAnswer, drainedMoves}
 use Rattle.network.specs.Run.{Call, move, drain, Outcome, outcome, run, ledgerOf, SomeMove, AfterRun, Demand3}
 use Rattle.network.specs.RunLaws.{drain-handed, run-kept}
