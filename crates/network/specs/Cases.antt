@@ -1,25 +1,38 @@
--- Document 01, "Kept cases": "K1 to K12 are shown together from the written definitions, as rows under one theorem." Every row is computed from
--- the definitions that the contracts cite. Order: how the rows' networks are written down; the rows; the theorem. Assumes nothing.
-use mathlib.Core.Path.{_≡_, refl}
-use mathlib.Core.Bool.{cond, _&&_, _||_}
-use mathlib.Core.List.{List, [], _∷_, _++_}
-use Prim.Native.Nat.{ℕ, zero, suc, _+_, _*_, _^_}
+-- The kept cases K1 to K12 as rows of one theorem about the definitions that the contracts cite. A row like `k5` is computed from them; where the
+-- case is meant of any network, a row like `k5-every` beside it says so of each one (K2 and K8 say it at once).
+-- Order: how the rows' networks are written down; what the rows about every network speak of; the rows; what proves those about every network;
+-- the theorem. Assumes nothing.
+use mathlib.Core.Path.{_≡_, refl, ap, ap₂, _∙_}
+use mathlib.Core.Logic.{_⊎_, inl, inr, _≢_}
+use mathlib.Core.Bool.{Bool, true, false, not, cond, _&&_, _||_}
+use mathlib.Core.List.{List, [], _∷_, map}
+use Prim.Native.Nat.{ℕ, zero, suc, _+_, _-_, _<_, _≤_}
+use native.Mathlib.Nat.{le-trans, le-add-right, min-le-left}
+use native.Mathlib.Decide.{ℕ-discrete}
+use native.Mathlib.Omega.{arith}
+use borrow.Author.Tests.{eq-eqb, ne-eqb, lt-leb, lt-ltb, le-ltb, ltb-false}
+use lib.Dec.{T, leb, ltb, eqb, ltb→lt, lt→ltb, le→leb}
 use lib.IntN.{ℤ, pos, negsuc, natAbs}
-use lib.ListN.{length, take, set, replicate}
-use Rattle.base.specs.Tests.{allBelow, someBelow, allOf, elem}
+use lib.ListN.{length, take, drop, set, replicate, length-take}
+use Rattle.base.specs.Tests.{allBelow, someBelow, allOf, elem, T-true, T-false, passed?, and-i, or-l, or-r, or-e, all-by}
 use Rattle.base.specs.Sums.{sumBelow, sumOf}
 use Rattle.base.specs.Digits.{product, digit, putDigit, turn}
 use Rattle.network.specs.declared.Found.{Found}
 use Rattle.network.specs.declared.Stop.{Stop}
 use Rattle.network.specs.declared.Drained.{Drained}
-use Rattle.network.specs.Sizes.{Shape, size, within, sizesInRange, nodes, capacity}
+use Rattle.network.specs.Sizes.{Shape, size, within, sizesInRange, nodes, queues, directions, dimensions, dimensionOf, isPlus, adaptiveQueue, escapeQueue, capacity}
+use Rattle.network.specs.SizesLaws.{escape-capacity}
 use Rattle.network.specs.Packet.{signed, byte, place, packetWord, tag, destination, offset, withOffset, distance, forward, backward, hops, heading, hopsLeft, work, shrunk, hop, shorterWay}
 use Rattle.network.specs.Torus.{coordinate, stride, along, neighbour, movedBelow, movedBy}
-use Rattle.network.specs.Layout.{shape, accepted, delivered, movesMade, raised, acceptedAt, queueLength, nodeWords, queueStart, queueEnd, need, queueWords, queuePart, countOf, packetsOf, unusedOf, held, putQueue, total}
+use Rattle.network.specs.Layout.{headerWords, shape, accepted, delivered, movesMade, raised, acceptedAt, queueLength, nodeWords, queueStart, queueEnd, need, queueWords, queuePart, countOf, packetsOf, unusedOf, held, putQueue, total}
 use Rattle.network.specs.Check.{rightPlace, isQueueOf, reach, nearEnough, opposite, rightSign, lowerDone, packetFits, queueFits, queuesFit, hasRoom, ringHasRoom, ringsHaveRoom, packetsHeld, workLeft, countersFit, isNetwork}
-use Rattle.network.specs.Routes.{inOrder, without, incoming, incomingFirst, headings, routes, target, freeSlots, slotsNeeded}
-use Rattle.network.specs.Refusals.{networkRefusal, makeRefusal, offerRules, offerRefusal, head, flowRules, moveRules, moveRefusal}
-use Rattle.network.specs.Calls.{shapeOf, emptyNetwork, makeWords, offered, afterOffer, offerWords, headLeaves, packetArrives, afterMove, firstOutput, firstInQueue, orElse, search, firstInNode, firstMove, firstAnswer, stopped, oneMore, deliverNext, moveNext, drainFrom, drained, drainAnswer}
+use Rattle.network.specs.Routes.{deliver, inOrder, without, incoming, incomingFirst, headings, routes, target, freeSlots, slotsNeeded}
+use Rattle.network.specs.Refusals.{refuse, noRoute, noSlot, noBubble, networkRefusal, makeRefusal, offerRules, offerRefusal, head, flowRules, moveRules, moveRefusal}
+use Rattle.network.specs.Calls.{Progress, shapeOf, emptyNetwork, makeWords, offered, afterOffer, offerWords, headLeaves, packetArrives, afterMove, firstOutput, firstInQueue, orElse, search, firstInNode, firstMove, firstAnswer, stopped, oneMore, deliverNext, moveNext, drainFrom, drained, drainAnswer}
+use Rattle.network.specs.TorusLaws.{along-lt, inRange-torus}
+use Rattle.network.specs.CheckLaws.{Network, network-of}
+use Rattle.network.specs.RoutesLaws.{Onward, route-of}
+use Rattle.network.specs.RefusalLaws.{elseBy-zero, network-passes}
 
 -- a packet with tag 0, this destination and these offsets dx and dy
 abbrev packet : ℕ → ℤ → ℤ → ℕ
@@ -29,6 +42,10 @@ packet to dx dy = packetWord 0 to (λ i. pick i)
     pick zero = dx
     pick (suc i) = dy
 
+-- one that has arrived
+abbrev here : ℕ → ℕ
+here n = packet n (pos 0) (pos 0)
+
 -- an empty network of these sizes
 abbrev empty : ℕ → ℕ → ℕ → ℕ → ℕ → List ℕ
 empty x y e a j = makeWords (shapeOf x y e a j) (replicate (need (shapeOf x y e a j)) 0)
@@ -37,80 +54,399 @@ empty x y e a j = makeWords (shapeOf x y e a j) (replicate (need (shapeOf x y e 
 abbrev holding : List ℕ → ℕ → ℕ → List ℕ → List ℕ
 holding w n q ps = set (putQueue (shape w) w n q ps) acceptedAt (accepted w + length ps)
 
--- K1 to K4, K8: 4 by 3, E 2, A 1, J 1
+-- K1, K3, K4: 4 by 3, E 2, A 1, J 1
 abbrev four-by-three : Shape
 four-by-three = shapeOf 4 3 2 1 1
 
--- K5 to K7, K9: 4 by 1, E 2, A 1, J 1. At node 0 a packet for node 1 heads the injection queue, the adaptive queue x+ and the escape queue x+;
--- the escape queue x+ of node 1 holds what is given
-abbrev ring : List ℕ → List ℕ
-ring ps =
-    holding (holding (holding (holding (empty 4 1 2 1 1) 0 0 (packet 1 (pos 1) (pos 0) ∷ [])) 0 1 (packet 1 (pos 1) (pos 0) ∷ [])) 0 5
-    (packet 1 (pos 1) (pos 0) ∷ [])) 1 5 ps
+-- K2: the largest sizes
+abbrev largest : Shape
+largest = shapeOf 16 16 8 8 8
 
-abbrev arrived : ℕ
-arrived = packet 1 (pos 0) (pos 0)
+-- K5 to K7, K9, K10: 4 by 4, E 2, A 1, J 1; the neighbour of node 0 in direction d, which lies round the edge for the minus directions
+abbrev four-by-four : Shape
+four-by-four = shapeOf 4 4 2 1 1
+
+unfoldable pub next : ℕ → ℕ
+next d = neighbour four-by-four d 0
+
+-- a packet at node 0 with one hop left, in direction d
+unfoldable pub oneHop : ℕ → ℕ
+oneHop d = packetWord 0 (next d) (λ i. cond (eqb i (dimensionOf d)) (cond (isPlus d) (pos 1) (negsuc 0)) (pos 0))
+
+-- the queues of a list that pass a test
+unfoldable pub chosen : (ℕ → Bool) → List ℕ → List ℕ
+chosen f [] = []
+chosen f (q ∷ qs) = cond (f q) (q ∷ chosen f qs) (chosen f qs)
+
+-- outside that packet's ring: every other queue of node 0 in which the check lets it stand. Its sign keeps it from the adaptive and escape queues
+-- of the opposite direction, and a hop left in x from the escape queues of y; so into an x ring there is no turn from an escape queue
+unfoldable pub outside : ℕ → List ℕ
+outside d = chosen (λ q. packetFits four-by-four 0 q (oneHop d) && not (eqb q (escapeQueue d))) (inOrder 0 queues)
+
+-- where it may come from: its own ring first
+unfoldable pub sources : ℕ → List ℕ
+sources d = escapeQueue d ∷ outside d
+
+-- the packet alone in each of these queues of node 0
+unfoldable pub inEach : List ℕ → ℕ → List ℕ → List ℕ
+inEach w p [] = w
+inEach w p (q ∷ qs) = holding (inEach w p qs) 0 q (p ∷ [])
+
+-- the packet in each of its sources, and in the escape queue that it heads for as many that have arrived as are given
+unfoldable pub crossing : ℕ → ℕ → List ℕ
+crossing d count = holding (inEach (empty 4 4 2 1 1) (oneHop d) (sources d)) (next d) (escapeQueue d) (replicate count (here (next d)))
+
+-- that network passes the check, and these are the refusals of the packet's moves into that escape queue, from each of its sources in turn
+abbrev Entries : ℕ → ℕ → List ℕ → Type 0
+Entries d count refusals =
+    (networkRefusal (crossing d count) ≡ 0)
+    × (map (λ q. moveRefusal (crossing d count) 0 q (escapeQueue d)) (sources d) ≡ refusals)
 
 -- K11: 2 by 1, E 2; the escape queues x+ of nodes 0 and 1 hold what is given
 abbrev pair : List ℕ → List ℕ → List ℕ
 pair ps qs = holding (holding (empty 2 1 2 1 1) 0 5 ps) 1 5 qs
 
-abbrev here : ℕ → ℕ
-here n = packet n (pos 0) (pos 0)
+-- K12: 1 by 1, with the one offer made
+abbrev alone : List ℕ
+alone = offerWords (empty 1 1 2 1 1) 0 0 0
+
+-- in any words: the head of queue q of node n, and that it is there to be moved
+abbrev headOf : List ℕ → ℕ → ℕ → ℕ
+headOf w n q = head (held (shape w) w n q)
+
+pub record Standing (w : List ℕ) (n q : ℕ) : Type 0 where
+  pub passes : networkRefusal w ≡ 0
+  pub node : n < nodes (shape w)
+  pub queue : q < queues
+  pub holds : length (held (shape w) w n q) ≢ 0
+
+-- E is 2, and the escape queue of direction d at the neighbour is a route of that head
+pub record Entering (w : List ℕ) (n q d : ℕ) : Type 0 where
+  pub standing : Standing w n q
+  pub two-slots : shape w .escape ≡ 2
+  pub direction : d < directions
+  pub route : T (elem (escapeQueue d) (routes q (headOf w n q)))
+
+-- the packets that stand there already
+abbrev ahead : List ℕ → ℕ → ℕ → ℕ
+ahead w n d = length (held (shape w) w (target (shape w) n (escapeQueue d)) (escapeQueue d))
+
+-- the packets in the escape ring of direction d through node n
+abbrev inRing : List ℕ → ℕ → ℕ → ℕ
+inRing w d n = sumBelow (size (shape w) (dimensionOf d)) (λ j. length (held (shape w) w (along (shape w) d j n) (escapeQueue d)))
+
+-- the rings of direction d go through two nodes each, and E is 2
+pub record RingsOfTwo (w : List ℕ) (d : ℕ) : Type 0 where
+  pub in-range : T (sizesInRange (shape w))
+  pub long : need (shape w) ≤ length w
+  pub direction : d < directions
+  pub two-nodes : size (shape w) (dimensionOf d) ≡ 2
+  pub two-slots : shape w .escape ≡ 2
 
 pub record KeptCases : Type 0 where
-  -- 4 by 3, E 2, A 1, J 1: 272 words
+  -- the words that the sizes 4 by 3, E 2, A 1, J 1 need
   pub k1 : need four-by-three ≡ 272
-  -- 16 by 16, all 8: 20,744 words; 20,743 is 1, for Make and for Check
-  pub k2 : (need (shapeOf 16 16 8 8 8) ≡ 20744)
-      × (makeRefusal (shapeOf 16 16 8 8 8) (replicate 20744 0) ≡ 0)
-      × (makeRefusal (shapeOf 16 16 8 8 8) (replicate 20743 0) ≡ 1)
-      × (networkRefusal (take 20743 (emptyNetwork (shapeOf 16 16 8 8 8))) ≡ 1)
-  -- in K1, node 0 to 6, tag 7: word 30065164801
-  pub k3 : held four-by-three (offerWords (empty 4 3 2 1 1) 0 6 7) 0 0 ≡ 30065164801 ∷ []
-  -- in K1, 0 to 11, tag 0: 786431
-  pub k4 : held four-by-three (offerWords (empty 4 3 2 1 1) 0 11 0) 0 0 ≡ 786431 ∷ []
-  -- E 2, escape target holding one: from its own ring permitted, from outside 12
-  pub k5 : (moveRefusal (ring (arrived ∷ [])) 0 5 5 ≡ 0) × (moveRefusal (ring (arrived ∷ [])) 0 0 5 ≡ 12) × (moveRefusal (ring (arrived ∷ [])) 0 1 5 ≡ 12)
-  -- holding two: 11 for both
-  pub k6 : (moveRefusal (ring (arrived ∷ arrived ∷ [])) 0 5 5 ≡ 11)
-      × (moveRefusal (ring (arrived ∷ arrived ∷ [])) 0 0 5 ≡ 11)
-      × (moveRefusal (ring (arrived ∷ arrived ∷ [])) 0 1 5 ≡ 11)
-  -- holding none: permitted for both
-  pub k7 : (moveRefusal (ring []) 0 5 5 ≡ 0) × (moveRefusal (ring []) 0 0 5 ≡ 0) × (moveRefusal (ring []) 0 1 5 ≡ 0)
-  -- E 1, X 0 or X 17: 2, for Make and for Check, also where the store is too short for it
-  pub k8 : (makeRefusal (shapeOf 4 3 1 1 1) (replicate 272 0) ≡ 2)
-      × (makeRefusal (shapeOf 0 3 2 1 1) (replicate 272 0) ≡ 2)
-      × (makeRefusal (shapeOf 17 3 2 1 1) (replicate 272 0) ≡ 2)
-      × (networkRefusal (emptyNetwork (shapeOf 4 3 1 1 1)) ≡ 2)
-      × (networkRefusal (emptyNetwork (shapeOf 0 3 2 1 1)) ≡ 2)
-      × (networkRefusal (take 8 (emptyNetwork (shapeOf 17 3 2 1 1))) ≡ 2)
-  -- output 0 with dx 1: 10; output 5 with both 0: 10
-  pub k9 : (moveRefusal (ring (arrived ∷ [])) 0 0 0 ≡ 10) × (moveRefusal (ring (arrived ∷ [])) 1 5 5 ≡ 10)
-  -- budget 0: emptied if nothing is held, else spent
-  pub k10 : (room : ℕ) → (drainAnswer (empty 4 1 2 1 1) 0 room ≡ Drained.Stopped 0 0 Stop.Emptied) × (drainAnswer (ring []) 0 room ≡ Drained.Stopped 0 0 Stop.Spent)
-  -- X 2, E 2, one x+ ring holding 4: 3; holding 3, all else being right, passes; a hop left in an x queue of two columns is not right
+  -- the largest sizes: so many words are enough for Make, whatever they hold, and one less is refused, by Check too
+  pub k2 : (need largest ≡ 20744)
+      × ((w : List ℕ) → length w ≡ 20744 → makeRefusal largest w ≡ 0)
+      × ((w : List ℕ) → length w ≡ 20743 → makeRefusal largest w ≡ 1)
+      × ((w : List ℕ) → length w ≡ 20743 → shape w ≡ largest → networkRefusal w ≡ 1)
+  -- the word of an offer from node 0 to node 6 with tag 7, and where it stands
+  pub k3 : (offered four-by-three 0 6 7 ≡ 30065164801) × (held four-by-three (offerWords (empty 4 3 2 1 1) 0 6 7) 0 0 ≡ 30065164801 ∷ [])
+  -- from node 0 to node 11, both offsets negative
+  pub k4 : (offered four-by-three 0 11 0 ≡ 786431) × (held four-by-three (offerWords (empty 4 3 2 1 1) 0 11 0) 0 0 ≡ 786431 ∷ [])
+  -- the rows K5 to K7 go through these queues, for x+, x−, y+ and y−: the ring's own, then the injection queue, the adaptive queues but that of
+  -- the opposite direction, and for y the escape queues of x
+  pub entered-from : map (λ d. sources d) (inOrder 0 directions)
+      ≡ (5 ∷ 0 ∷ 1 ∷ 3 ∷ 4 ∷ []) ∷ (6 ∷ 0 ∷ 2 ∷ 3 ∷ 4 ∷ []) ∷ (7 ∷ 0 ∷ 1 ∷ 2 ∷ 3 ∷ 5 ∷ 6 ∷ []) ∷ (8 ∷ 0 ∷ 1 ∷ 2 ∷ 4 ∷ 5 ∷ 6 ∷ []) ∷ []
+  -- one packet ahead: the ring's own queue may go on, every other one lacks the bubble
+  pub k5 : Entries 0 1 (0 ∷ 12 ∷ 12 ∷ 12 ∷ 12 ∷ [])
+      × Entries 1 1 (0 ∷ 12 ∷ 12 ∷ 12 ∷ 12 ∷ [])
+      × Entries 2 1 (0 ∷ 12 ∷ 12 ∷ 12 ∷ 12 ∷ 12 ∷ 12 ∷ [])
+      × Entries 3 1 (0 ∷ 12 ∷ 12 ∷ 12 ∷ 12 ∷ 12 ∷ 12 ∷ [])
+  pub k5-every : (w : List ℕ) (n q d : ℕ) → Entering w n q d → ahead w n d ≡ 1 → moveRefusal w n q (escapeQueue d) ≡ cond (eqb q (escapeQueue d)) 0 12
+  -- two ahead: no slot, wherever the packet stands
+  pub k6 : Entries 0 2 (11 ∷ 11 ∷ 11 ∷ 11 ∷ 11 ∷ [])
+      × Entries 1 2 (11 ∷ 11 ∷ 11 ∷ 11 ∷ 11 ∷ [])
+      × Entries 2 2 (11 ∷ 11 ∷ 11 ∷ 11 ∷ 11 ∷ 11 ∷ 11 ∷ [])
+      × Entries 3 2 (11 ∷ 11 ∷ 11 ∷ 11 ∷ 11 ∷ 11 ∷ 11 ∷ [])
+  pub k6-every : (w : List ℕ) (n q d : ℕ) → Entering w n q d → ahead w n d ≡ 2 → moveRefusal w n q (escapeQueue d) ≡ 11
+  -- none ahead: permitted, wherever it stands
+  pub k7 : Entries 0 0 (0 ∷ 0 ∷ 0 ∷ 0 ∷ 0 ∷ [])
+      × Entries 1 0 (0 ∷ 0 ∷ 0 ∷ 0 ∷ 0 ∷ [])
+      × Entries 2 0 (0 ∷ 0 ∷ 0 ∷ 0 ∷ 0 ∷ 0 ∷ 0 ∷ [])
+      × Entries 3 0 (0 ∷ 0 ∷ 0 ∷ 0 ∷ 0 ∷ 0 ∷ 0 ∷ [])
+  pub k7-every : (w : List ℕ) (n q d : ℕ) → Entering w n q d → ahead w n d ≡ 0 → moveRefusal w n q (escapeQueue d) ≡ 0
+  -- one of these three sizes is enough, whatever the others are and the words hold: for Make in a store of any length, for Check in one that has
+  -- a header
+  pub k8 : (x y e a j : ℕ) (w : List ℕ) → (e ≡ 1) ⊎ ((x ≡ 0) ⊎ (x ≡ 17))
+      → (makeRefusal (shapeOf x y e a j) w ≡ 2) × (8 ≤ length w → shape w ≡ shapeOf x y e a j → networkRefusal w ≡ 2)
+  -- a packet with a hop left in x+ is not delivered, and one that has arrived does not go on in the ring
+  pub k9 : (moveRefusal (crossing 0 1) 0 0 0 ≡ 10) × (moveRefusal (crossing 0 1) 1 5 5 ≡ 10)
+  pub k9-every : (w : List ℕ) (n q : ℕ) → Standing w n q
+      → (offset 0 (headOf w n q) ≡ pos 1 → moveRefusal w n q 0 ≡ 10)
+      × (offset 0 (headOf w n q) ≡ pos 0 → offset 1 (headOf w n q) ≡ pos 0 → moveRefusal w n q 5 ≡ 10)
+  -- no move is made without a budget, and nothing held goes before nothing left to spend
+  pub k10 : (room : ℕ) → (drainAnswer (empty 4 4 2 1 1) 0 room ≡ Drained.Stopped 0 0 Stop.Emptied) × (drainAnswer (crossing 0 0) 0 room ≡ Drained.Stopped 0 0 Stop.Spent)
+  pub k10-every : (w : List ℕ) (room : ℕ) → networkRefusal w ≡ 0
+      → drainAnswer w 0 room ≡ Drained.Stopped 0 0 (cond (eqb (packetsHeld (shape w) w) 0) Stop.Emptied Stop.Spent)
+  -- a ring of four slots: full it is refused, with one slot free it passes; a hop left in an x queue of two columns is refused
   pub k11 : (networkRefusal (pair (here 0 ∷ here 0 ∷ []) (here 1 ∷ here 1 ∷ [])) ≡ 3)
       × (networkRefusal (pair (here 0 ∷ here 0 ∷ []) (here 1 ∷ [])) ≡ 0)
       × (networkRefusal (pair (here 0 ∷ packet 1 (pos 1) (pos 0) ∷ []) (here 1 ∷ [])) ≡ 3)
-  -- 1 by 1, offer 0 to 0: one move, output 0
-  pub k12 : (firstAnswer (offerWords (empty 1 1 2 1 1) 0 0 0) ≡ Found.Move 0 0 0)
-      × ((room : ℕ) → drainAnswer (offerWords (empty 1 1 2 1 1) 0 0 0) 10 (suc room) ≡ Drained.Stopped 1 1 Stop.Emptied)
+  -- any words that are long enough for sizes in range, and rings of any direction: one full ring is refused; where no ring of the direction holds
+  -- more than three, and the queues, the other rings and the counters are right, they pass
+  pub k11-every : (w : List ℕ) (d : ℕ) → RingsOfTwo w d
+      → ((n : ℕ) → n < nodes (shape w) → inRing w d n ≡ 4 → networkRefusal w ≡ 3)
+      × (T (queuesFit (shape w) w)
+      → ((e n : ℕ) → e < directions → n < nodes (shape w) → e ≢ d → T (ringHasRoom (shape w) w e n))
+      → T (countersFit (shape w) w)
+      → ((n : ℕ) → n < nodes (shape w) → inRing w d n ≤ 3)
+      → networkRefusal w ≡ 0)
+  -- the one packet of a one-node torus: First names its delivery, no other output is permitted, and a Drain needs that move alone
+  pub k12 : (firstAnswer alone ≡ Found.Move 0 0 0)
+      × (map (λ o. moveRefusal alone 0 0 o) (inOrder 0 queues) ≡ 0 ∷ 10 ∷ 10 ∷ 10 ∷ 10 ∷ 10 ∷ 10 ∷ 10 ∷ 10 ∷ [])
+      × ((budget room : ℕ) → drainAnswer alone (suc budget) (suc room) ≡ Drained.Stopped 1 1 Stop.Emptied)
+
+-- in words that pass the check a move is refused as the rules of Move say: so the rows compute the check once for each network
+by-rules : (w : List ℕ) (n q o refusal : ℕ) → networkRefusal w ≡ 0 → moveRules (shape w) w n q o ≡ refusal → moveRefusal w n q o ≡ refusal
+unfolding moveRefusal
+by-rules w n q o refusal e r = elseBy-zero (networkRefusal w) (moveRules (shape w) w n q o) e ∙ r
+
+all-by-rules : (w : List ℕ) (n o : ℕ) (qs : List ℕ) → networkRefusal w ≡ 0
+    → map (λ q. moveRefusal w n q o) qs ≡ map (λ q. moveRules (shape w) w n q o) qs
+all-by-rules w n o [] e = refl
+all-by-rules w n o (q ∷ qs) e = ap₂ (λ (r : ℕ) (rs : List ℕ). r ∷ rs) (by-rules w n q o (moveRules (shape w) w n q o) e refl) (all-by-rules w n o qs e)
+
+entries : (d count : ℕ) (refusals : List ℕ) → networkRefusal (crossing d count) ≡ 0
+    → map (λ q. moveRules (shape (crossing d count)) (crossing d count) 0 q (escapeQueue d)) (sources d) ≡ refusals → Entries d count refusals
+entries d count refusals e r = (e, all-by-rules (crossing d count) 0 (escapeQueue d) (sources d) e ∙ r)
+
+-- where a packet stands, Move's first four tests of its own do not apply
+past-holds : (w : List ℕ) (n q o : ℕ) → Standing w n q → o < queues
+    → moveRefusal w n q o ≡ refuse (not (elem o (routes q (headOf w n q)))) noRoute (flowRules (shape w) w n q o)
+unfolding moveRules
+past-holds w n q o s h =
+    by-rules w n q o _ (s .passes)
+    (rw (lt-leb (nodes (shape w)) n (s .node), lt-leb queues q (s .queue), lt-leb queues o h, ne-eqb (length (held (shape w) w n q)) 0 (s .holds)))
+
+-- K5 to K7: the free slots are what the packets ahead leave of two
+module _ (w : List ℕ) (n q d : ℕ) (s : Entering w n q d) where
+  free : (count : ℕ) → ahead w n d ≡ count → freeSlots (shape w) w n (escapeQueue d) ≡ 2 - count
+  unfolding freeSlots
+  free count e = ap₂ (λ (a b : ℕ). a - b) (escape-capacity (shape w) d ∙ s .two-slots) e
+
+  needed : slotsNeeded q (escapeQueue d) ≡ cond (eqb q (escapeQueue d)) 1 2
+  unfolding slotsNeeded
+  needed = rw (lt-ltb directions (escapeQueue d) (omega arith)) (go (eqb q (escapeQueue d)))
+    where
+      go : (own : Bool) → _≡_ {A = ℕ} (cond (true && not own) 2 1) (cond own 1 2)
+      go true = refl
+      go false = refl
+
+  entered : (count : ℕ) → ahead w n d ≡ count
+      → moveRefusal w n q (escapeQueue d) ≡ refuse (eqb (2 - count) 0) noSlot (refuse (ltb (2 - count) (cond (eqb q (escapeQueue d)) 1 2)) noBubble 0)
+  unfolding flowRules
+  entered count e =
+      past-holds w n q (escapeQueue d) (s .standing) (let h = s .direction in omega arith)
+      ∙ rw (T-true (elem (escapeQueue d) (routes q (headOf w n q))) (s .route), ne-eqb (escapeQueue d) deliver (λ z. nonzero d z), free count e, needed)
+    where
+      nonzero : (d : ℕ) → escapeQueue d ≡ 0 → ⊥
+      nonzero d z = omega arith
+
+  one-ahead : ahead w n d ≡ 1 → moveRefusal w n q (escapeQueue d) ≡ cond (eqb q (escapeQueue d)) 0 12
+  one-ahead e = entered 1 e ∙ go (eqb q (escapeQueue d))
+    where
+      go : (own : Bool) → refuse (ltb 1 (cond own 1 2)) noBubble 0 ≡ cond own 0 12
+      go true = refl
+      go false = refl
+
+  none-ahead : ahead w n d ≡ 0 → moveRefusal w n q (escapeQueue d) ≡ 0
+  none-ahead e = entered 0 e ∙ go (eqb q (escapeQueue d))
+    where
+      go : (own : Bool) → refuse (ltb 2 (cond own 1 2)) noBubble 0 ≡ 0
+      go true = refl
+      go false = refl
+
+-- K8: sizes out of range are found by Make first, by Check once there is a header
+out-of-range : (x y e a j : ℕ) → (e ≡ 1) ⊎ ((x ≡ 0) ⊎ (x ≡ 17)) → sizesInRange (shapeOf x y e a j) ≡ false
+unfolding sizesInRange allOf within shapeOf
+out-of-range x y e a j (inl z) = rw z (neither (within 1 16 x && (within 1 16 y && true)))
+  where
+    neither : (b : Bool) → (b && false) ≡ false
+    neither true = refl
+    neither false = refl
+out-of-range x y e a j (inr (inl z)) = rw z
+out-of-range x y e a j (inr (inr z)) = rw z
+
+wrong-size : (S : Shape) (w : List ℕ) → sizesInRange S ≡ false → (makeRefusal S w ≡ 2) × (8 ≤ length w → shape w ≡ S → networkRefusal w ≡ 2)
+unfolding makeRefusal networkRefusal
+wrong-size S w z = (rw z, λ h e. rw (le-ltb (length w) 8 h, e, z))
+
+-- K2: one word too few
+too-short : (S : Shape) (w : List ℕ) → sizesInRange S ≡ true → 8 ≤ length w → length w < need S → shape w ≡ S → networkRefusal w ≡ 1
+unfolding networkRefusal
+too-short S w z h l e = rw (le-ltb (length w) 8 h, e, z, lt-ltb (length w) (need S) l)
+
+-- a test that cannot pass
+untrue : (b : Bool) → (T b → ⊥) → b ≡ false
+untrue true f = absurd (f tt)
+untrue false f = refl
+
+-- K9
+no-route : (w : List ℕ) (n q o : ℕ) → Standing w n q → o < queues → (T (elem o (routes q (headOf w n q))) → ⊥) → moveRefusal w n q o ≡ 10
+no-route w n q o s h none = past-holds w n q o s h ∙ rw (untrue (elem o (routes q (headOf w n q))) none)
+
+not-delivered : (q p : ℕ) → offset 0 p ≡ pos 1 → T (elem 0 (routes q p)) → ⊥
+unfolding hopsLeft sumBelow distance
+not-delivered q p e t = go (route-of q p 0 t)
+  where
+    go : ((0 ≡ deliver) × (hopsLeft p ≡ 0)) ⊎ Onward p 0 → ⊥
+    go (inl (z, h)) =
+        let one : distance 0 p ≡ 1 = ap natAbs e in
+        let none : 0 + distance 0 p + distance 1 p ≡ 0 = h in
+        omega arith
+    go (inr r) = way (r .by)
+      where
+        way : (0 ≡ adaptiveQueue (heading (r .dimension) p)) ⊎ ((0 ≡ escapeQueue (heading (r .dimension) p)) × ((j : ℕ) → j < r .dimension → distance j p ≡ 0)) → ⊥
+        way (inl z) = omega arith
+        way (inr (z, l)) = omega arith
+
+not-onward : (q p : ℕ) → offset 0 p ≡ pos 0 → offset 1 p ≡ pos 0 → T (elem 5 (routes q p)) → ⊥
+unfolding distance
+not-onward q p e f t = go (route-of q p 5 t)
+  where
+    done : (i : ℕ) → i < dimensions → distance i p ≡ 0
+    done zero h = ap natAbs e
+    done (suc zero) h = ap natAbs f
+    done (suc (suc i)) h = absurd (omega arith)
+
+    go : ((5 ≡ deliver) × (hopsLeft p ≡ 0)) ⊎ Onward p 5 → ⊥
+    go (inl (z, h)) = omega arith
+    go (inr r) = r .far (done (r .dimension) (r .below))
+
+-- K10
+without-budget : (w : List ℕ) (room : ℕ) → networkRefusal w ≡ 0
+    → drainAnswer w 0 room ≡ Drained.Stopped 0 0 (cond (eqb (packetsHeld (shape w) w) 0) Stop.Emptied Stop.Spent)
+unfolding drainAnswer drained drainFrom stopped
+without-budget w room e = rw (eq-eqb (networkRefusal w) 0 e) (go (eqb (packetsHeld (shape w) w) 0))
+  where
+    at-once : Bool → Progress
+    at-once none = cond none (stopped w Stop.Emptied) (stopped w Stop.Spent)
+
+    go : (none : Bool)
+        → Drained.Stopped (at-once none .moves) (length (at-once none .deliveries)) (at-once none .stop) ≡ Drained.Stopped 0 0 (cond none Stop.Emptied Stop.Spent)
+    go true = refl
+    go false = refl
+
+-- K11: words that are long enough for sizes in range, and no network
+no-network : (w : List ℕ) → T (sizesInRange (shape w)) → need (shape w) ≤ length w → (Network (shape w) w → ⊥) → networkRefusal w ≡ 3
+unfolding networkRefusal need
+no-network w r l none =
+    rw (
+      le-ltb (length w) headerWords (le-trans (le-add-right headerWords _) l),
+      T-true (sizesInRange (shape w)) r,
+      le-ltb (length w) (need (shape w)) l,
+      untrue (isNetwork (shape w) w) (λ t. none (network-of (shape w) w t)),
+    )
+
+take-few : (c : ℕ) (l : List ℕ) → length (take c l) ≤ c
+take-few c l = rw length-take (min-le-left c (length l))
+
+module _ (w : List ℕ) (d : ℕ) (r : RingsOfTwo w d) where
+  -- the packets j steps round the ring through node n
+  round : ℕ → ℕ → ℕ
+  round n j = length (held (shape w) w (along (shape w) d j n) (escapeQueue d))
+
+  sum : (n : ℕ) → inRing w d n ≡ round n 0 + round n 1
+  unfolding sumBelow round
+  sum n = rw (r .two-nodes) (omega arith)
+
+  clause : (n : ℕ) → ringHasRoom (shape w) w d n ≡ (ltb (round n 0) 2 || ltb (round n 1) 2)
+  unfolding ringHasRoom hasRoom someBelow round
+  clause n = rw (r .two-nodes, escape-capacity (shape w) d, r .two-slots)
+
+  few : Network (shape w) w → (n j : ℕ) → n < nodes (shape w) → round n j ≤ 2
+  unfolding round held packetsOf shape
+  few f n j node =
+      let at : ℕ = along (shape w) d j n in
+      let part : List ℕ = queuePart (shape w) w at (escapeQueue d) in
+      let inside = along-lt (shape w) d j n (inRange-torus (shape w) (f .in-range) refl) (r .direction) node in
+      let fits = f .queue at (escapeQueue d) inside (let h = r .direction in omega arith) .few in
+      let most = escape-capacity (shape w) d ∙ r .two-slots in
+      let taken = take-few (countOf part) (drop 1 part) in
+      omega arith
+
+  full-ring : (n : ℕ) → n < nodes (shape w) → inRing w d n ≡ 4 → networkRefusal w ≡ 3
+  full-ring n node e =
+      no-network w (r .in-range) (r .long)
+      (λ f. go f (or-e (ltb (round n 0) 2) (ltb (round n 1) 2) (rw (clause n) at (f .ring d n (r .direction) node))))
+    where
+      go : Network (shape w) w → T (ltb (round n 0) 2) ⊎ T (ltb (round n 1) 2) → ⊥
+      go f (inl t) = let h = ltb→lt (round n 0) 2 t in let s = sum n in let m = few f n 1 node in omega arith
+      go f (inr t) = let h = ltb→lt (round n 1) 2 t in let s = sum n in let m = few f n 0 node in omega arith
+
+  ring-with-room : (n : ℕ) → inRing w d n ≤ 3 → T (ringHasRoom (shape w) w d n)
+  ring-with-room n l = rw (clause n) (go (passed? (ltb (round n 0) 2)))
+    where
+      go : T (ltb (round n 0) 2) ⊎ T (not (ltb (round n 0) 2)) → T (ltb (round n 0) 2 || ltb (round n 1) 2)
+      go (inl t) = or-l (ltb (round n 0) 2) (ltb (round n 1) 2) t
+      go (inr t) =
+          let full : 2 ≤ round n 0 = ltb-false (round n 0) 2 (T-false (ltb (round n 0) 2) t) in
+          let s = sum n in
+          or-r (ltb (round n 0) 2) (ltb (round n 1) 2) (lt→ltb (round n 1) 2 (omega arith))
+
+  all-else-right : T (queuesFit (shape w) w)
+      → ((e n : ℕ) → e < directions → n < nodes (shape w) → e ≢ d → T (ringHasRoom (shape w) w e n))
+      → T (countersFit (shape w) w)
+      → ((n : ℕ) → n < nodes (shape w) → inRing w d n ≤ 3)
+      → networkRefusal w ≡ 0
+  unfolding isNetwork ringsHaveRoom
+  all-else-right q others c l =
+      network-passes w
+      (network-of (shape w) w
+      (and-i (sizesInRange (shape w)) _ (r .in-range)
+      (and-i (leb (need (shape w)) (length w)) _ (le→leb (need (shape w)) (length w) (r .long))
+      (and-i (queuesFit (shape w) w) _ q
+      (and-i (ringsHaveRoom (shape w) w) _
+      (all-by directions (λ e. allBelow (nodes (shape w)) (λ n. ringHasRoom (shape w) w e n))
+      (λ e he. all-by (nodes (shape w)) (λ n. ringHasRoom (shape w) w e n) (λ n hn. ring e n he hn (ℕ-discrete e d))))
+      c)))))
+    where
+      ring : (e n : ℕ) → e < directions → n < nodes (shape w) → Dec (e ≡ d) → T (ringHasRoom (shape w) w e n)
+      ring e n he hn (yes z) = rw z (ring-with-room n (l n hn))
+      ring e n he hn (no ne) = others e n he hn ne
 
 pub keptCases : KeptCases
-unfolding allBelow someBelow allOf elem sumBelow sumOf product digit putDigit turn size within sizesInRange nodes capacity signed byte place packetWord tag destination offset withOffset distance forward backward hops heading hopsLeft work shrunk hop shorterWay coordinate stride along neighbour movedBelow movedBy shape accepted delivered movesMade raised queueLength nodeWords queueStart queueEnd need queueWords queuePart countOf packetsOf unusedOf held putQueue total rightPlace isQueueOf reach nearEnough opposite rightSign lowerDone packetFits queueFits queuesFit hasRoom ringHasRoom ringsHaveRoom packetsHeld workLeft countersFit isNetwork inOrder without incoming incomingFirst headings routes target freeSlots slotsNeeded networkRefusal makeRefusal offerRules offerRefusal head flowRules moveRules moveRefusal shapeOf emptyNetwork makeWords offered afterOffer offerWords headLeaves packetArrives afterMove firstOutput firstInQueue orElse search firstInNode firstMove firstAnswer stopped oneMore deliverNext moveNext drainFrom drained drainAnswer
+unfolding next oneHop chosen outside sources inEach crossing allBelow someBelow allOf elem sumBelow sumOf product digit putDigit turn size within sizesInRange nodes capacity signed byte place packetWord tag destination offset withOffset distance forward backward hops heading hopsLeft work shrunk hop shorterWay coordinate stride along neighbour movedBelow movedBy shape accepted delivered movesMade raised queueLength nodeWords queueStart queueEnd need queueWords queuePart countOf packetsOf unusedOf held putQueue total rightPlace isQueueOf reach nearEnough opposite rightSign lowerDone packetFits queueFits queuesFit hasRoom ringHasRoom ringsHaveRoom packetsHeld workLeft countersFit isNetwork inOrder without incoming incomingFirst headings routes target freeSlots slotsNeeded networkRefusal makeRefusal offerRules offerRefusal head flowRules moveRules moveRefusal shapeOf emptyNetwork makeWords offered afterOffer offerWords headLeaves packetArrives afterMove firstOutput firstInQueue orElse search firstInNode firstMove firstAnswer stopped oneMore deliverNext moveNext drainFrom drained drainAnswer
 keptCases =
     record {
       k1 = refl;
-      k2 = (refl, refl, refl, refl);
-      k3 = refl;
-      k4 = refl;
-      k5 = (refl, refl, refl);
-      k6 = (refl, refl, refl);
-      k7 = (refl, refl, refl);
-      k8 = (refl, refl, refl, refl, refl, refl);
-      k9 = (refl, refl);
-      k10 = λ room. (refl, refl);
+      k2 = (refl, (λ w e. rw e), (λ w e. rw e), λ w e. too-short largest w refl (omega arith) (let l : need largest ≡ 20744 = refl in omega arith));
+      k3 = (refl, refl);
+      k4 = (refl, refl);
+      entered-from = refl;
+      k5 = (entries 0 1 _ refl refl, entries 1 1 _ refl refl, entries 2 1 _ refl refl, entries 3 1 _ refl refl);
+      k5-every = one-ahead;
+      k6 = (entries 0 2 _ refl refl, entries 1 2 _ refl refl, entries 2 2 _ refl refl, entries 3 2 _ refl refl);
+      k6-every = λ w n q d s e. entered w n q d s 2 e;
+      k7 = (entries 0 0 _ refl refl, entries 1 0 _ refl refl, entries 2 0 _ refl refl, entries 3 0 _ refl refl);
+      k7-every = none-ahead;
+      k8 = λ x y e a j w z. wrong-size (shapeOf x y e a j) w (out-of-range x y e a j z);
+      k9 = (by-rules (crossing 0 1) 0 0 0 10 refl refl, by-rules (crossing 0 1) 1 5 5 10 refl refl);
+      k9-every =
+          λ w n q s. (
+            λ e. no-route w n q 0 s (omega arith) (not-delivered q (headOf w n q) e),
+            λ e f. no-route w n q 5 s (omega arith) (not-onward q (headOf w n q) e f),
+          );
+      k10 = λ room. (without-budget (empty 4 4 2 1 1) room refl, without-budget (crossing 0 0) room refl);
+      k10-every = without-budget;
       k11 = (refl, refl, refl);
-      k12 = (refl, λ room. refl);
+      k11-every = λ w d r. (full-ring w d r, all-else-right w d r);
+      k12 = (refl, refl, one-move);
     }
+  where
+    -- whatever budget is left after it
+    one-move : (budget room : ℕ) → drainAnswer alone (suc budget) (suc room) ≡ Drained.Stopped 1 1 Stop.Emptied
+    one-move zero room = refl
+    one-move (suc budget) room = refl
