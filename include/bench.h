@@ -1,19 +1,22 @@
 /*
  * bench.h - the adaptive bubble router bench, for C
  *
- * A network is a two-dimensional torus of X columns and Y rows that moves
- * whole packets. It lives in an array of 64-bit words that you lend to each
- * call; the library keeps nothing between calls, allocates nothing, and
- * touches no memory but what the call lends. The words are working memory,
- * not an exchange format.
+ * The rules are in docs/RULES.md; R12 below is a clause there.
+ *
+ * A network is a torus with X columns and Y rows that moves whole packets. It
+ * lives in an array of 64-bit words that you lend to each call; the library
+ * keeps nothing between calls, allocates nothing, and touches no memory but
+ * what the call lends. Use the words as memory to work in, not as a format to
+ * store or send (R40 to R49).
  *
  * Sizes: X and Y 1 to 16; slots of an escape queue E 2 to 8, of an adaptive
- * queue A 1 to 8, of an injection queue J 1 to 8.
+ * queue A 1 to 8, of an injection queue J 1 to 8 (R21 to R24).
  *
- * Nodes are y * X + x. Every node has nine queues: 0 injection; 1 to 4
- * adaptive for packets that arrived going x+, x-, y+, y-; 5 to 8 escape in
- * the same four directions. An output is 0 (delivery) or 1 to 8, which names
- * the queue at the neighbour in that queue's direction.
+ * Nodes are y * X + x. The queues of a node are numbered: 0 takes new packets
+ * in, 1 to 4 are the adaptive queues of the directions x+, x-, y+, y-, and 5 to
+ * 8 the escape queues of the same (R30 to R34). An output is 0, delivery, or
+ * the number of the queue that the packet joins, 1 to 8, one node on in that
+ * queue's direction (R106, R107).
  *
  * Memory, for every call:
  *   - a pointer must not be NULL and must be aligned for uint64_t, even if the
@@ -25,8 +28,8 @@
  *     no later ones.
  *
  * Every call returns 0, or the number of a refusal. A refused call changes
- * neither the words nor the ledger and sets all words of `out` to 0. Words
- * after the last node are never touched.
+ * neither the words nor the ledger and sets all words of `out` to 0 (R190 to
+ * R194). Words behind the last node stay as they are (R48).
  *
  * Two threads may use the library at once if they lend different memory.
  *
@@ -58,16 +61,16 @@ extern "C" {
 #define BENCH_FIRST_OUT 4
 #define BENCH_DRAIN_OUT 3
 
-/* The parts of a packet word: the caller's tag, the destination, and the hops
- * left in x and y, positive for plus. */
+/* The parts of a packet word (R60 to R63): the caller's tag, the destination,
+ * and the hops left in x and y, below 0 where they go to x- or y-. */
 #define BENCH_TAG(word) ((uint32_t)((uint64_t)(word) >> 32))
 #define BENCH_DESTINATION(word) ((uint32_t)((uint64_t)(word) >> 16 & 0xffff))
 #define BENCH_DX(word) ((int)(((uint64_t)(word) >> 8 & 0xff) ^ 0x80) - 0x80)
 #define BENCH_DY(word) ((int)(((uint64_t)(word) & 0xff) ^ 0x80) - 0x80)
 
-/* The refusals. */
+/* The refusals (R161 to R172). */
 enum {
-    BENCH_SHORT_STORE = 1,    /* fewer than 8 words, or fewer than the sizes need */
+    BENCH_SHORT_STORE = 1,    /* less than 8 words, or less than the sizes ask for */
     BENCH_WRONG_SIZE = 2,     /* X, Y, E, A or J out of range */
     BENCH_NO_NETWORK = 3,     /* the check of the words fails otherwise */
     BENCH_NO_SUCH_NODE = 4,   /* node or destination not below X * Y */
@@ -76,12 +79,12 @@ enum {
     BENCH_GATE_FULL = 7,      /* the injection queue holds J */
     BENCH_COUNT_SPENT = 8,    /* 2^32 - 1 packets were accepted */
     BENCH_NOBODY_THERE = 9,   /* the queue is empty */
-    BENCH_NOT_ITS_WAY = 10,   /* the output is no route of the head */
+    BENCH_NOT_ITS_WAY = 10,   /* the head has no route by that output */
     BENCH_NO_SLOT = 11,       /* the target has no free slot */
     BENCH_NO_BUBBLE = 12      /* two free slots are needed, one is there */
 };
 
-/* Why a drain stopped. */
+/* Why a drain stopped (R130 to R132). */
 enum {
     BENCH_EMPTIED = 0, /* nothing is held */
     BENCH_SPENT = 1,   /* something is held, and the budget is used up */
@@ -89,26 +92,28 @@ enum {
 };
 
 /*
- * Writes an empty network with all counts 0. Tests 2, then 1.
+ * Writes an empty network with all counts 0 (R91, R92). Tests 2, 1 (R180).
  */
 uint64_t bench_make(uint64_t *words, size_t len, uint64_t x, uint64_t y, uint64_t e,
                     uint64_t a, uint64_t j);
 
 /*
- * Whether the words are a network: 0, or 1, 2, 3. Every call below tests this
- * first, so it is safe to lend any words to any of them.
+ * Whether the words are a network (R70 to R85): 0, or 1, 2, 3. Every call
+ * below tests this first, so it is safe to lend any words to any of them.
  */
 uint64_t bench_check(const uint64_t *words, size_t len);
 
 /*
- * Puts a packet at the end of the node's injection queue. It takes the shorter
- * way in each dimension, and plus where both are equal. Then tests 4, 8, 7.
+ * Puts a packet behind the others in queue 0 of the node (R100 to R102). It
+ * will take the shorter way in each dimension, half-way round the plus way
+ * (R64, R65). Then tests 4, 8, 7.
  */
 uint64_t bench_offer(uint64_t *words, size_t len, uint64_t node, uint64_t destination,
                      uint32_t tag);
 
 /*
- * Moves the head of a queue to an output. Then tests 4, 5, 6, 9, 10, 11, 12.
+ * Moves the head of a queue to an output (R105 to R112). Then tests 4, 5, 6, 9,
+ * 10, 11, 12.
  * out[0]: packets handed out, 1 for a delivery (output 0) and else 0.
  * out[1]: the packet word that was handed out, or 0.
  */
@@ -116,16 +121,16 @@ uint64_t bench_move(uint64_t *words, size_t len, uint64_t node, uint64_t queue,
                     uint64_t output, uint64_t out[2]);
 
 /*
- * The free slots of the queue that an output from 1 to 8 leads to. Then tests
- * 4, 6.
+ * The free slots of the queue that an output from 1 to 8 leads to (R115,
+ * R116). Then tests 4, 6.
  * out[0]: the number of free slots.
  */
 uint64_t bench_credit(const uint64_t *words, size_t len, uint64_t node, uint64_t output,
                       uint64_t out[1]);
 
 /*
- * The packets held in a queue, oldest first, as a part of the words you lent.
- * Then tests 4, 5.
+ * The packets held in a queue, oldest first, where they stand in the words you
+ * lent (R118 to R121). Then tests 4, 5.
  * out[0]: the index in `words` of the first held word; if the queue is empty,
  *         the index where its first packet would stand.
  * out[1]: the number held, so that the packets are words[out[0]] to
@@ -135,7 +140,8 @@ uint64_t bench_look(const uint64_t *words, size_t len, uint64_t node, uint64_t q
                     uint64_t out[2]);
 
 /*
- * The first permitted move in the order node, queue, route.
+ * The first permitted move: by node, then by queue, then by the order of the
+ * head's routes (R123).
  * out[0]: 1 if there is one, which is so whenever a packet is held; else 0.
  * out[1], out[2], out[3]: its node, queue and output; all 0 if there is none.
  */
@@ -143,8 +149,9 @@ uint64_t bench_first(const uint64_t *words, size_t len, uint64_t out[4]);
 
 /*
  * Makes the move that bench_first names, again and again, at most `budget`
- * times, and writes each delivered word to the next word of the ledger. Later
- * words of the ledger are untouched.
+ * times, and puts the word of each delivered packet into the ledger, from its
+ * first word on. Ledger words that are not needed stay as they were (R126 to
+ * R134).
  * out[0]: the number of moves made.
  * out[1]: the number delivered.
  * out[2]: why it stopped, BENCH_EMPTIED, BENCH_SPENT or BENCH_FULL.

@@ -1,4 +1,4 @@
-//! The calls of document 01 as one trait, so that the model, the plain
+//! The calls (R90) as one trait, so that the model, the plain
 //! implementation and the C library are asked the same things in the same way.
 
 use crate::model::network::Step;

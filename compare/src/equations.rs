@@ -1,5 +1,5 @@
-//! What demand 3 says of a run of moves, as document 01 spells it out under
-//! "A run of moves". It is worked out from the words alone, by plain sums.
+//! What demand 3 says of a run of moves, R220 to R239 of docs/RULES.md. It is
+//! worked out from the words alone, by plain sums.
 
 /// What counts in the words of a network that passes the check.
 #[derive(Clone, Debug, PartialEq, Eq)]
@@ -12,7 +12,7 @@ pub struct Survey {
     pub moves_made: u64,
 }
 
-/// A packet's label: its word with the offsets set to 0.
+/// R228: tag and destination; both offset bytes are 0.
 pub fn label(word: u64) -> u64 {
     word - word % (1 << 16)
 }

@@ -211,8 +211,8 @@ impl Lab {
         }
     }
 
-    /// The last equation: the words pass the check, and if any packet is
-    /// held, some move is permitted: the one that First names.
+    /// R236, R237: a network still, and while it holds a packet there is a
+    /// permitted move, the one that First names.
     pub fn passes_and_can_move(&mut self, words: &[u64]) {
         if self.try_out(words, Call::Check) != 0 {
             self.fail("a run", Call::Check, "the words fail the check", words);

@@ -2,7 +2,8 @@
 //! needed to compare other implementations with it.
 //!
 //! - `model`: the simulator, in objects (nodes, queues, packets), written from
-//!   document 01 and section 2 of the paper alone;
+//!   the customer's document (docs/RULES.md has its rules) and section 2 of
+//!   the paper alone;
 //! - `plain`: a fast implementation on the words, the baseline of the benchmark;
 //! - `ffi`: the C library under test, if it is linked;
 //! - `bench`: the calls as one trait, for all of them;

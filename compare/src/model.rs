@@ -1,6 +1,6 @@
 //! The independent simulator. Every call reads the lent words into objects,
 //! asks or changes the objects, and writes them back if nothing was refused.
-//! It is slow and meant to be read beside document 01.
+//! It is slow and meant to be read beside docs/RULES.md.
 
 pub mod geometry;
 pub mod network;
@@ -9,7 +9,7 @@ pub mod words;
 use network::{Kind, Network, Output, Step, QUEUES};
 use words::{decode, encode, packet_to_word, Sizes};
 
-/// The refusals of document 01 with their numbers. (13 is the program's.)
+/// R161 to R172, the refusals with their numbers. (13 is the program's.)
 #[derive(Clone, Copy, Debug, PartialEq, Eq)]
 pub enum Refusal {
     ShortStore = 1,

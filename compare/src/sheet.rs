@@ -1,7 +1,7 @@
-//! The bench program of document 01 on top of the model: a sheet's bytes in,
+//! The bench program (R240 to R257) on top of the model: a sheet's bytes in,
 //! the printed bytes out.
 //!
-//! Readings of points that the document leaves open:
+//! Readings of points that the rules leave open:
 //! - a line ends with LF or with CR LF, each line for itself; a CR that no LF
 //!   follows belongs to the line, also as the last byte of the input;
 //! - the 64 bytes are counted without the end of the line;

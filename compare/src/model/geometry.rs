@@ -3,7 +3,7 @@
 /// A two-dimensional torus. Dimension 0 is x (columns), dimension 1 is y (rows).
 pub const DIMENSIONS: usize = 2;
 
-/// One direction of travel, by its place in the order of document 01.
+/// One direction of travel, by its place in the order of R33.
 #[derive(Clone, Copy, Debug, PartialEq, Eq)]
 pub struct Direction(u8);
 

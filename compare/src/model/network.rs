@@ -41,7 +41,7 @@ impl Packet {
     }
 }
 
-/// What a queue is for. The numbers 0 to 8 are those of document 01.
+/// What a queue is for. The numbers 0 to 8 are those of R32 to R34.
 #[derive(Clone, Copy, Debug, PartialEq, Eq)]
 pub enum Kind {
     Injection,
@@ -262,7 +262,7 @@ impl Network {
         }
     }
 
-    /// The first permitted move in the order node, queue, route.
+    /// R123: node by node, queue by queue, by the routes of each head.
     pub fn first(&self) -> Option<Step> {
         for (node, queues) in self.nodes.iter().map(|n| &n.queues).enumerate() {
             for (queue, packets) in queues.iter().enumerate() {
@@ -301,7 +301,7 @@ impl Network {
         steps
     }
 
-    /// Puts a new packet at the end of the node's injection queue.
+    /// R101: the new packet becomes the newest of the node's queue 0.
     pub fn inject(&mut self, node: usize, destination: usize, tag: u32) {
         let offsets = self.torus.offsets(node, destination);
         self.nodes[node].queues[0].push_back(Packet {

@@ -1,5 +1,5 @@
-//! The kept cases K1 to K12, the listing and the misreadings of document 01,
-//! with the numbers that it gives.
+//! The kept cases K1 to K12 (R281 to R292), the listing (R257) and the
+//! misreadings (R301 to R305), with the numbers that RULES gives.
 
 use compare::bench::Call;
 use compare::generate::{end_node, packet_word, Shape};

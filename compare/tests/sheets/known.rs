@@ -1,5 +1,5 @@
-//! Sheets whose whole output is written down here: the listing of document 01
-//! and the readings of its open points.
+//! Sheets whose whole output is written down here: the listing of R257 and the
+//! readings of the open points.
 
 /// A name, the input and the whole output.
 pub type Known = (&'static str, Vec<u8>, Vec<u8>);

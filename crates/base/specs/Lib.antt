@@ -1,4 +1,4 @@
--- What the definitions of document 01 are written with, and its laws. Nothing here speaks of networks. Assumes nothing.
+-- What the definitions of the rules are written with, and its laws. Nothing here speaks of networks. Assumes nothing.
 pub mod Tests
 pub mod Bools
 pub mod Sums

@@ -1,5 +1,5 @@
-// The search of First, on words that have passed the check: the first permitted move in the order node, queue, route. Every function equals
-// the definition of its name in the crate `network` (specs/Calls.antt).
+// The search of First (R123), on words that have passed the check: node by node, queue by queue, and by the routes of each head. Every
+// function equals the definition of its name in the crate `network` (specs/Calls.antt).
 use flow::flow_rules;
 use flow::may_flow;
 use network::Found;

@@ -1,5 +1,5 @@
-// The flow rule, on words that have passed the check: what a queue holds, the target of an output, its free slots, and how many a move
-// needs. The contracts say each answer by the definitions of the crate `network` (specs/Layout.antt, Routes.antt, Refusals.antt).
+// The flow rule (R150 to R152), on words that have passed the check: what a queue holds, the target of an output, its free slots, and how
+// many a move needs. The contracts say each answer by the definitions of the crate `network` (specs/Layout.antt, Routes.antt, Refusals.antt).
 use packet::near::look_up;
 use packet::torus::Sizes;
 use packet::torus::neighbour;
@@ -18,7 +18,7 @@ ghost use Rattle.packet.specs.Near.{Near};
 ghost use Rattle.network.specs.Sizes.{nodes, queues};
 ghost use Rattle.flow.specs.QueueOf.{QueueOf};
 
-// The numbers of document 01's table for what the flow rule refuses.
+// R171, R172: the numbers by which the flow rule refuses.
 pub const NO_SLOT: u64 = 11;
 
 pub const NO_BUBBLE: u64 = 12;

@@ -1,5 +1,5 @@
--- Document 01, "The check of a network", clause by clause and in its order. Order: one packet in its queue; one queue; the rings; the counters;
--- all of it. Assumes nothing.
+-- R70 to R85, the check, a definition for each clause. Order: one packet in its queue; one queue; the rings; the counters; all of it.
+-- Assumes nothing.
 use mathlib.Core.Bool.{Bool, cond, not, _&&_, _||_}
 use mathlib.Core.List.{List}
 use Prim.Native.Nat.{ℕ, _+_, _*_, _-_, _/_, _^_}
@@ -12,36 +12,36 @@ use Rattle.network.specs.Packet.{destination, distance, hops, work}
 use Rattle.network.specs.Torus.{along, movedBy}
 use Rattle.network.specs.Layout.{held, queuePart, countOf, unusedOf, packetsOf, total, need, accepted, delivered, movesMade}
 
--- "Each packet's destination is below X × Y and equals its node moved by (dx, dy) round the torus."
+-- R74, R75: the destination is a node, and the one to which the offsets lead
 unfoldable pub rightPlace : Shape → ℕ → ℕ → Bool
 rightPlace S n p = ltb (destination p) (nodes S) && eqb (movedBy S p n) (destination p)
 
--- an "x queue", or a y queue: a transit queue of that dimension
+-- R37: an x queue or a y queue, a transit queue of that dimension
 unfoldable pub isQueueOf : ℕ → ℕ → Bool
 isQueueOf i q = not (eqb q injectionQueue) && eqb (dimensionOf (directionOf q)) i
 
--- "|dx| is at most X/2 rounded down; in an x queue |dx| + 1 is too; the same for dy with Y.": what must not be more than half of the size
+-- R76, R77: what must not be more than half of the size; in a queue of that dimension a hop has been made already
 unfoldable pub reach : ℕ → ℕ → ℕ → ℕ
 reach i q p = cond (isQueueOf i q) (distance i p + 1) (distance i p)
 
 unfoldable pub nearEnough : Shape → ℕ → ℕ → Bool
 nearEnough S q p = allBelow dimensions (λ i. leb (reach i q p) (size S i / 2))
 
--- "In plus queues the offset of that dimension is not negative, in minus queues not positive.": no hop is left the other way
+-- R78: in a transit queue no hop is left against the queue's direction
 unfoldable pub opposite : ℕ → ℕ
 opposite d = cond (isPlus d) (minus (dimensionOf d)) (plus (dimensionOf d))
 
 unfoldable pub rightSign : ℕ → ℕ → Bool
 rightSign q p = eqb q injectionQueue || eqb (hops (opposite (directionOf q)) p) 0
 
--- "In queues 7 and 8 dx is 0.": in an escape queue the offsets of all lower dimensions are 0
+-- R79: in an escape queue the offsets of all lower dimensions are used up, so along y that of x
 unfoldable pub lowerDone : ℕ → ℕ → Bool
 lowerDone q p = not (isEscape q) || allBelow (dimensionOf (directionOf q)) (λ i. eqb (distance i p) 0)
 
 unfoldable pub packetFits : Shape → ℕ → ℕ → ℕ → Bool
 packetFits S n q p = rightPlace S n p && (nearEnough S q p && (rightSign q p && lowerDone q p))
 
--- "No queue holds more than its capacity, and unused words are 0.", with the packets' clauses
+-- R72, R73, and what is asked of each packet
 unfoldable pub queueFits : Shape → List ℕ → ℕ → ℕ → Bool
 queueFits S w n q =
     leb (countOf (queuePart S w n q)) (capacity S q)
@@ -50,8 +50,7 @@ queueFits S w n q =
 unfoldable pub queuesFit : Shape → List ℕ → Bool
 queuesFit S w = allBelow (nodes S) (λ n. allBelow queues (λ q. queueFits S w n q))
 
--- "An escape ring is one escape direction along one row (x) or column (y); in each ring at least one slot is free.": the ring of direction d
--- through node n, at each of its nodes in turn
+-- R80, R81: the escape ring of direction d through node n; one of its queues, found from node to node, has a free slot
 unfoldable pub hasRoom : Shape → List ℕ → ℕ → ℕ → Bool
 hasRoom S w n q = ltb (length (held S w n q)) (capacity S q)
 
@@ -61,28 +60,27 @@ ringHasRoom S w d n = someBelow (size S (dimensionOf d)) (λ j. hasRoom S w (alo
 unfoldable pub ringsHaveRoom : Shape → List ℕ → Bool
 ringsHaveRoom S w = allBelow directions (λ d. allBelow (nodes S) (λ n. ringHasRoom S w d n))
 
--- the number of packets held, and "work left is the sum of |dx| + |dy| + 1 over the packets held"
+-- R83, R84: how many packets are held, and the work left
 unfoldable pub packetsHeld : Shape → List ℕ → ℕ
 packetsHeld S w = total S w length
 
 unfoldable pub workLeft : Shape → List ℕ → ℕ
 workLeft S w = total S w (sumOf work)
 
--- "Accepted is at most 2^32 − 1"
+-- R82, R168
 abbrev pub mostAccepted : ℕ
 mostAccepted = 2 ^ 32 - 1
 
--- "at most 17 × accepted": no packet starts with more work than 8 hops in each dimension, plus one
+-- R85: no packet starts with more work than 8 hops in each dimension, and its delivery
 abbrev pub mostWork : ℕ
 mostWork = dimensions * 8 + 1
 
--- "Accepted is at most 2^32 − 1, and accepted minus delivered is the number of packets held. Moves made plus the work left is at most
--- 17 × accepted", over whole numbers: delivered above accepted fails, and no sum wraps
+-- R82, R83, R85, over whole numbers: delivered above accepted fails, and no sum wraps
 unfoldable pub countersFit : Shape → List ℕ → Bool
 countersFit S w =
     leb (accepted w) mostAccepted
     && (eqb (delivered w + packetsHeld S w) (accepted w) && leb (movesMade w + workLeft S w) (mostWork * accepted w))
 
--- "Words are a network if all of this holds.": the sizes S are those that the words begin with
+-- R70: all of it, for words that begin with the sizes S
 unfoldable pub isNetwork : Shape → List ℕ → Bool
 isNetwork S w = sizesInRange S && (leb (need S) (length w) && (queuesFit S w && (ringsHaveRoom S w && countersFit S w)))

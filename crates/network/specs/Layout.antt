@@ -1,5 +1,5 @@
--- Document 01, "Nodes, queues and words": where everything stands in the lent words. Order: the header; where each queue's words stand;
--- a queue's words; reading and replacing a queue; sums over all queues. Assumes nothing.
+-- R40 to R49: where everything stands in the lent words. Order: the header; where each queue's words stand; a queue's words; reading and
+-- replacing a queue; sums over all queues. Assumes nothing.
 use mathlib.Core.List.{List, [], _∷_, _++_}
 use Prim.Native.Nat.{ℕ, _+_, _*_, _-_}
 use lib.ListN.{length, getD, take, drop, set, replicate}
@@ -7,7 +7,7 @@ use Rattle.base.specs.Sums.{sumBelow}
 use Rattle.base.specs.Parts.{span, splice}
 use Rattle.network.specs.Sizes.{Shape, nodes, queues, directions, capacity}
 
--- "Words 0 to 7: X, Y, E, A, J, packets accepted, packets delivered, moves made."
+-- R42, the header: the five sizes, then the three counters
 abbrev pub headerWords : ℕ
 headerWords = 8
 
@@ -36,11 +36,11 @@ movesMade w = getD w movesAt 0
 unfoldable pub raised : ℕ → List ℕ → List ℕ
 raised at w = set w at (getD w at 0 + 1)
 
--- "Then the nodes in order, each with its queues in order: one word for the number held, then as many words as the capacity"
+-- R43, R44: node after node, queue after queue; a queue is its number held and a word for each slot
 unfoldable pub queueLength : Shape → ℕ → ℕ
 queueLength S q = 1 + capacity S q
 
--- "A node takes 9 + J + 4A + 4E words."
+-- R47: the words of a node, where a queue begins and ends
 unfoldable pub nodeWords : Shape → ℕ
 nodeWords S = queues + S .injection + directions * S .adaptive + directions * S .escape
 
@@ -50,11 +50,11 @@ queueStart S n q = headerWords + n * nodeWords S + sumBelow q (λ i. queueLength
 unfoldable pub queueEnd : Shape → ℕ → ℕ → ℕ
 queueEnd S n q = queueStart S n q + queueLength S q
 
--- the words that the sizes need: K1, K2
+-- R47: the words that the sizes need: K1, K2
 unfoldable pub need : Shape → ℕ
 need S = headerWords + nodes S * nodeWords S
 
--- "one word for the number held, then as many words as the capacity, oldest packet first, unused ones 0"
+-- R44 to R46: the words of a queue with these packets, the oldest in front, zeros behind them
 unfoldable pub queueWords : ℕ → List ℕ → List ℕ
 queueWords capacity packets = length packets ∷ (packets ++ replicate (capacity - length packets) 0)
 
@@ -74,7 +74,7 @@ unusedOf part = drop (countOf part) (drop 1 part)
 unfoldable pub held : Shape → List ℕ → ℕ → ℕ → List ℕ
 held S w n q = packetsOf (queuePart S w n q)
 
--- "Inside a call a queue is worked on as that part of the lent words which it fills, and no other.": the words with that part replaced
+-- R49: the words with the part of one queue replaced, and nothing else
 unfoldable pub putQueue : Shape → List ℕ → ℕ → ℕ → List ℕ → List ℕ
 putQueue S w n q packets = splice w (queueStart S n q) (queueEnd S n q) (queueWords (capacity S q) packets)
 

@@ -249,7 +249,7 @@ pub movesMade-put : (S : Shape) (w : List ℕ) (n q : ℕ) (ps : List ℕ) → F
 unfolding movesMade
 movesMade-put S w n q ps fits h = word-put S w n q ps movesAt fits h (omega arith)
 
--- "Memory after the last node is never touched."
+-- R48: the words behind the last node stay as they are
 pub rest-put : (S : Shape) (w : List ℕ) (n q : ℕ) (ps : List ℕ) → Fits S w n q → length ps ≤ capacity S q
     → drop (need S) (putQueue S w n q ps) ≡ drop (need S) w
 unfolding putQueue

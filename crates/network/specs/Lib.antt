@@ -1,4 +1,4 @@
--- Document 01 as definitions, in its order; the laws of each stand in the file beside it. `document 01` below is shared/docs/01-scope.md.
+-- The rules of docs/RULES.md as definitions, in its order; the laws of each stand in the file beside it. R30 in a comment is that clause.
 pub mod Sizes
 pub mod SizesLaws
 pub mod Packet

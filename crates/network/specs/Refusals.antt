@@ -1,4 +1,4 @@
--- Document 01, "Refusals": the numbers, and for each call the first test that applies, in its order; 0 if none does.
+-- R160 to R187: the numbers, and for each call the first of its tests that applies, in its order; 0 if none does.
 -- Order: the numbers; the tests that all calls but Make share; Make; Offer; Move; Credit; Look. Assumes nothing.
 use mathlib.Core.Bool.{Bool, true, false, not, cond, _&&_, _||_}
 use mathlib.Core.List.{List, [], _∷_}
@@ -11,7 +11,7 @@ use Rattle.network.specs.Layout.{shape, headerWords, need, held, accepte
 use Rattle.network.specs.Check.{isNetwork, mostAccepted}
 use Rattle.network.specs.Routes.{routes, deliver, freeSlots, slotsNeeded}
 
--- the table's numbers, with the trade's words; 13, "bad line", belongs to the bench program
+-- R161 to R172, with the trade's words; 13, "bad line", belongs to the bench program
 abbrev pub shortStore : ℕ
 shortStore = 1
 
@@ -60,7 +60,7 @@ refuse false number later = later
 abbrev pub elseBy : ℕ → ℕ → ℕ
 elseBy earlier later = cond (eqb earlier 0) later earlier
 
--- "Every other call tests 1 (eight words), 2, 1 (need), 3"
+-- R181: 1 for the header, 2, 1 for the need, 3
 unfoldable pub networkRefusal : List ℕ → ℕ
 networkRefusal w =
     refuse (ltb (length w) headerWords) shortStore
@@ -68,11 +68,11 @@ networkRefusal w =
     (refuse (ltb (length w) (need (shape w))) shortStore
     (refuse (not (isNetwork (shape w) w)) noNetwork 0)))
 
--- "Make tests 2, then 1."
+-- R180: 2, 1
 unfoldable pub makeRefusal : Shape → List ℕ → ℕ
 makeRefusal S w = refuse (not (sizesInRange S)) wrongSize (refuse (ltb (length w) (need S)) shortStore 0)
 
--- "then Offer 4, 8, 7"
+-- R183: 4, 8, 7
 unfoldable pub offerRules : Shape → List ℕ → ℕ → ℕ → ℕ
 offerRules S w n destination =
     refuse (leb (nodes S) n || leb (nodes S) destination) noSuchNode
@@ -86,7 +86,7 @@ offerRefusal w n destination = elseBy (networkRefusal w) (offerRules (shape w) w
 unfoldable pub head : List ℕ → ℕ
 head packets = getD packets 0 0
 
--- "Move 4, 5, 6, 9, 10, 11, 12": a delivery has no target and needs no slot
+-- R184: 4, 5, 6, 9, 10, 11, 12; a delivery has no target and needs no slot (R153)
 unfoldable pub flowRules : Shape → List ℕ → ℕ → ℕ → ℕ → ℕ
 flowRules S w n q o =
     cond (eqb o deliver) 0
@@ -105,14 +105,14 @@ moveRules S w n q o =
 unfoldable pub moveRefusal : List ℕ → ℕ → ℕ → ℕ → ℕ
 moveRefusal w n q o = elseBy (networkRefusal w) (moveRules (shape w) w n q o)
 
--- "Credit 4, 6": "above 8; in Credit also 0"
+-- R185: 4, 6; here output 0 is none (R166)
 unfoldable pub creditRules : Shape → ℕ → ℕ → ℕ
 creditRules S n o = refuse (leb (nodes S) n) noSuchNode (refuse (eqb o deliver || leb queues o) noSuchOutput 0)
 
 unfoldable pub creditRefusal : List ℕ → ℕ → ℕ → ℕ
 creditRefusal w n o = elseBy (networkRefusal w) (creditRules (shape w) n o)
 
--- "Look 4, 5"
+-- R186: 4, 5
 unfoldable pub lookRules : Shape → ℕ → ℕ → ℕ
 lookRules S n q = refuse (leb (nodes S) n) noSuchNode (refuse (leb queues q) noSuchQueue 0)
 

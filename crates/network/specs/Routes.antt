@@ -1,5 +1,5 @@
--- Document 01, "Routes of a head, and the flow rule"; source document 004, section 2.3. Order: the routes; the target of an output; its free
--- slots; how many a move needs. Assumes nothing.
+-- R140 to R152: by which outputs a head may leave, and how much room it needs (the paper, section 2.3). Order: the routes; the target of an
+-- output; its free slots; how many a move needs. Assumes nothing.
 use mathlib.Core.Bool.{Bool, cond, not, _&&_}
 use mathlib.Core.List.{List, [], _∷_, _++_, map}
 use Prim.Native.Nat.{ℕ, zero, suc, _+_, _-_}
@@ -19,21 +19,21 @@ unfoldable pub without : ℕ → List ℕ → List ℕ
 without i [] = []
 without i (j ∷ js) = cond (eqb i j) (without i js) (j ∷ without i js)
 
--- "For the injection queue, where 004 names no incoming dimension, x counts as incoming."
+-- R146, R147: the dimension of its queue; x for the injection queue, which has none
 unfoldable pub incoming : ℕ → ℕ
 incoming q = cond (eqb q injectionQueue) 0 (dimensionOf (directionOf q))
 
--- "along the incoming dimension .. along the other"
+-- R142, R143: the order in which the adaptive queues are tried
 unfoldable pub incomingFirst : ℕ → List ℕ
 incomingFirst q = incoming q ∷ without (incoming q) (inOrder 0 dimensions)
 
--- the directions in which the packet has hops left, for dimensions in the order given: "if that offset is not 0"
+-- the directions in which the packet has hops left, for dimensions in the order given
 unfoldable pub headings : List ℕ → ℕ → List ℕ
 headings [] p = []
 headings (i ∷ is) p = cond (eqb (distance i p) 0) (headings is p) (heading i p ∷ headings is p)
 
--- "Both offsets 0: output 0 only. Otherwise, in this order: the adaptive queue along the incoming dimension if that offset is not 0; the
--- adaptive queue along the other if its offset is not 0; the escape queue of x if dx is not 0, else of y."
+-- R141 to R144: delivery and nothing else for a packet that has arrived; else its adaptive queues, the incoming dimension first, then the one
+-- escape queue of its lowest dimension with hops left
 abbrev pub deliver : ℕ
 deliver = 0
 
@@ -43,15 +43,15 @@ routes q p =
     (deliver ∷ [])
     (map adaptiveQueue (headings (incomingFirst q) p) ++ map escapeQueue (take 1 (headings (inOrder 0 dimensions) p)))
 
--- "Output 0 delivers; 1 to 8 name the queue at the neighbour in that queue's direction."
+-- R107: the node of the target of output o, where the packet joins queue o
 unfoldable pub target : Shape → ℕ → ℕ → ℕ
 target S n o = neighbour S (directionOf o) n
 
--- "the free slots of that target"
+-- R116
 unfoldable pub freeSlots : Shape → List ℕ → ℕ → ℕ → ℕ
 freeSlots S w n o = capacity S o - length (held S w (target S n o) o)
 
--- "An adaptive target needs one free slot. An escape target needs one if the head stands in the escape queue of that same direction, and two
--- in every other case."
+-- R150 to R152: two for whoever enters an escape ring; one along the ring, where the head's queue has the output's number, and one into an
+-- adaptive queue
 unfoldable pub slotsNeeded : ℕ → ℕ → ℕ
 slotsNeeded q o = cond (isEscape o && not (eqb q o)) 2 1

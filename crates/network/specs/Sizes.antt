@@ -1,4 +1,4 @@
--- Document 01, "What the bench models", and the queues of a node from "Nodes, queues and words".
+-- R1, R20 to R25 and R31 to R34: what a network is made of.
 -- Order: dimensions and directions; the sizes of a network and their ranges; the nine queues and their capacities. Assumes nothing.
 use mathlib.Core.Bool.{Bool, cond, _&&_}
 use mathlib.Core.List.{List}
@@ -8,11 +8,11 @@ use lib.ListN.{getD}
 use Rattle.base.specs.Tests.{allOf}
 use Rattle.base.specs.Digits.{product}
 
--- "A two-dimensional torus of X columns and Y rows": dimension 0 is x, dimension 1 is y
+-- R1: a torus in two dimensions; 0 is x, along which columns are counted, and 1 is y, along which rows are
 abbrev pub dimensions : ℕ
 dimensions = 2
 
--- "x+, x−, y+, y−" are the directions 0 to 3: dimension d / 2, plus where d is even, minus where it is odd
+-- x+, x−, y+, y− are the directions 0 to 3, in the order of R33: dimension d / 2, plus where d is even, minus where it is odd
 abbrev pub directions : ℕ
 directions = 2 * dimensions
 
@@ -28,7 +28,7 @@ dimensionOf d = d / 2
 abbrev pub isPlus : ℕ → Bool
 isPlus d = eqb (d % 2) 0
 
--- X and Y, and "capacities in slots: escape E .., adaptive A .., injection J .., the same at every node"
+-- R20, R25: X and Y, and the slots E, A and J of a queue of each kind, one number for all nodes
 pub record Shape : Type 0 where
   pub sizes : List ℕ
   pub escape : ℕ
@@ -41,16 +41,15 @@ size S i = getD (S .sizes) i 0
 unfoldable pub within : ℕ → ℕ → ℕ → Bool
 within least most n = leb least n && leb n most
 
--- "X and Y are 1 to 16. Capacities in slots: escape E 2 to 8, adaptive A 1 to 8, injection J 1 to 8"
+-- R21 to R24: the range of each of the five
 unfoldable pub sizesInRange : Shape → Bool
 sizesInRange S = allOf (within 1 16) (S .sizes) && (within 2 8 (S .escape) && (within 1 8 (S .adaptive) && within 1 8 (S .injection)))
 
--- nodes are numbered 0 to X × Y − 1
+-- R30: nodes are numbered 0 to X × Y − 1
 unfoldable pub nodes : Shape → ℕ
 nodes S = product (S .sizes)
 
--- "Each node has nine queues: 0 injection; 1 to 4 adaptive for packets that arrived going x+, x−, y+, y−; 5 to 8 escape in the same four
--- directions."
+-- R31 to R34: nine queues a node; the injection queue is 0, then an adaptive queue for each direction, then an escape queue for each
 abbrev pub queues : ℕ
 queues = 1 + 2 * directions
 
@@ -63,7 +62,7 @@ adaptiveQueue d = 1 + d
 abbrev pub escapeQueue : ℕ → ℕ
 escapeQueue d = 1 + directions + d
 
--- of a queue other than the injection queue: its direction, and whether it is an escape queue
+-- R37: of a transit queue, its direction, and whether it is an escape queue
 abbrev pub directionOf : ℕ → ℕ
 directionOf q = (q - 1) % directions
 

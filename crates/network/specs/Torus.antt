@@ -1,11 +1,11 @@
--- Document 01, "Nodes, queues and words": coordinates, neighbours, and a node moved round the torus. Assumes nothing.
+-- R30, R35, R36 and R75: coordinates, neighbours, and where a packet's offsets lead. Assumes nothing.
 use mathlib.Core.Bool.{cond}
 use Prim.Native.Nat.{ℕ, zero, suc, _+_, _*_, _-_}
 use Rattle.base.specs.Digits.{digit, turn}
 use Rattle.network.specs.Sizes.{Shape, size, dimensionOf, isPlus, directions}
 use Rattle.network.specs.Packet.{hops}
 
--- "Node n = y × X + x": its coordinate in dimension i
+-- R30: the coordinate of node n = y × X + x in dimension i
 unfoldable pub coordinate : Shape → ℕ → ℕ → ℕ
 coordinate S i n = digit (S .sizes) i n
 
@@ -17,11 +17,11 @@ stride S d = cond (isPlus d) 1 (size S (dimensionOf d) - 1)
 unfoldable pub along : Shape → ℕ → ℕ → ℕ → ℕ
 along S d count n = turn (S .sizes) (dimensionOf d) (count * stride S d) n
 
--- "The x+ neighbour has column x + 1, or 0 after X − 1; the others likewise."
+-- R35, R36: one hop, and round to the other end after the last node of the row or column
 unfoldable pub neighbour : Shape → ℕ → ℕ → ℕ
 neighbour S d n = along S d 1 n
 
--- "its node moved by (dx, dy) round the torus": along each direction by the hops left in it
+-- R75: the node to which the offsets of p lead from n: along each direction by the hops left in it
 unfoldable pub movedBelow : Shape → ℕ → ℕ → ℕ → ℕ
 movedBelow S p zero n = n
 movedBelow S p (suc d) n = along S d (hops d p) (movedBelow S p d n)

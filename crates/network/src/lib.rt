@@ -1,5 +1,5 @@
 // The answers of the calls that are more than a refusal's number. specs/Calls.antt says when a call gives which, and has
-// document 01's number and values for each case. The calls themselves are in the crate `calls`.
+// the number and values of each case (R321). The calls themselves are in the crate `calls`.
 
 // Move: refused by a rule, passed on to a neighbour, or delivered, with the packet word that it hands out.
 pub enum Moved {

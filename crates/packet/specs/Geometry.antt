@@ -8,14 +8,14 @@ use Rattle.packet.specs.declared.torus.Sizes.{Sizes}
 abbrev pub shapeOfSizes : Sizes → Shape
 shapeOfSizes s = shapeOf (s .x) (s .y) (s .escape) (s .adaptive) (s .injection)
 
--- "X and Y are 1 to 16."
+-- R21
 pub record RingsFit (s : Sizes) : Type 0 where
   pub x-least : 1 ≤ s .x
   pub x-most : s .x ≤ 16
   pub y-least : 1 ≤ s .y
   pub y-most : s .y ≤ 16
 
--- "Node n = y × X + x, with x from 0 to X − 1 and y from 0 to Y − 1."
+-- R30
 abbrev pub nodeAt : Sizes → ℕ → ℕ → ℕ
 nodeAt s x y = y * s .x + x
 

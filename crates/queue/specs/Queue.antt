@@ -14,7 +14,7 @@ use Rattle.network.specs.Layout.{need, queuePart, countOf, unusedOf}
 abbrev pub slots : List ℕ → ℕ
 slots part = length part - 1
 
--- "No queue holds more than its capacity, and unused words are 0."
+-- R72, R73: not more packets than slots, and zeros behind them
 pub record IsQueue (part : List ℕ) : Type 0 where
   pub count : countOf part < length part
   pub zeros : T (allOf (eqb 0) (unusedOf part))

@@ -1,4 +1,4 @@
-// The rings' clause of the check: in each escape ring at least one slot is free. The queues of a ring stand at equal distances in the words, and
+// The rings' clause of the check (R80, R81): no escape ring is full. The queues of a ring stand at equal distances in the words, and
 // so do the first queues of the rings of a direction: each ring is looked at once, and no node is computed.
 use packet::torus::Sizes;
 ghost use mathlib.Core.Path.{_≡_};

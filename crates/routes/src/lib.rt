@@ -1,5 +1,5 @@
-// The routes of a head: its outputs in the order in which First tries them, and whether an output is one of them. The contracts say each
-// answer by the definitions of the crate `network` (specs/Routes.antt).
+// The routes of a head (R140 to R147): its outputs in the order in which First tries them, and whether an output is one of them. The
+// contracts say each answer by the definitions of the crate `network` (specs/Routes.antt).
 use packet::distance;
 use packet::heading;
 ghost use mathlib.Core.Path.{_≡_};

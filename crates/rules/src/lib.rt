@@ -1,5 +1,5 @@
-// The tests that each call makes after the check, in document 01's order: the number of the first that applies, or 0. Every function equals
-// the definition of its name in the crate `network` (specs/Refusals.antt).
+// The tests that each call makes after the check, in the order of R183 to R186: the number of the first that applies, or 0. Every function
+// equals the definition of its name in the crate `network` (specs/Refusals.antt).
 use flow::flow_rules;
 use flow::head;
 use flow::held_count;
@@ -13,7 +13,7 @@ ghost use Rattle.network.specs.CheckLaws.{Network};
 ghost use Rattle.network.specs.Refusals.{offerRules, moveRules, creditRules, lookRules};
 ghost use Rattle.packet.specs.Geometry.{shapeOfSizes, RingsFit};
 
-// The numbers of document 01's table; 11 and 12 stand in `flow`.
+// The numbers of R164 to R170; 11 and 12 stand in `flow`.
 pub const NO_SUCH_NODE: u64 = 4;
 
 pub const NO_SUCH_QUEUE: u64 = 5;

@@ -1,4 +1,4 @@
--- Document 01, "The bench program": the command of a line. Order: the fields of a line; numbers; the commands. Assumes nothing.
+-- R240 and R243 to R248: the command of a line. Order: the fields of a line; numbers; the commands. Assumes nothing.
 use mathlib.Core.Bool.{Bool, true, false, not, cond, _&&_}
 use mathlib.Core.List.{List, [], _∷_, map}
 use Prim.Native.Nat.{ℕ, _+_, _*_, _-_}
@@ -10,7 +10,7 @@ use Rattle.sheet.specs.declared.Command.{Command}
 use Rattle.sheet.specs.Text.{comma}
 use Rattle.sheet.specs.Lines.{lineLimit, Kept, whole, tooLong}
 
--- "comma-separated lines (RFC 4180, no header, no quotes)": what stands before the first comma, and what stands behind each comma, up to the next.
+-- R240: what stands before the first comma, and what stands behind each comma, up to the next.
 -- Without quotes a comma always separates, and every other byte belongs to its field
 unfoldable pub firstField : List ℕ → List ℕ
 firstField [] = []
@@ -24,7 +24,7 @@ laterFields (b ∷ bs) = behind (eqb b comma) (firstField bs) (laterFields bs)
     behind true field fields = field ∷ fields
     behind false field fields = fields
 
--- "Numbers on this page are decimal": a digit, and the number that digits stand for where the digits of n stand before them
+-- R9, R247: a decimal digit, and the number that digits stand for where the digits of n stand before them
 unfoldable pub isDigit : ℕ → Bool
 isDigit b = leb (code "0") b && leb b (code "9")
 
@@ -35,7 +35,7 @@ valueFrom n (b ∷ bs) = valueFrom (n * 10 + (b - code "0")) bs
 unfoldable pub value : List ℕ → ℕ
 value field = valueFrom 0 field
 
--- "Numbers are 0 to 4294967295 without leading zeros."
+-- R247: the largest number of a field
 abbrev pub largestNumber : ℕ
 largestNumber = 4294967295
 
@@ -48,7 +48,7 @@ noLeadingZero (b ∷ c ∷ bs) = not (eqb b (code "0"))
 unfoldable pub isNumber : List ℕ → Bool
 isNumber field = noLeadingZero field && (allOf isDigit field && leb (value field) largestNumber)
 
--- "T,X,Y,E,A,J makes; O,node,destination,tag offers; M,node,queue,output moves; D,budget drains": the command of a letter and the numbers behind it
+-- R243 to R246: the command of a letter and the numbers behind it, as many as it takes
 unfoldable pub commandWith : ℕ → List ℕ → Command
 commandWith letter n =
     cond (eqb letter (code "T") && eqb (length n) 5) (Command.Make (getD n 0 0) (getD n 1 0) (getD n 2 0) (getD n 3 0) (getD n 4 0))
@@ -61,7 +61,7 @@ commandWith letter n =
 unfoldable pub wellFormed : List ℕ → Bool
 wellFormed line = leb (length line) lineLimit && (eqb (length (firstField line)) 1 && allOf isNumber (laterFields line))
 
--- "Other lines, the empty one and one that is too long included, print ?,13 once each and do nothing."
+-- R248: every line that is none of these is bad
 unfoldable pub commandOf : List ℕ → Command
 commandOf line = cond (wellFormed line) (commandWith (getD (firstField line) 0 0) (map value (laterFields line))) Command.Bad
 

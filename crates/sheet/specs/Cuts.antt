@@ -323,7 +323,7 @@ unfolding feedReads feedBytes flatten
 reads-right s [] = refl
 reads-right s (bytes ∷ reads) = reads-right (feedBytes s bytes) reads ∙ sym (feed-append s bytes (flatten reads))
 
--- "Lines .. CRLF or LF, each at most 64 bytes without its end": whatever the buffer holds at first and however the input is read, what is handed on
+-- R241, R242, R249, R250: whatever the buffer holds at first and however the input is read, what is handed on
 -- are the lines of the whole input in their order, each with its bytes, or as too long
 pub cut-right : (buffer : List ℕ) → heldBytes ≤ length buffer → (reads : List (List ℕ))
     → finishCutting (feedReads (startCutting buffer) reads) ≡ map kept (lines (flatten reads))

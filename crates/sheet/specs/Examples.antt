@@ -1,4 +1,4 @@
--- Document 01's listing and what it says of other lines, computed from the definitions. Assumes nothing.
+-- The lines of R257, and lines that are none of the commands (R248), computed from the definitions. Assumes nothing.
 use mathlib.Core.Path.{_≡_, refl}
 use mathlib.Core.List.{[], _∷_, _++_, map}
 use Prim.Native.Nat.{_+_, _*_, _^_}
@@ -16,13 +16,13 @@ use Rattle.sheet.specs.Commands.{firstField, laterFields, isDigit, value
 use Rattle.sheet.specs.Output.{decimalWithin, decimal, fieldsAndEnd, line, badLine, answerLine, packetLine, packetLines, movedLines, stopWord, stoppedLine, drainLine, drainedLines}
 
 pub record Examples : Type 0 where
-  -- "CRLF or LF"; a last line without an end; nothing after the last end; empty lines; a CR within a line and at the end of the input
+  -- R241, R249, R250: both ends; a last line without an end; nothing after the last end; empty lines; a CR within a line and at the end of the input
   pub ends : (lines (text "D,1\r\nD,2\nD,3") ≡ text "D,1" ∷ text "D,2" ∷ text "D,3" ∷ [])
       × (lines (text "D,1\n") ≡ text "D,1" ∷ [])
       × (lines [] ≡ [])
       × (lines (text "\n\r\n") ≡ [] ∷ [] ∷ [])
       × (lines (text "D\r,1\r\r\nD\r") ≡ text "D\r,1\r" ∷ text "D\r" ∷ [])
-  -- "each at most 64 bytes without its end": 64 and CRLF, 65, 64 with a CR that is not the end's, 65 and CRLF, 65 without an end
+  -- R242: 64 and CRLF, 65, 64 with a CR that is not the end's, 65 and CRLF, 65 without an end
   pub limit : (map kept (lines (replicate 64 48 ++ text "\r\n")) ≡ whole (replicate 64 48) ∷ [])
       × (map kept (lines (replicate 65 48 ++ text "\n")) ≡ tooLong ∷ [])
       × (map kept (lines (replicate 64 48 ++ text "\r0\n")) ≡ tooLong ∷ [])

@@ -1,4 +1,4 @@
--- Document 01, "The bench program", as definitions: the input's lines, the command of a line, the bytes of every line that is printed. Cutting.antt says
+-- R240 to R256, the text of a sheet, as definitions: the input's lines, the command of a line, the bytes of every line that is printed. Cutting.antt says
 -- how the code cuts the input; Cuts.antt has the theorem on the lines; Decimals.antt, Lengths.antt and Puts.antt have laws for the crates above.
 pub mod Text
 pub mod Lines

@@ -1,4 +1,4 @@
--- Document 01, "The bench program": the lines of the whole input. Order: the limit; a line's end; the lines; a line
+-- R241, R242, R249 and R250: the lines of the whole input. Order: the limit; a line's end; the lines; a line
 -- as it is handed on. Assumes nothing.
 use mathlib.Core.Bool.{true, false, cond}
 use mathlib.Core.List.{List, [], _∷_, _++_}
@@ -7,17 +7,17 @@ use lib.Dec.{leb, eqb}
 use lib.ListN.{length}
 use Rattle.sheet.specs.Text.{lf, cr}
 
--- "each at most 64 bytes without its end"
+-- R242: the bytes of a line, its end not counted
 abbrev pub lineLimit : ℕ
 lineLimit = 64
 
--- "CRLF or LF": what stands before an LF without the CR that belongs to the end. A CR anywhere else belongs to the line
+-- R241: what stands before an LF without the CR that belongs to the end. A CR anywhere else belongs to the line
 unfoldable pub withoutCr : List ℕ → List ℕ
 withoutCr [] = []
 withoutCr (b ∷ []) = cond (eqb b cr) [] (b ∷ [])
 withoutCr (b ∷ c ∷ bs) = b ∷ withoutCr (c ∷ bs)
 
--- "A last line without an end counts; nothing after the last end is no line."
+-- R249, R250: bytes behind the last end are a line too; if there are none, there is no further line
 unfoldable pub lastLine : List ℕ → List (List ℕ)
 lastLine [] = []
 lastLine (b ∷ bs) = (b ∷ bs) ∷ []
@@ -30,7 +30,7 @@ linesFrom line (b ∷ bs) = elim (eqb b lf) [ true ↦ withoutCr line ∷ linesF
 unfoldable pub lines : List ℕ → List (List ℕ)
 lines input = linesFrom [] input
 
--- "one that is too long": a line as it is handed on, with its bytes or as too long
+-- R248: a line as it is handed on, with its bytes or as too long
 pub data Kept : Type 0 where
   whole : List ℕ → Kept
   tooLong : Kept

@@ -1,4 +1,4 @@
--- Document 01, "The bench program": the bytes that are printed. Order: a number; a line of fields; the lines of each answer; where bytes are put.
+-- R252 to R256 and R248: the bytes that are printed. Order: a number; a line of fields; the lines of each answer; where bytes are put.
 -- Assumes nothing.
 use mathlib.Core.Path.{_≡_}
 use mathlib.Core.Bool.{true, false}
@@ -14,7 +14,7 @@ use Rattle.network.specs.Packet.{tag, destination}
 use Rattle.network.specs.Calls.{drainedDelivered}
 use Rattle.sheet.specs.Text.{text, comma, cr, lf}
 
--- "Numbers on this page are decimal", "without leading zeros": the digits of a tenth of the number, if it has more than one, then the last one.
+-- R9, R247: the digits of a tenth of the number, if it has more than one, then the last one.
 -- `digits` bounds how many there are, and n + 1 is always enough
 unfoldable pub decimalWithin : ℕ → ℕ → List ℕ
 decimalWithin zero n = []
@@ -23,7 +23,7 @@ decimalWithin (suc digits) n = elim (ltb n 10) [ true ↦ [] | false ↦ decimal
 unfoldable pub decimal : ℕ → List ℕ
 decimal n = decimalWithin (suc n) n
 
--- "with CRLF": a line of a first field and further ones
+-- R252: a line of a first field and further ones
 unfoldable pub fieldsAndEnd : List (List ℕ) → List ℕ
 fieldsAndEnd [] = cr ∷ lf ∷ []
 fieldsAndEnd (field ∷ fields) = comma ∷ (field ++ fieldsAndEnd fields)
@@ -31,15 +31,15 @@ fieldsAndEnd (field ∷ fields) = comma ∷ (field ++ fieldsAndEnd fields)
 unfoldable pub line : List ℕ → List (List ℕ) → List ℕ
 line first fields = first ++ fieldsAndEnd fields
 
--- "print ?,13 once each"
+-- R248, R173
 unfoldable pub badLine : List ℕ
 badLine = line (text "?") (decimal 13 ∷ [])
 
--- "the letter and the refusal (0 if none)"
+-- R253
 unfoldable pub answerLine : ℕ → ℕ → List ℕ
 answerLine letter refusal = line (letter ∷ []) (decimal refusal ∷ [])
 
--- "Each delivery prints P,tag,destination before its M or D line."
+-- R255: a packet handed out
 unfoldable pub packetLine : ℕ → List ℕ
 packetLine p = line (text "P") (decimal (tag p) ∷ decimal (destination p) ∷ [])
 
@@ -47,23 +47,23 @@ unfoldable pub packetLines : List ℕ → List ℕ
 packetLines [] = []
 packetLines (p ∷ ps) = packetLine p ++ packetLines ps
 
--- what a Move prints, and below what a Drain prints with its ledger
+-- R255: what a Move prints, and below what a Drain prints with its ledger
 unfoldable pub movedLines : Moved → List ℕ
 movedLines (Moved.Refused r) = answerLine (code "M") r
 movedLines Moved.Passed = answerLine (code "M") 0
 movedLines (Moved.Delivered p) = packetLine p ++ answerLine (code "M") 0
 
--- "why it stopped: emptied .. spent .. full"
+-- R254: a stop in a word
 unfoldable pub stopWord : Stop → List ℕ
 stopWord Stop.Emptied = text "emptied"
 stopWord Stop.Spent = text "spent"
 stopWord Stop.Full = text "full"
 
--- "D adds moves and stop"
+-- R254
 unfoldable pub stoppedLine : ℕ → Stop → List ℕ
 stoppedLine moves stop = line (text "D") (decimal 0 ∷ decimal moves ∷ stopWord stop ∷ [])
 
--- "A refused D prints only the letter and the number."
+-- R256: a refused one has neither moves nor stop
 unfoldable pub drainLine : Drained → List ℕ
 drainLine (Drained.Refused r) = answerLine (code "D") r
 drainLine (Drained.Stopped moves delivered stop) = stoppedLine moves stop

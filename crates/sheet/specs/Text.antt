@@ -1,4 +1,4 @@
--- Bytes as text: document 01's letters and words are written as text below and are bytes here. Assumes nothing.
+-- Bytes as text: the letters and words of RULES are written as text below and are bytes here. Assumes nothing.
 use mathlib.Core.List.{List, [], _∷_}
 use Prim.Native.Nat.{ℕ}
 use Prim.Native.Char.{code}

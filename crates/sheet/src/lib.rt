@@ -1,4 +1,4 @@
-// What the definitions of the bench program's lines speak of, document 01: the input cut into lines, and the command of a line. The crates
+// What the definitions of the bench program's lines speak of (R240 to R250): the input cut into lines, and the command of a line. The crates
 // `lines`, `reader` and `writer` have the code.
 
 // How many bytes have come since the last end; one more than are held where there are more.

@@ -1,4 +1,4 @@
--- One turn of a Drain, and that turns one after the other are the Drain of document 01. Order: what a turn comes to and leaves; a Drain by its first
+-- One turn of a Drain, and that turns one after the other are the Drain of the definitions. Order: what a turn comes to and leaves; a Drain by its first
 -- turn; a Drain by the turns made so far. Assumes nothing.
 use mathlib.Core.Path.{_≡_, refl, ap, ap₂, sym, _∙_, subst}
 use mathlib.Core.Logic.{_⊎_, inl, inr, _≢_}

@@ -1,4 +1,4 @@
-// One turn of a Drain: its stops, tested in document 01's order, or one move. A turn does not search the nodes from the first: a set
+// One turn of a Drain: its stops, tested in their order (R133), or one move. A turn does not search the nodes from the first: a set
 // of heads goes along that holds every head which may have a permitted move (crate `ready`), so that what a move costs does not
 // grow with the network, and a table of neighbours. The move is First's all the same, and that is what the contracts say.
 use network::Found;
