@@ -1,5 +1,5 @@
--- Document 01, "Calls": what each call answers and leaves in every word lent to it, on refusals too. `w` is the words at the call.
--- Order: Make, Check, Offer, Move, Credit, Look, First, Drain; then document 01's number and values for each case of an answer. Assumes nothing.
+-- The calls (RULES R90 to R134): what each answers and what it leaves in the lent words, refused or not. `w` is the words at the call.
+-- Order: Make, Check, Offer, Move, Credit, Look, First, Drain; then the number and the values of each case of an answer. Assumes nothing.
 use mathlib.Core.Bool.{Bool, true, false, cond, _&&_}
 use mathlib.Core.List.{List, [], _∷_, _++_, map}
 use Prim.Native.Nat.{ℕ, zero, suc, _+_, _*_}
@@ -19,7 +19,7 @@ use Rattle.network.specs.Check.{packetsHeld}
 use Rattle.network.specs.Routes.{routes, target, freeSlots, deliver}
 use Rattle.network.specs.Refusals.{networkRefusal, makeRefusal, offerRefusal, moveRefusal, moveRules, creditRefusal, lookRefusal, head}
 
--- what a call leaves or tells, by its refusal: `before` where it is refused, words as they were or no value, else `after`
+-- R190 to R194, what a call leaves or tells, by its refusal: `before` where it is refused, words as they were or no value, else `after`
 abbrev pub unlessRefused : {A : Type 0} → ℕ → A → A → A
 unlessRefused refusal after before = cond (eqb refusal 0) after before
 
@@ -28,23 +28,23 @@ unlessRefused refusal after before = cond (eqb refusal 0) after before
 unfoldable pub shapeOf : ℕ → ℕ → ℕ → ℕ → ℕ → Shape
 shapeOf x y e a j = record { sizes = x ∷ y ∷ []; escape = e; adaptive = a; injection = j }
 
--- "Make: writes an empty network, all counts 0."
+-- R91, R92: no packet in any queue, the three counters 0
 unfoldable pub emptyNetwork : Shape → List ℕ
 emptyNetwork S = S .sizes ++ (S .escape ∷ S .adaptive ∷ S .injection ∷ 0 ∷ 0 ∷ 0 ∷ replicate (nodes S * nodeWords S) 0)
 
--- "Memory after the last node is never touched."
+-- R48: what lies behind the last node stays
 unfoldable pub makeWords : Shape → List ℕ → List ℕ
 makeWords S w = unlessRefused (makeRefusal S w) (emptyNetwork S ++ drop (need S) w) w
 
--- Check: "0 or the refusal", networkRefusal; the words are lent to be read only -------------------------------------------------------
+-- Check (R95): networkRefusal; the words are lent to be read only -----------------------------------------------------------------------
 
 -- Offer -------------------------------------------------------------------------------------------------------------------------------
 
--- the packet of an offer: "At an offer dx is the shorter way round"
+-- R64 to R66: the packet of an offer goes the shorter way in each dimension
 unfoldable pub offered : Shape → ℕ → ℕ → ℕ → ℕ
 offered S n destination tag = packetWord tag destination (λ i. shorterWay (size S i) (coordinate S i n) (coordinate S i destination))
 
--- "the packet goes to the end of the node's injection queue and accepted rises by one"
+-- R101, R102
 unfoldable pub afterOffer : Shape → List ℕ → ℕ → ℕ → ℕ → List ℕ
 afterOffer S w n destination tag =
     raised acceptedAt (putQueue S w n injectionQueue (held S w n injectionQueue ++ (offered S n destination tag ∷ [])))
@@ -54,15 +54,15 @@ offerWords w n destination tag = unlessRefused (offerRefusal w n destination) (a
 
 -- Move --------------------------------------------------------------------------------------------------------------------------------
 
--- "The head leaves"
+-- R108
 unfoldable pub headLeaves : Shape → List ℕ → ℕ → ℕ → List ℕ
 headLeaves S w n q = putQueue S w n q (drop 1 (held S w n q))
 
--- "and becomes the newest packet of the target"
+-- R109: a packet joins a queue as its newest
 unfoldable pub packetArrives : Shape → List ℕ → ℕ → ℕ → ℕ → List ℕ
 packetArrives S w n q p = putQueue S w n q (held S w n q ++ (p ∷ []))
 
--- "its offset in the output's dimension shrinks by one hop, moves made rises by one; a delivery hands out the packet word and raises delivered"
+-- R106 to R112: a delivery takes the head out and raises delivered; any other output passes it on, one hop nearer; moves made rises in both cases
 unfoldable pub afterMove : Shape → List ℕ → ℕ → ℕ → ℕ → List ℕ
 afterMove S w n q o =
     raised movesAt
@@ -79,12 +79,12 @@ moveAnswer w n q o =
     (cond (eqb o deliver) (Moved.Delivered (head (held (shape w) w n q))) Moved.Passed)
     (Moved.Refused (moveRefusal w n q o))
 
--- Credit: "node and output 1 to 8; the free slots of that target" ---------------------------------------------------------------------
+-- Credit (R116) -----------------------------------------------------------------------------------------------------------------------
 
 unfoldable pub creditAnswer : List ℕ → ℕ → ℕ → Credit
 creditAnswer w n o = cond (eqb (creditRefusal w n o) 0) (Credit.Free (freeSlots (shape w) w n o)) (Credit.Refused (creditRefusal w n o))
 
--- Look: what the part holds that it gives back, and where in the lent words that part begins; its companion's answer is lookRefusal ------
+-- Look (R119 to R121): what the part holds that it gives back, and where in the lent words it begins; its companion answers lookRefusal ------
 
 unfoldable pub lookPart : List ℕ → ℕ → ℕ → List ℕ
 lookPart w n q = unlessRefused (lookRefusal w n q) (held (shape w) w n q) []
@@ -93,7 +93,7 @@ lookPart w n q = unlessRefused (lookRefusal w n q) (held (shape w) w n q) []
 unfoldable pub lookAt : List ℕ → ℕ → ℕ → ℕ
 lookAt w n q = queueStart (shape w) n q + 1
 
--- First: "the first permitted move in the order node, queue, route; or none" ----------------------------------------------------------
+-- First (R123, R124): node by node, queue by queue, and a head's routes in their order; Choices.antt says what comes of it ---------------
 
 -- the first of the outputs by which the head of queue q of node n may move
 unfoldable pub firstOutput : Shape → List ℕ → ℕ → ℕ → List ℕ → Found
@@ -143,21 +143,20 @@ stopped w why = record { words = w; deliveries = []; moves = 0; stop = why }
 unfoldable pub oneMore : List Delivery → Progress → Progress
 oneMore ds r = record { words = r .words; deliveries = ds ++ r .deliveries; moves = suc (r .moves); stop = r .stop }
 
--- "full (the next move delivers and no ledger word is left)": room is the number of ledger words left, and `on` goes on from there
+-- R132, full: a delivery is next and no ledger word is left. `room` is the number of ledger words left, and `on` goes on from there
 unfoldable pub deliverNext : Shape → List ℕ → ℕ → ℕ → ℕ → (ℕ → List ℕ → Progress) → Progress
 deliverNext S w n q zero on = stopped w Stop.Full
 deliverNext S w n q (suc room) on =
     oneMore (record { node = n; packet = head (held S w n q) } ∷ []) (on room (afterMove S w n q deliver))
 
--- "It makes First's move again and again". While anything is held First names a move (the crate `run` proves it), so the first two cases do not
--- come up
+-- R127: the move that First names, and on. While anything is held it names one, so the first two cases do not come up (run/specs/Stops.antt)
 unfoldable pub moveNext : Shape → List ℕ → ℕ → Found → (ℕ → List ℕ → Progress) → Progress
 moveNext S w room (Found.Refused r) on = stopped w Stop.Emptied
 moveNext S w room Found.Nothing on = stopped w Stop.Emptied
 moveNext S w room (Found.Move n q o) on =
     cond (eqb o deliver) (deliverNext S w n q room on) (oneMore [] (on room (afterMove S w n q o)))
 
--- "why it stopped: emptied (nothing held), else spent (budget used), else full", tested in this order before every move
+-- R130 to R133: the stops, tested in this order before every move: emptied, spent, full
 unfoldable pub drainFrom : Shape → ℕ → ℕ → List ℕ → Progress
 drainFrom S zero room w = cond (eqb (packetsHeld S w) 0) (stopped w Stop.Emptied) (stopped w Stop.Spent)
 drainFrom S (suc budget) room w =
@@ -170,21 +169,21 @@ drained w budget room = drainFrom (shape w) budget room w
 unfoldable pub drainWords : List ℕ → ℕ → ℕ → List ℕ
 drainWords w budget room = unlessRefused (networkRefusal w) (drained w budget room .words) w
 
--- "writes each delivered word to the next ledger word .. Later ledger words are untouched."
+-- R128, R134: the words delivered stand at the front of the ledger, and behind them it is as it was lent
 unfoldable pub drainLedger : List ℕ → ℕ → List ℕ → List ℕ
 drainLedger w budget ledger = unlessRefused (networkRefusal w) (written (drained w budget (length ledger) .deliveries) ledger) ledger
   where
     written : List Delivery → List ℕ → List ℕ
     written ds ledger = map (λ d. d .packet) ds ++ drop (length ds) ledger
 
--- "It answers the number of moves made, the number delivered and why it stopped"
+-- R129
 unfoldable pub drainAnswer : List ℕ → ℕ → ℕ → Drained
 drainAnswer w budget room =
     cond (eqb (networkRefusal w) 0)
     (Drained.Stopped (drained w budget room .moves) (length (drained w budget room .deliveries)) (drained w budget room .stop))
     (Drained.Refused (networkRefusal w))
 
--- The number and the values of each answer that is an enum, case by case: the refusal, or 0; and on a refusal no packet, no move, no stop and
+-- R321, the number and the values of each answer that is an enum, case by case: the refusal, or 0; and on a refusal no packet, no move, no stop and
 -- zero for a count. Answers.antt says what each call tells through these ---------------------------------------------------------------
 
 unfoldable pub movedNumber : Moved → ℕ

@@ -1,4 +1,4 @@
--- Document 01, "A run of moves", and the customer's demand 3 as one statement about a run. Order: the calls of a run; what one call does; what
+-- A run of moves (RULES R220 to R239), and demand 3 (R210 to R215) as one statement about a run. Order: the calls of a run; what one call does; what
 -- a list of them does; what is counted; the statement. The crate `run` proves it. Assumes nothing.
 use mathlib.Core.Path.{_≡_}
 use mathlib.Core.Logic.{_↔_, _≢_}
@@ -16,8 +16,7 @@ use Rattle.network.specs.Check.{packetsHeld, workLeft, ringHasRoom}
 use Rattle.network.specs.Refusals.{networkRefusal, moveRefusal, head}
 use Rattle.network.specs.Calls.{Delivery, moveWords, moveAnswer, movedPackets, drained, drainWords, drainLedger, drainAnswer, drainedMoves, drainedDelivered}
 
--- "a list of Moves and Drains of any length, the empty one too, with any arguments": a Move's node, queue and output; a Drain's budget and its
--- ledger, "of any length, apart from the network's words"
+-- R220, R221: a Move's node, queue and output; a Drain's budget, and its ledger, which is no part of the network's words
 pub data Call : Type 0 where
   move : ℕ → ℕ → ℕ → Call
   drain : ℕ → List ℕ → Call
@@ -35,7 +34,7 @@ pub record Outcome : Type 0 where
   pub moves : ℕ
   pub ledgers : List Ledger
 
--- packet words, each beside the node of the move that gave it
+-- R227: packet words, each beside the node of the move that gave it
 unfoldable pub atNodes : List ℕ → List ℕ → List Delivery
 atNodes ns [] = []
 atNodes ns (p ∷ ps) = record { node = head ns; packet = p } ∷ atNodes (drop 1 ns) ps
@@ -44,12 +43,12 @@ unfoldable pub ledgerOf : List ℕ → ℕ → List ℕ → Ledger
 ledgerOf w budget ledger =
     record { lent = ledger; left = drainLedger w budget ledger; written = drainedDelivered (drainAnswer w budget (length ledger)) }
 
--- the words that a Drain handed out are those that stand in its ledger when it returns, from the first on
+-- R227: the words that a Drain handed out are those that stand in its ledger when it returns, from the first on
 unfoldable pub wordsWritten : Ledger → List ℕ
 wordsWritten L = take (L .written) (L .left)
 
--- A Move that is permitted is one move, any other none. A Drain that is not refused makes the moves that First names one after the other, as many as
--- it answers. What a Move gave and what a Drain left in its ledger is handed out, each word at the node of its move.
+-- R224 to R227: a Move that is permitted is one move, any other none. A Drain that is not refused makes the moves that First names one after the
+-- other, as many as it answers. What a Move gave and what a Drain left in its ledger is handed out, each word at the node of its move.
 unfoldable pub outcome : Call → List ℕ → Outcome
 outcome (move n q o) w =
     record {
@@ -66,7 +65,7 @@ outcome (drain budget ledger) w =
       ledgers = ledgerOf w budget ledger ∷ [];
     }
 
--- every call is lent the words as the one before it left them
+-- R215: every call is lent the words as the one before it left them
 unfoldable pub run : List Call → List ℕ → Outcome
 run [] w = record { words = w; handedOut = []; moves = 0; ledgers = [] }
 run (c ∷ calls) w =
@@ -87,11 +86,11 @@ heldWith l S w = total S w (sumOf (isLabelled l))
 unfoldable pub handedWith : ℕ → List Delivery → ℕ
 handedWith l ds = sumOf (λ d. isLabelled l (d .packet)) ds
 
--- "Each word handed out is its own label, and its destination is the node of its move."
+-- R230, R231
 unfoldable pub atHome : Delivery → Bool
 atHome d = eqb (label (d .packet)) (d .packet) && eqb (destination (d .packet)) (d .node)
 
--- "A move is permitted exactly when none of the refusals that Move tests applies."
+-- R223: Move would not refuse it
 pub record SomeMove (w : List ℕ) : Type 0 where
   pub node : ℕ
   pub queue : ℕ
@@ -108,31 +107,30 @@ unfoldable pub AllKept : List Ledger → Type 0
 AllKept [] = Unit
 AllKept (L ∷ Ls) = LedgerKept L × AllKept Ls
 
--- "After every run:", of the words w at its start and what the run gave
+-- what holds after every run, of the words w at its start and what the run gave
 pub record AfterRun (w : List ℕ) (r : Outcome) : Type 0 where
-  -- "Each word handed out is its own label, and its destination is the node of its move."
+  -- R230, R231: what was handed out has no hop left and is where it was addressed to
   pub handed-out-at-home : T (allOf atHome (r .handedOut))
-  -- "For every label, the packets of that label handed out and those held are together as many as were held at the start."
+  -- R232, of every label
   pub none-lost-or-doubled : (l : ℕ) → handedWith l (r .handedOut) + heldWith l (shape w) (r .words) ≡ heldWith l (shape w) w
-  -- "The number of moves of the run plus the work left is the work left at the start."
+  -- R233
   pub moves-and-work : r .moves + workLeft (shape w) (r .words) ≡ workLeft (shape w) w
-  -- "The header's moves made has risen by the number of moves of the run, its delivered by the number of words handed out."
+  -- R234, R235: the header counts the run's moves and the words handed out
   pub moves-made : movesMade (r .words) ≡ movesMade w + r .moves
   pub deliveries-made : delivered (r .words) ≡ delivered w + length (r .handedOut)
-  -- "The words pass the check, and if any packet is held, some move is permitted."; "and each escape ring has a free slot"
+  -- R236, R237, R214: still a network, which can go on, with room in every ring
   pub still-a-network : networkRefusal (r .words) ≡ 0
   pub goes-on : packetsHeld (shape w) (r .words) ≢ 0 → SomeMove (r .words)
   pub rings-have-room : (d n : ℕ) → d < directions → n < nodes (shape w) → T (ringHasRoom (shape w) (r .words) d n)
-  -- "so nothing is held exactly when the list made as many moves as the sum at the start says"
+  -- R212
   pub emptied-exactly : (packetsHeld (shape w) (r .words) ≡ 0) ↔ (r .moves ≡ workLeft (shape w) w)
-  -- the sizes are those of the start; "Memory after the last node is never touched."
+  -- R239: sizes, length and what lies behind the last node are those of the start
   pub same-shape : shape (r .words) ≡ shape w
   pub same-length : length (r .words) ≡ length w
   pub rest-untouched : drop (need (shape w)) (r .words) ≡ drop (need (shape w)) w
-  -- every Drain's ledger is as it was lent behind the words that were handed out
+  -- R238: every Drain's ledger, behind the words that were handed out
   pub ledgers-kept : AllKept (r .ledgers)
 
--- Demand 3: "This holds for every list of Move and Drain calls, refused ones included, from any words that pass the check of a network, however
--- the arbiter picks"
+-- R210, demand 3: of all words that pass the check and every list of Moves and Drains, refused ones too, whatever is picked
 unfoldable pub Demand3 : Type 0
 Demand3 = (w : List ℕ) (calls : List Call) → networkRefusal w ≡ 0 → AfterRun w (run calls w)

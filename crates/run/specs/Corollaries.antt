@@ -33,7 +33,7 @@ held-some : (S : Shape) (w : List ℕ) (n q o : ℕ) → Permitted S w n q o →
 unfolding packetsHeld
 held-some S w n q o P z = P .holds (ap length (total-zero S w n q z (P .node) (P .queue)))
 
--- "the first permitted move .. or none": none exactly when nothing is held
+-- R124: First says none exactly when nothing is held
 pub first-none-when-empty : (w : List ℕ) → networkRefusal w ≡ 0 → (firstAnswer w ≡ Found.Nothing) ↔ (packetsHeld (shape w) w ≡ 0)
 unfolding firstAnswer
 first-none-when-empty w e = rw (eq-eqb (networkRefusal w) 0 e) ((λ none. empty none (ℕ-discrete (packetsHeld (shape w) w) 0)), (λ z. none z (firstMove (shape w) w) (first-finds (shape w) w)))

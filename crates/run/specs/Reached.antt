@@ -166,7 +166,7 @@ passed : (b : Bool) → not b ≡ false → T b
 passed true e = tt
 passed false e = absurd (mathlib.Core.Bool.true≢false e)
 
--- "Make: writes an empty network": a Make that is not refused leaves words that pass the check
+-- R91, R92: a Make that is not refused leaves words that pass the check
 pub make-passes : (S : Shape) (w : List ℕ) → length (S .sizes) ≡ dimensions → makeRefusal S w ≡ 0 → networkRefusal (makeWords S w) ≡ 0
 unfolding makeWords makeRefusal
 make-passes S w two-dimensional e =
@@ -343,7 +343,7 @@ accepting S w n dest N e =
     neither-of true b e = absurd (mathlib.Core.Bool.true≢false e)
     neither-of false b e = (refl, e)
 
--- "the packet goes to the end of the node's injection queue and accepted rises by one": an offer that is not refused keeps the check
+-- R101, R102: an offer that is not refused keeps the check
 pub offer-passes : (w : List ℕ) (n dest tag : ℕ) → offerRefusal w n dest ≡ 0 → networkRefusal (offerWords w n dest tag) ≡ 0
 unfolding offerWords offerRefusal afterOffer after put joined p
 offer-passes w n dest tag e =

@@ -79,7 +79,7 @@ escape-is d = lt→ltb directions (escapeQueue d) (omega arith)
 pub escape-lt : (d : ℕ) → d < directions → escapeQueue d < queues
 escape-lt d h = omega arith
 
--- "An escape target needs .. two in every other case."
+-- R151, R152
 needs-two : (q d : ℕ) → q ≢ escapeQueue d → slotsNeeded q (escapeQueue d) ≡ 2
 unfolding slotsNeeded
 needs-two q d ne = go (isEscape (escapeQueue d)) (escape-is d) (eqb q (escapeQueue d)) (ne-eqb q (escapeQueue d) ne)

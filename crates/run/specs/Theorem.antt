@@ -1,8 +1,8 @@
--- Demand 3. In plain words: start from any words that pass the check of a network, and make any list of Moves and Drains, with any arguments,
--- refused ones included. Then every packet held at the start is still held or has been handed out once, at the node that it was addressed to, and
--- nothing else has been handed out; the number of moves made plus the work left is the work left at the start; the words still pass the check, so
--- each escape ring has a free slot; and while anything is held, some move is permitted. `Demand3` of network/specs/Run.antt says this in full, of the
--- very definitions that the contracts of Move and Drain cite; here is its proof.
+-- Demand 3 (RULES R210 to R216). In plain words: start from any words that pass the check of a network, and make any list of Moves and Drains, with any
+-- arguments, refused ones included. Then every packet held at the start is still held or has been handed out once, at the node that it was addressed to,
+-- by a Move's answer or in a Drain's ledger, and nothing else has been handed out; moves made and work left add up to the work there was; the words still
+-- pass the check, so each escape ring has a free slot; and while anything is held, some move is permitted. `Demand3` of network/specs/Run.antt says this in
+-- full, of the very definitions that the contracts of Move and Drain cite; here is its proof.
 -- Order: nothing is held exactly when no work is left; one call; a list of calls; the theorem. Assumes nothing.
 use mathlib.Core.Path.{_≡_, refl, ap, sym, _∙_, subst}
 use mathlib.Core.Logic.{_≢_}
