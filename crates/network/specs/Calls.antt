@@ -14,13 +14,13 @@ use Rattle.network.specs.declared.Drained.{Drained}
 use Rattle.network.specs.Sizes.{Shape, size, nodes, queues, injectionQueue, directionOf, dimensionOf}
 use Rattle.network.specs.Packet.{packetWord, shorterWay, hop}
 use Rattle.network.specs.Torus.{coordinate}
-use Rattle.network.specs.Layout.{shape, need, nodeWords, held, putQueue, raised, acceptedAt, deliveredAt, movesAt}
+use Rattle.network.specs.Layout.{shape, need, nodeWords, queueStart, held, putQueue, raised, acceptedAt, deliveredAt, movesAt}
 use Rattle.network.specs.Check.{packetsHeld}
 use Rattle.network.specs.Routes.{routes, target, freeSlots, deliver}
 use Rattle.network.specs.Refusals.{networkRefusal, makeRefusal, offerRefusal, moveRefusal, moveRules, creditRefusal, lookRefusal, head}
 
--- "A refusal .. writes to neither network nor ledger": the words as a call leaves them, by its refusal
-abbrev pub unlessRefused : ℕ → List ℕ → List ℕ → List ℕ
+-- what a call leaves or tells, by its refusal: `before` where it is refused, words as they were or no value, else `after`
+abbrev pub unlessRefused : {A : Type 0} → ℕ → A → A → A
 unlessRefused refusal after before = cond (eqb refusal 0) after before
 
 -- Make --------------------------------------------------------------------------------------------------------------------------------
@@ -84,11 +84,14 @@ moveAnswer w n q o =
 unfoldable pub creditAnswer : List ℕ → ℕ → ℕ → Credit
 creditAnswer w n o = cond (eqb (creditRefusal w n o) 0) (Credit.Free (freeSlots (shape w) w n o)) (Credit.Refused (creditRefusal w n o))
 
--- Look: "it gives back the held words as a part of the lent memory, not a copy, and an empty part on a refusal"; its companion's answer is
--- lookRefusal ------------------------------------------------------------------------------------------------------------------------
+-- Look: what the part holds that it gives back, and where in the lent words that part begins; its companion's answer is lookRefusal ------
 
 unfoldable pub lookPart : List ℕ → ℕ → ℕ → List ℕ
-lookPart w n q = cond (eqb (lookRefusal w n q) 0) (held (shape w) w n q) []
+lookPart w n q = unlessRefused (lookRefusal w n q) (held (shape w) w n q) []
+
+-- the index of the queue's first packet word, which stands behind its number held
+unfoldable pub lookAt : List ℕ → ℕ → ℕ → ℕ
+lookAt w n q = queueStart (shape w) n q + 1
 
 -- First: "the first permitted move in the order node, queue, route; or none" ----------------------------------------------------------
 
@@ -181,8 +184,8 @@ drainAnswer w budget room =
     (Drained.Stopped (drained w budget room .moves) (length (drained w budget room .deliveries)) (drained w budget room .stop))
     (Drained.Refused (networkRefusal w))
 
--- "Where an answer is an enum, a definition gives this paper's number and values for each of its cases." "A refusal hands out no packet, names
--- no move and no stop, reports zero for every count" -------------------------------------------------------------------------------------
+-- The number and the values of each answer that is an enum, case by case: the refusal, or 0; and on a refusal no packet, no move, no stop and
+-- zero for a count. Answers.antt says what each call tells through these ---------------------------------------------------------------
 
 unfoldable pub movedNumber : Moved → ℕ
 movedNumber (Moved.Refused r) = r
@@ -208,11 +211,17 @@ foundNumber (Found.Refused r) = r
 foundNumber Found.Nothing = 0
 foundNumber (Found.Move n q o) = 0
 
--- node, queue and output of the move that is named, if one is
-unfoldable pub foundMove : Found → List ℕ
+-- node, queue and output of a move, as an answer names it
+pub record NamedMove : Type 0 where
+  pub node : ℕ
+  pub queue : ℕ
+  pub output : ℕ
+
+-- the move that is named, if one is
+unfoldable pub foundMove : Found → List NamedMove
 foundMove (Found.Refused r) = []
 foundMove Found.Nothing = []
-foundMove (Found.Move n q o) = n ∷ q ∷ o ∷ []
+foundMove (Found.Move n q o) = record { node = n; queue = q; output = o } ∷ []
 
 unfoldable pub drainedNumber : Drained → ℕ
 drainedNumber (Drained.Refused r) = r

@@ -15,6 +15,7 @@ pub mod Refusals
 pub mod RefusalLaws
 pub mod Calls
 pub mod FirstLaws
+pub mod Answers
 pub mod OfferLaws
 pub mod Run
 pub mod Cases
