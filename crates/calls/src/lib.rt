@@ -8,9 +8,12 @@ use network::Found;
 use network::Moved;
 use packet::torus::Sizes;
 ghost use mathlib.Core.Path.{_≡_};
-ghost use lib.ListN.{length};
+ghost use Prim.Native.Nat.{_≤_, _-_};
+ghost use lib.ListN.{length, take, drop};
 ghost use Rattle.network.specs.Refusals.{networkRefusal, makeRefusal, offerRefusal, lookRefusal};
+ghost use Rattle.network.specs.Answers.{MoveTells, CreditTells, FirstTells, DrainTells};
 ghost use Rattle.network.specs.Calls.{shapeOf, makeWords, offerWords, moveWords, moveAnswer, creditAnswer, lookPart, firstAnswer, drainWords, drainLedger, drainAnswer};
+ghost use Rattle.calls.specs.Place.{wordAt, LookPlace};
 
 // Make: writes an empty network of these sizes, all counts 0.
 pub fn make(words: &mut [u64], x: u64, y: u64, e: u64, a: u64, j: u64) -> u64
@@ -63,6 +66,7 @@ pub fn offer(words: &mut [u64], node: u64, destination: u64, tag: u32) -> u64
 pub fn move_packet(words: &mut [u64], node: u64, queue: u64, output: u64) -> Moved
     ensures answer { λ r. ⌜ r ≡ moveAnswer (now (words .entry)) node queue output ⌝ }
     ensures words { λ _. ⌜ now (words .exit) ≡ moveWords (now (words .entry)) node queue output ⌝ }
+    ensures told { λ r. ⌜ MoveTells (now (words .entry)) node queue output r ⌝ }
 {
     let broken = checker::network_refusal(words);
     if broken != 0 {
@@ -82,7 +86,8 @@ pub fn move_packet(words: &mut [u64], node: u64, queue: u64, output: u64) -> Mov
 
 // Credit: the free slots of the target that the output names.
 pub fn credit(words: &[u64], node: u64, output: u64) -> Credit
-    ensures { λ r. ⌜ r ≡ creditAnswer (now (words .entry)) node output ⌝ }
+    ensures answer { λ r. ⌜ r ≡ creditAnswer (now (words .entry)) node output ⌝ }
+    ensures told { λ r. ⌜ CreditTells (now (words .entry)) node output r ⌝ }
 {
     let broken = checker::network_refusal(words);
     if broken != 0 {
@@ -109,7 +114,8 @@ pub fn look_refusal(words: &[u64], node: u64, queue: u64) -> u64
 
 // Look: the held words of a queue, as the part of the lent words where they stand; an empty part on a refusal.
 pub fn look(words: &[u64], node: u64, queue: u64) -> &[u64]
-    ensures { λ r. ⌜ now r ≡ lookPart (now (words .entry)) node queue ⌝ }
+    ensures part { λ r. ⌜ now r ≡ lookPart (now (words .entry)) node queue ⌝ }
+    ensures place { λ r. ⌜ LookPlace (words .entry) node queue r ⌝ }
 {
     if look_refusal(words, node, queue) != 0 {
         return &words[0..0];
@@ -119,12 +125,22 @@ pub fn look(words: &[u64], node: u64, queue: u64) -> &[u64]
     let count = flow::held_count(words, s, node, queue);
     let from = start + 1;
     let to = from + count as usize;
+    between(words, from, to)
+}
+
+// The words from one index up to another, where they stand.
+fn between(words: &[u64], from: usize, to: usize) -> &[u64]
+    requires { ⌜ (from ≤ to) × (to ≤ length (now words)) ⌝ }
+    ensures place { λ r. ⌜ r .ptr ≡ wordAt ((words .entry) .ptr) from ⌝ }
+    ensures part { λ r. ⌜ now r ≡ take (to - from) (drop from (now (words .entry))) ⌝ }
+{
     &words[from..to]
 }
 
 // First: the first permitted move in the order node, queue, route; or none.
 pub fn first(words: &[u64]) -> Found
-    ensures { λ r. ⌜ r ≡ firstAnswer (now (words .entry)) ⌝ }
+    ensures answer { λ r. ⌜ r ≡ firstAnswer (now (words .entry)) ⌝ }
+    ensures told { λ r. ⌜ FirstTells (now (words .entry)) r ⌝ }
 {
     let broken = checker::network_refusal(words);
     if broken != 0 {
@@ -139,6 +155,7 @@ pub fn drain(words: &mut [u64], budget: u32, ledger: &mut [u64]) -> Drained
     ensures answer { λ r. ⌜ r ≡ drainAnswer (now (words .entry)) budget (length (now (ledger .entry))) ⌝ }
     ensures words { λ _. ⌜ now (words .exit) ≡ drainWords (now (words .entry)) budget (length (now (ledger .entry))) ⌝ }
     ensures ledger { λ _. ⌜ now (ledger .exit) ≡ drainLedger (now (words .entry)) budget (now (ledger .entry)) ⌝ }
+    ensures told { λ r. ⌜ DrainTells (now (words .entry)) budget (length (now (ledger .entry))) r ⌝ }
 {
     let broken = checker::network_refusal(words);
     if broken != 0 {
