@@ -1,7 +1,7 @@
 -- What the answer of each call tells whose answer is an enum: its number, the refusal or 0, and each of its values, where the call is refused
 -- and where it is not. All of it is read by the definitions at the end of Calls.antt. A record for each call, with the law that the call's answer
 -- keeps it. Order: an answer by its refusal; Move; Credit; First; Drain. Assumes nothing.
-use mathlib.Core.Path.{_≡_, refl, _∙_}
+use mathlib.Core.Path.{_≡_, refl}
 use mathlib.Core.Bool.{Bool, true, false, cond}
 use mathlib.Core.List.{List, [], _∷_}
 use Prim.Native.Nat.{ℕ, zero, suc}
@@ -69,15 +69,6 @@ credit-tells w n o =
 pub record FirstTells (w : List ℕ) (r : Found) : Type 0 where
   pub number : foundNumber r ≡ networkRefusal w
   pub move : foundMove r ≡ unlessRefused (networkRefusal w) (foundMove (firstMove (shape w) w)) []
-
--- which value of First's is which
-pub named-move : (n q o : ℕ) → foundMove (Found.Move n q o) ≡ record { node = n; queue = q; output = o } ∷ []
-unfolding foundMove
-named-move n q o = refl
-
-pub no-move : foundMove Found.Nothing ≡ []
-unfolding foundMove
-no-move = refl
 
 pub first-tells : (w : List ℕ) → FirstTells w (firstAnswer w)
 unfolding firstAnswer foundNumber foundMove

@@ -19,7 +19,7 @@ use Rattle.network.specs.Check.{packetsHeld}
 use Rattle.network.specs.Routes.{routes, target, freeSlots, deliver}
 use Rattle.network.specs.Refusals.{networkRefusal, makeRefusal, offerRefusal, moveRefusal, moveRules, creditRefusal, lookRefusal, head}
 
--- what a call leaves or tells, by its refusal: `before` where it is refused, words as they were or no value, else `after`
+-- R190 to R194, what a call leaves or tells, by its refusal: `before` where it is refused, words as they were or no value, else `after`
 abbrev pub unlessRefused : {A : Type 0} → ℕ → A → A → A
 unlessRefused refusal after before = cond (eqb refusal 0) after before
 
@@ -84,14 +84,10 @@ moveAnswer w n q o =
 unfoldable pub creditAnswer : List ℕ → ℕ → ℕ → Credit
 creditAnswer w n o = cond (eqb (creditRefusal w n o) 0) (Credit.Free (freeSlots (shape w) w n o)) (Credit.Refused (creditRefusal w n o))
 
--- Look: what the part holds that it gives back, and where in the lent words that part begins; its companion's answer is lookRefusal ------
+-- Look (R119 to R121): what the part holds that it gives back, and where in the lent words it begins; its companion answers lookRefusal ------
 
 unfoldable pub lookPart : List ℕ → ℕ → ℕ → List ℕ
 lookPart w n q = unlessRefused (lookRefusal w n q) (held (shape w) w n q) []
-
--- the index of the queue's first packet word, which stands behind its number held
-unfoldable pub lookAt : List ℕ → ℕ → ℕ → ℕ
-lookAt w n q = queueStart (shape w) n q + 1
 
 -- the index of the queue's first packet word, which stands behind its number held
 unfoldable pub lookAt : List ℕ → ℕ → ℕ → ℕ
@@ -187,7 +183,7 @@ drainAnswer w budget room =
     (Drained.Stopped (drained w budget room .moves) (length (drained w budget room .deliveries)) (drained w budget room .stop))
     (Drained.Refused (networkRefusal w))
 
--- The number and the values of each answer that is an enum, case by case: the refusal, or 0; and on a refusal no packet, no move, no stop and
+-- R321, the number and the values of each answer that is an enum, case by case: the refusal, or 0; and on a refusal no packet, no move, no stop and
 -- zero for a count. Answers.antt says what each call tells through these ---------------------------------------------------------------
 
 unfoldable pub movedNumber : Moved → ℕ

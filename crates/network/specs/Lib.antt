@@ -15,7 +15,10 @@ pub mod Refusals
 pub mod RefusalLaws
 pub mod Calls
 pub mod FirstLaws
+pub mod Choices
+pub mod ChoiceLaws
 pub mod Answers
+pub mod DrainLaws
 pub mod OfferLaws
 pub mod Run
 pub mod RunLaws
