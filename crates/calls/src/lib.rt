@@ -1,6 +1,7 @@
 // The calls of document 01 on lent words. Each does its own checking: it refuses by the number of the first rule that applies, and
-// then has written nothing; else its answer and every word are what the definitions of the crate `network` say (specs/Calls.antt). All
-// tests come first, then one change that cannot fail. No call asks anything of its caller.
+// then has written nothing; else its answer and every word are what the definitions of the crate `network` say (specs/Calls.antt). Where
+// the answer is an enum, `told` is the number and every value that it stands for (specs/Answers.antt there). All tests come first, then
+// one change that cannot fail. No call asks anything of its caller.
 
 use network::Credit;
 use network::Drained;
@@ -112,7 +113,8 @@ pub fn look_refusal(words: &[u64], node: u64, queue: u64) -> u64
     rules::look_rules(checker::sizes_of(words), node, queue)
 }
 
-// Look: the held words of a queue, as the part of the lent words where they stand; an empty part on a refusal.
+// Look: the held words of a queue, as the part of the lent words where they stand; an empty part on a refusal, and where that one
+// stands is left free.
 pub fn look(words: &[u64], node: u64, queue: u64) -> &[u64]
     ensures part { λ r. ⌜ now r ≡ lookPart (now (words .entry)) node queue ⌝ }
     ensures place { λ r. ⌜ LookPlace (words .entry) node queue r ⌝ }

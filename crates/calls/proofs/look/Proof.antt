@@ -97,7 +97,7 @@ add-to c = let e = ends c in omega (arith, c .before .before .before .before .be
 
 -- src/lib.rt:123:5
 between-requires : tie.Need-between-requires
-between-requires c κs = let e = ends c in (omega arith, e)
+between-requires c κs = let e = ends c in (omega arith, omega arith)
 
 -- src/lib.rt:112:1
 returns-2 : tie.Need-returns-2
