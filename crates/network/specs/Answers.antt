@@ -85,7 +85,7 @@ first-tells w =
 -- Drain: how many moves were made, how many packets were delivered, and why it stopped
 pub record DrainTells (w : List ℕ) (budget room : ℕ) (r : Drained) : Type 0 where
   pub number : drainedNumber r ≡ networkRefusal w
-  pub moves : drainedMoves r ≡ unlessRefused (networkRefusal w) (drained w budget room .moves) 0
+  pub moves : drainedMoves r ≡ unlessRefused (networkRefusal w) (length (drained w budget room .moves)) 0
   pub delivered : drainedDelivered r ≡ unlessRefused (networkRefusal w) (length (drained w budget room .deliveries)) 0
   pub stop : drainedStop r ≡ unlessRefused (networkRefusal w) (drained w budget room .stop ∷ []) []
 

@@ -342,7 +342,7 @@ without-budget w room e = rw (eq-eqb (networkRefusal w) 0 e) (go (eqb (packetsHe
     at-once none = cond none (stopped w Stop.Emptied) (stopped w Stop.Spent)
 
     go : (none : Bool)
-        → Drained.Stopped (at-once none .moves) (length (at-once none .deliveries)) (at-once none .stop) ≡ Drained.Stopped 0 0 (cond none Stop.Emptied Stop.Spent)
+        → Drained.Stopped (length (at-once none .moves)) (length (at-once none .deliveries)) (at-once none .stop) ≡ Drained.Stopped 0 0 (cond none Stop.Emptied Stop.Spent)
     go true = refl
     go false = refl
 

@@ -14,20 +14,20 @@ use Rattle.network.specs.Layout.{held}
 use Rattle.network.specs.Check.{packetsHeld}
 use Rattle.network.specs.Routes.{deliver}
 use Rattle.network.specs.Refusals.{head}
-use Rattle.network.specs.Calls.{Delivery, Progress, afterMove, firstMove, stopped, oneMore, deliverNext, moveNext, drainFrom}
+use Rattle.network.specs.Calls.{NamedMove, Delivery, Progress, afterMove, firstMove, stopped, oneMore, deliverNext, moveNext, drainFrom}
 
 pub record Within (budget room : ℕ) (r : Progress) : Type 0 where
-  pub few-moves : r .moves ≤ budget
+  pub few-moves : length (r .moves) ≤ budget
   pub few-deliveries : length (r .deliveries) ≤ room
 
 within-stopped : (budget room : ℕ) (w : List ℕ) (why : Stop) → Within budget room (stopped w why)
 unfolding stopped
 within-stopped budget room w why = record { few-moves = omega arith; few-deliveries = omega arith }
 
-within-more : (budget left room : ℕ) (ds : List Delivery) (r : Progress) → length ds + left ≤ room → Within budget left r → Within (suc budget) room (oneMore ds r)
+within-more : (budget left room : ℕ) (m : NamedMove) (ds : List Delivery) (r : Progress) → length ds + left ≤ room → Within budget left r → Within (suc budget) room (oneMore m ds r)
 unfolding oneMore
-within-more budget left room ds r e h =
-    let m = h .few-moves in
+within-more budget left room m ds r e h =
+    let k = h .few-moves in
     let d = h .few-deliveries in
     let l : length (ds ++ r .deliveries) ≡ length ds + length (r .deliveries) = length-append ds (r .deliveries) in
     record { few-moves = omega arith; few-deliveries = omega arith }
@@ -37,7 +37,7 @@ module _ (S : Shape) (w : List ℕ) (budget : ℕ) (on : ℕ → List ℕ → Pr
   unfolding deliverNext
   within-delivery n q zero = within-stopped (suc budget) zero w Stop.Full
   within-delivery n q (suc room) =
-      within-more budget room (suc room) (record { node = n; packet = head (held S w n q) } ∷ []) (on room (afterMove S w n q deliver)) (omega arith)
+      within-more budget room (suc room) (record { node = n; queue = q; output = deliver }) (record { node = n; packet = head (held S w n q) } ∷ []) (on room (afterMove S w n q deliver)) (omega arith)
       (rec room (afterMove S w n q deliver))
 
   within-next : (room : ℕ) (f : Found) → Within (suc budget) room (moveNext S w room f on)
@@ -46,9 +46,9 @@ module _ (S : Shape) (w : List ℕ) (budget : ℕ) (on : ℕ → List ℕ → Pr
   within-next room Found.Nothing = within-stopped (suc budget) room w Stop.Emptied
   within-next room (Found.Move n q o) = go (eqb o deliver)
     where
-      go : (t : Bool) → Within (suc budget) room (cond t (deliverNext S w n q room on) (oneMore [] (on room (afterMove S w n q o))))
+      go : (t : Bool) → Within (suc budget) room (cond t (deliverNext S w n q room on) (oneMore (record { node = n; queue = q; output = o }) [] (on room (afterMove S w n q o))))
       go true = within-delivery n q room
-      go false = within-more budget room room [] (on room (afterMove S w n q o)) (omega arith) (rec room (afterMove S w n q o))
+      go false = within-more budget room room (record { node = n; queue = q; output = o }) [] (on room (afterMove S w n q o)) (omega arith) (rec room (afterMove S w n q o))
 
 pub drain-within : (S : Shape) (budget room : ℕ) (w : List ℕ) → Within budget room (drainFrom S budget room w)
 unfolding drainFrom

@@ -67,7 +67,7 @@ returns-2 c =
     let r = c .before .before .before .before .before .before .before .before .before .before .network-refusal in
     let z = c .before .before .before .before .before .before .before .sizes-of in
     let d = c .before .before .before .before .drain-network in
-    let x = drain-done (shapeOfSizes (z .result)) (now (a .args .words)) (a .args .budget) (now (a .args .ledger)) (d .last .0) (d .last .1 .1 .1 .0) (d .ensures .handed) (d .ensures .moves) (d .ensures .why)
+    let x = drain-done (shapeOfSizes (z .result)) (now (a .args .words)) (a .args .budget) (now (a .args .ledger)) (d .last .0) (d .last .1 .1 .1 .0) (d .ensures .made) (d .ensures .handed) (d .ensures .why)
     (sym (r .ensures) ∙ c .before .before .before .before .before .before .before .before .before .if1 .left) (z .ensures) (d .ensures .whole) (d .ensures .writes) in
     (d .ensures .says ∙ x .says, (x .leaves, (x .writes, told _ _ _ _ (d .ensures .says ∙ x .says))))
 
