@@ -178,7 +178,7 @@ pub byte-cutting : (store buffer : List ℕ) (pending b : ℕ) (buffer′ : List
 unfolding fedCutting feedByte cutter
 byte-cutting store buffer pending b buffer′ fed t = ap₂ fedCutting (t .leaves) (t .answers)
 
-finished-pending : (count : ℕ) → pendingAfter (finishedAnswer count) ≡ 0
+pub finished-pending : (count : ℕ) → pendingAfter (finishedAnswer count) ≡ 0
 unfolding pendingAfter
 finished-pending count = go (ℕ-discrete count 0) (decLe count lineLimit)
   where

@@ -10,7 +10,7 @@ ghost use Prim.Native.Nat.{ℕ, _+_, _*_, _≤_};
 ghost use lib.ListN.{length, take, drop};
 ghost use Rattle.sheet.specs.Commands.{commandOf};
 ghost use Rattle.sheet.specs.Output.{Put};
-ghost use Rattle.sheet.specs.Cutting.{heldBytes, feedByte, feedBytes};
+ghost use Rattle.sheet.specs.Cutting.{heldBytes, pendingAfter, feedByte, feedBytes};
 ghost use Rattle.session.specs.Session.{perform, commandRoom};
 ghost use Rattle.session.specs.Reads.{sheet, startSheet, cutter, carryOut, endCutting, answerRead};
 ghost use Rattle.session.specs.Running.{LineWithin, fedCutting, Gave};
@@ -130,25 +130,27 @@ fn run_line(store: &mut [u64], line: &[u8], out: &mut [u8]) -> usize
     run_command(store, command, out)
 }
 
-// What the line cutter hands on is carried out: no line, a line, or one that is too long.
-fn answer_fed(store: &mut [u64], line: &[u8], fed: Fed, out: &mut [u8]) -> Place
+// What the line cutter hands on is carried out: no line, a line, or one that is too long. The number of bytes that it prints.
+fn answer_fed(store: &mut [u64], line: &[u8], fed: Fed, out: &mut [u8]) -> usize
     requires { ⌜ commandRoom ≤ length (now out) ⌝ }
     requires { ⌜ LineWithin fed (now line) ⌝ }
-    ensures { λ r. ⌜ Gave (carryOut (now (store .entry)) (fedCutting (now (line .entry)) fed)) (now (out .entry)) (sheet (now (store .exit)) (now (line .entry)) (r .count)) (now (out .exit)) (r .at) ⌝ }
+    ensures { λ r. ⌜ Gave (carryOut (now (store .entry)) (fedCutting (now (line .entry)) fed)) (now (out .entry)) (sheet (now (store .exit)) (now (line .entry)) (pendingAfter fed)) (now (out .exit)) r ⌝ }
 {
     match fed {
-        Fed::More(pending) => Place {
-            count: pending.count,
-            at: 0,
-        },
-        Fed::Line(n) => {
-            let at = run_line(store, &line[..n], out);
-            Place { count: 0, at: at }
-        }
-        Fed::TooLong => {
-            let at = run_command(store, Command::Bad, out);
-            Place { count: 0, at: at }
-        }
+        Fed::More(_) => 0,
+        Fed::Line(n) => run_line(store, &line[..n], out),
+        Fed::TooLong => run_command(store, Command::Bad, out),
+    }
+}
+
+// How many bytes of a line are pending then.
+fn pending_after(fed: Fed) -> usize
+    ensures { λ r. ⌜ r ≡ pendingAfter fed ⌝ }
+{
+    match fed {
+        Fed::More(pending) => pending.count,
+        Fed::Line(_) => 0,
+        Fed::TooLong => 0,
     }
 }
 
@@ -159,7 +161,12 @@ fn answer_byte(store: &mut [u64], line: &mut [u8], pending: usize, b: u8, out: &
     ensures { λ r. ⌜ Gave (carryOut (now (store .entry)) (feedByte (cutter (sheet (now (store .entry)) (now (line .entry)) pending)) b)) (now (out .entry)) (sheet (now (store .exit)) (now (line .exit)) (r .count)) (now (out .exit)) (r .at) ⌝ }
 {
     let fed = lines::feed(line, Pending { count: pending }, b);
-    answer_fed(store, line, fed, out)
+    let at = answer_fed(store, line, fed, out);
+    let count = pending_after(fed);
+    Place {
+        count: count,
+        at: at,
+    }
 }
 
 // Bytes one after another. What each prints goes behind what those before it printed, into a part that has room for any command.
@@ -197,5 +204,6 @@ fn answer_end(store: &mut [u64], line: &[u8], pending: usize, out: &mut [u8]) ->
     ensures { λ r. ⌜ Gave (carryOut (now (store .entry)) (endCutting (cutter (sheet (now (store .entry)) (now (line .entry)) pending)))) (now (out .entry)) (sheet (now (store .exit)) (now (line .entry)) (r .count)) (now (out .exit)) (r .at) ⌝ }
 {
     let fed = lines::finish(Pending { count: pending });
-    answer_fed(store, line, fed, out)
+    let at = answer_fed(store, line, fed, out);
+    Place { count: 0, at: at }
 }

@@ -16,6 +16,9 @@ answer-fed-requires c κs =
     let took = feed .feed .ensures in
     (a .pre .1, rw (took .leaves, took .answers) (fed-within (now (a .args .line)) (a .args .pending) (a .args .b) (a .pre .0)))
 
+pending-after-requires : tie.Need-pending-after-requires
+pending-after-requires c κs = search needs
+
 same-length : tie.Need-same-length
 same-length c = search needs
 
@@ -27,13 +30,23 @@ same-length-3 c = search needs
 
 returns : tie.Need-returns
 returns c =
-    let fed = c .before .before .before .before in
+    let fed = c .before .before .before .before .before in
     let feed = fed .before .before .before .before .before .before in
     let a = feed .before .before .before .before .before in
-    rw (sym (byte-cutting (now (a .args .store)) (now (a .args .line)) (a .args .pending) (a .args .b) (feed .feed .last .0) (feed .feed .result) (feed .feed .ensures)))
+    rw (
+      c .pending-after .ensures,
+      sym (byte-cutting (now (a .args .store)) (now (a .args .line)) (a .args .pending) (a .args .b) (feed .feed .last .0) (feed .feed .result) (feed .feed .ensures)),
+    )
     (fed .answer-fed .ensures)
 
 pub answer-byte-spec : {M : Type 1} → statement M
 answer-byte-spec =
     tie.close
-    (tie.spec feed-requires answer-fed-requires same-length same-length-2 same-length-3 returns)
+    (tie.spec
+    feed-requires
+    answer-fed-requires
+    pending-after-requires
+    same-length
+    same-length-2
+    same-length-3
+    returns)

@@ -1,7 +1,8 @@
--- `session::answer_end` meets its contract. Assumes nothing.
-use mathlib.Core.Path.{sym}
+-- `session::answer_end` meets its contract: nothing is pending then. Assumes nothing.
+use mathlib.Core.Path.{_≡_, sym, ap, _∙_}
 use denote.Ref.{now}
-use Rattle.session.specs.Places.{finished-within, end-cutting}
+use Rattle.sheet.specs.Cutting.{pendingAfter}
+use Rattle.session.specs.Places.{finished-within, finished-pending, end-cutting}
 use borrow.Author.Needs.{needs}
 use Rattle.session.proofs.answer_end.Statement.{statement}
 use Rattle.session.proofs.answer_end.Tie as tie
@@ -26,8 +27,16 @@ returns c =
     let fed = c .before .before .before .before in
     let finish = fed .before .before .before in
     let a = finish .before .before .before .before in
-    rw (sym (end-cutting (now (a .args .store)) (now (a .args .line)) (a .args .pending) (finish .finish .result) (finish .finish .ensures))) (fed .answer-fed .ensures)
+    let none : pendingAfter (finish .finish .result) ≡ 0 = ap pendingAfter (finish .finish .ensures) ∙ finished-pending (a .args .pending) in
+    rw (sym (end-cutting (now (a .args .store)) (now (a .args .line)) (a .args .pending) (finish .finish .result) (finish .finish .ensures)))
+    (rw none at (fed .answer-fed .ensures))
 
 pub answer-end-spec : {M : Type 1} → statement M
 answer-end-spec =
-    tie.close (tie.spec finish-requires answer-fed-requires same-length same-length-2 returns)
+    tie.close
+    (tie.spec
+    finish-requires
+    answer-fed-requires
+    same-length
+    same-length-2
+    returns)

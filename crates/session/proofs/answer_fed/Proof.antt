@@ -12,32 +12,32 @@ use borrow.Author.Needs.{needs}
 use Rattle.session.proofs.answer_fed.Statement.{statement}
 use Rattle.session.proofs.answer_fed.Tie as tie
 
+enum-told : tie.Need-enum-told
+enum-told c = search needs
+
 enum-known-fed : tie.Need-enum-known-fed
 enum-known-fed c = search needs
-
-enum-known-fed-2 : tie.Need-enum-known-fed-2
-enum-known-fed-2 c = search needs
 
 slice-aggregate-run-line : tie.Need-slice-aggregate-run-line
 slice-aggregate-run-line c =
     let a = c .before .before .before .before .before .before .before .before in
-    let f = c .before .before .before .fed2 .given in
+    let f = c .before .before .before .fed .given in
     sym (length-take-le (f .0 .0) (now (a .args .line)) (line-within (a .args .fed) (f .0 .0) (now (a .args .line)) (f .1) (a .pre .1)))
 
 run-line-requires : tie.Need-run-line-requires
 run-line-requires c κs = search needs
 
-enum-told : tie.Need-enum-told
-enum-told c = search needs
+enum-told-2 : tie.Need-enum-told-2
+enum-told-2 c = search needs
 
 run-command-requires : tie.Need-run-command-requires
 run-command-requires c κs = search needs
 
 returns : tie.Need-returns
+unfolding pendingAfter
 returns c =
-    let a = c .before .before .before .before .before .before in
-    let f = c .before .fed .given in
-    rw (f .1) (gave-none (now (a .args .store)) (now (a .args .line)) (f .0 .0) (now (a .args .out)))
+    let a = c .before .before .before .before .before in
+    rw (c .enum-told .given .1) (gave-none (now (a .args .store)) (now (a .args .line)) _ (now (a .args .out)))
 
 same-length : tie.Need-same-length
 same-length c = search needs
@@ -49,7 +49,7 @@ returns-2 : tie.Need-returns-2
 unfolding fedCutting handedOn pendingAfter keptCommand
 returns-2 c =
     let run = c .before .before .before .before in
-    let f = run .before .before .before .before .before .fed2 .given in
+    let f = run .before .before .before .before .before .fed .given in
     let a = run .before .before .before .before .before .before .before .before .before .before in
     rw (f .1)
     (gave-one (whole (take (f .0 .0) (now (a .args .line)))) (now (a .args .store)) (now (a .args .line)) (now (a .args .out))
@@ -66,7 +66,7 @@ unfolding fedCutting handedOn pendingAfter keptCommand
 returns-3 c =
     let run = c .before .before .before .before in
     let a = run .before .before .before .before .before .before .before .before in
-    rw (run .before .before .before .enum-told .given .1)
+    rw (run .before .before .before .enum-told2 .given .1)
     (gave-one tooLong (now (a .args .store)) (now (a .args .line)) (now (a .args .out))
     (run .run-command .last .0) (run .run-command .last .1 .1 .0) (run .run-command .result) (run .run-command .kept .1 .1 .0) (run .run-command .ensures .0)
     (run .run-command .ensures .1))
@@ -75,11 +75,11 @@ pub answer-fed-spec : {M : Type 1} → statement M
 answer-fed-spec =
     tie.close
     (tie.spec
+    enum-told
     enum-known-fed
-    enum-known-fed-2
     slice-aggregate-run-line
     run-line-requires
-    enum-told
+    enum-told-2
     run-command-requires
     returns
     same-length
