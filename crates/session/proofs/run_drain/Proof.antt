@@ -27,7 +27,7 @@ put-drained-requires c κs =
     let a = c .before .before .before .before .before .before .before .before .before .before in
     let within : drainedDelivered (d .result) ≤ 64
     = rw (d .ensures .0) (delivered-within (now (a .args .store)) (a .args .budget) 64) in
-    let room : a .args .at + 1314 ≤ length (now (a .args .out)) = a .pre in
+    let room : 1314 ≤ length (now (a .args .out)) = a .pre in
     (rw k within, rw k (omega arith))
 
 same-length : tie.Need-same-length
