@@ -1,5 +1,5 @@
 -- What a Drain cannot go beyond, whatever the words are: its moves are at most the budget, its deliveries at most the room in the ledger.
--- Order: one move more; the next move; a whole Drain. Assumes nothing.
+-- Order: one move more; the next move; a whole Drain; its answer. Assumes nothing.
 use mathlib.Core.Path.{_≡_}
 use mathlib.Core.Bool.{Bool, true, false, cond}
 use mathlib.Core.List.{List, [], _∷_, _++_}
@@ -9,12 +9,13 @@ use lib.Dec.{eqb}
 use lib.ListN.{length, length-append}
 use Rattle.network.specs.declared.Found.{Found}
 use Rattle.network.specs.declared.Stop.{Stop}
+use Rattle.network.specs.declared.Drained.{Drained}
 use Rattle.network.specs.Sizes.{Shape}
-use Rattle.network.specs.Layout.{held}
+use Rattle.network.specs.Layout.{shape, held}
 use Rattle.network.specs.Check.{packetsHeld}
 use Rattle.network.specs.Routes.{deliver}
-use Rattle.network.specs.Refusals.{head}
-use Rattle.network.specs.Calls.{NamedMove, Delivery, Progress, afterMove, firstMove, stopped, oneMore, deliverNext, moveNext, drainFrom}
+use Rattle.network.specs.Refusals.{networkRefusal, head}
+use Rattle.network.specs.Calls.{NamedMove, Delivery, Progress, afterMove, firstMove, stopped, oneMore, deliverNext, moveNext, drainFrom, drained, drainAnswer, drainedDelivered}
 
 pub record Within (budget room : ℕ) (r : Progress) : Type 0 where
   pub few-moves : length (r .moves) ≤ budget
@@ -64,3 +65,16 @@ drain-within S (suc budget) room w =
         → Within (suc budget) room (cond t (stopped w Stop.Emptied) (moveNext S w room (firstMove S w) (λ room′ w′. drainFrom S budget room′ w′)))
     go true h = within-stopped (suc budget) room w Stop.Emptied
     go false h = h
+
+-- what a Drain answers, refused or not
+pub delivered-within : (w : List ℕ) (budget room : ℕ) → drainedDelivered (drainAnswer w budget room) ≤ room
+unfolding drainAnswer drainedDelivered drained
+delivered-within w budget room = go (eqb (networkRefusal w) 0)
+  where
+    r : Progress
+    r = drainFrom (shape w) budget room w
+
+    go : (b : Bool)
+        → drainedDelivered (cond b (Drained.Stopped (length (r .moves)) (length (r .deliveries)) (r .stop)) (Drained.Refused (networkRefusal w))) ≤ room
+    go true = drain-within (shape w) budget room w .few-deliveries
+    go false = omega arith
