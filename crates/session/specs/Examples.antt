@@ -1,4 +1,4 @@
--- Document 01's listing, input and whole output, computed from the definitions. Assumes nothing.
+-- R257, the worked example, input and whole output, computed from the definitions. Assumes nothing.
 use mathlib.Core.Path.{_≡_, refl}
 use Rattle.base.specs.Tests.{allBelow, someBelow, allOf, elem}
 use Rattle.base.specs.Sums.{sumBelow, sumOf}
