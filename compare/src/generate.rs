@@ -121,7 +121,7 @@ pub fn offset_range(shape: &Shape, queue: usize, dimension: usize) -> Option<(i6
 }
 
 /// A packet word from its parts; the offsets are cut to bytes.
-pub fn packet_word(tag: u64, destination: u64, dx: i64, dy: i64) -> u64 {
+pub const fn packet_word(tag: u64, destination: u64, dx: i64, dy: i64) -> u64 {
     (tag << 32) | (destination << 16) | ((dx as u64 & 255) << 8) | (dy as u64 & 255)
 }
 
