@@ -1,10 +1,11 @@
--- Document 01, "The bench program": the lines of the whole input. Order: the limit; a line's end; the lines; a line
--- as it is handed on. Assumes nothing.
+-- Document 01, "The bench program": the lines of the whole input. Order: the limit; a line's end; the lines; the part of an
+-- input whose lines have ended; a line as it is handed on. Assumes nothing.
 use mathlib.Core.Bool.{true, false, cond}
 use mathlib.Core.List.{List, [], _∷_, _++_}
 use Prim.Native.Nat.{ℕ}
 use lib.Dec.{leb, eqb}
 use lib.ListN.{length}
+use Rattle.base.specs.Tests.{elem}
 use Rattle.sheet.specs.Text.{lf, cr}
 
 -- "each at most 64 bytes without its end"
@@ -29,6 +30,11 @@ linesFrom line (b ∷ bs) = elim (eqb b lf) [ true ↦ withoutCr line ∷ linesF
 
 unfoldable pub lines : List ℕ → List (List ℕ)
 lines input = linesFrom [] input
+
+-- the input up to its last LF: a byte belongs to it if an LF is still to come
+unfoldable pub endedPart : List ℕ → List ℕ
+endedPart [] = []
+endedPart (b ∷ bs) = cond (elem lf (b ∷ bs)) (b ∷ endedPart bs) []
 
 -- "one that is too long": a line as it is handed on, with its bytes or as too long
 pub data Kept : Type 0 where
