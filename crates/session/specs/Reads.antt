@@ -2,14 +2,11 @@
 -- what Session.antt says of the whole input: theorem `sheet-right`; and that it is printed as soon as a line has ended: theorem `lines-right`.
 -- Order: a sheet under way; its start; a read; reads one after another; what is printed behind what was printed; the theorems. Assumes nothing.
 use mathlib.Core.Path.{_≡_, refl, ap, sym, _∙_}
-use mathlib.Core.Bool.{false}
 use mathlib.Core.List.{List, [], _∷_, _++_, map, flatten, append-nil, append-assoc, map-append}
 use Prim.Native.Nat.{ℕ, _≤_}
 use lib.ListN.{length}
-use Rattle.base.specs.Tests.{elem}
 use Rattle.sheet.specs.declared.Command.{Command}
-use Rattle.sheet.specs.Text.{lf}
-use Rattle.sheet.specs.Lines.{Kept, lines}
+use Rattle.sheet.specs.Lines.{Kept, lines, endedPart}
 use Rattle.sheet.specs.Commands.{commandOf, keptCommand}
 use Rattle.sheet.specs.Cutting.{heldBytes, Cutting, feedByte, feedBytes, feedReads, startCutting, finishCutting}
 use Rattle.sheet.specs.Cuts.{handedBefore, bytes-behind, kept-commands, commands-right, cut-so-far}
@@ -143,15 +140,14 @@ sheet-right buffer room reads some =
     ∙ end-answered newStore (feedReads (cutter s) reads)
     ∙ ap (λ commands. performAll commands newStore .output) (commands-right buffer room reads)
 
--- and once an end of a line has been read, every line up to it has been answered, though the input is still open
+-- and while the input is open, what is printed is what the input so far prints up to its last LF: every line that has ended has been answered
 pub lines-right : (buffer : List ℕ) → heldBytes ≤ length buffer → (reads : List (List ℕ)) → NoneEmpty reads
-    → (before rest : List ℕ) → flatten reads ≡ before ++ (lf ∷ rest) → elem lf rest ≡ false
-    → answerReads (startSheet buffer) reads .output ≡ sheetOutput (before ++ (lf ∷ []))
+    → answerReads (startSheet buffer) reads .output ≡ sheetOutput (endedPart (flatten reads))
 unfolding sheetOutput startSheet startCutting cutter carryOut
-lines-right buffer room reads some before rest e none =
+lines-right buffer room reads some =
     ap (λ a. a .output) (reads-answered (startSheet buffer) reads some)
-    ∙ ap (λ ks. performAll (map keptCommand ks) newStore .output) (cut-so-far buffer room reads before rest e none)
-    ∙ ap (λ commands. performAll commands newStore .output) (kept-commands (lines (before ++ (lf ∷ []))))
+    ∙ ap (λ ks. performAll (map keptCommand ks) newStore .output) (cut-so-far buffer room reads)
+    ∙ ap (λ commands. performAll commands newStore .output) (kept-commands (lines (endedPart (flatten reads))))
 
 -- a sheet that has come from its start to here by reads, for the program's loop
 pub record Reached (buffer : List ℕ) (s : Sheet) : Type 0 where

@@ -15,7 +15,7 @@ use borrow.Author.Tests.{eqb-false, le-leb, lt-leb, lt-ltb, le-ltb, eq-eqb, ne-e
 use Rattle.base.specs.Tests.{elem}
 use Rattle.sheet.specs.declared.Fed.{Fed}
 use Rattle.sheet.specs.Text.{lf, cr}
-use Rattle.sheet.specs.Lines.{lineLimit, withoutCr, lastLine, linesFrom, lines, Kept, whole, tooLong, kept}
+use Rattle.sheet.specs.Lines.{lineLimit, withoutCr, lastLine, linesFrom, lines, endedPart, Kept, whole, tooLong, kept}
 use Rattle.sheet.specs.Commands.{wellFormed, commandOf, keptCommand}
 use Rattle.sheet.specs.Cutting.{heldBytes, waiting, endedAnswer, fedBuffer, fedAnswer, finishedAnswer, handedOn, pendingAfter, Cutting, feedByte, feedBytes, feedReads, startCutting, finishCutting}
 
@@ -380,22 +380,53 @@ bytes-handed s (b ∷ bs) h =
     let n = neither (eqb lf b) (elem lf bs) h in
     bytes-handed (feedByte s b) bs (n .1) ∙ byte-handed s b (λ e. eqb-false lf b (n .0) (sym e))
 
--- after an LF nothing is pending, so the end of the input hands nothing on either
-finished-end : (s : Cutting) → finishCutting (feedByte s lf) ≡ feedByte s lf .handed
-unfolding finishCutting feedByte fedAnswer handedOn
-finished-end s =
-    rw (ended-pending (s .buffer) (s .pending), finished-none 0 refl)
-    (append-nil (s .handed ++ handedOn (fedBuffer (s .buffer) (s .pending) lf) (endedAnswer (s .buffer) (s .pending))))
+-- so up to the last LF as many lines are handed on as of the whole
+ended-handed : (s : Cutting) (bs : List ℕ) → feedBytes s bs .handed ≡ feedBytes s (endedPart bs) .handed
+unfolding feedBytes endedPart
+ended-handed s [] = refl
+ended-handed s (b ∷ bs) = go (elem lf (b ∷ bs)) refl (ended-handed (feedByte s b) bs)
+  where
+    go : (t : Bool) → elem lf (b ∷ bs) ≡ t → feedBytes (feedByte s b) bs .handed ≡ feedBytes (feedByte s b) (endedPart bs) .handed
+        → feedBytes s (b ∷ bs) .handed ≡ feedBytes s (cond t (b ∷ endedPart bs) []) .handed
+    go true e r = r
+    go false e r = bytes-handed s (b ∷ bs) e
 
--- so before the input ends, those lines have been handed on that have ended
-pub cut-so-far : (buffer : List ℕ) → heldBytes ≤ length buffer → (reads : List (List ℕ)) (before rest : List ℕ) → flatten reads ≡ before ++ (lf ∷ rest)
-    → elem lf rest ≡ false → feedReads (startCutting buffer) reads .handed ≡ map kept (lines (before ++ (lf ∷ [])))
-unfolding feedBytes feedReads flatten
-cut-so-far buffer room reads before rest e h =
-    let s : Cutting = feedBytes (startCutting buffer) before in
-    ap (λ c. c .handed) (reads-right (startCutting buffer) reads ∙ ap (feedBytes (startCutting buffer)) e ∙ feed-append (startCutting buffer) before (lf ∷ rest))
-    ∙ bytes-handed (feedByte s lf) rest h
-    ∙ sym (finished-end s)
-    ∙ ap finishCutting (sym (feed-append (startCutting buffer) before (lf ∷ [])))
-    ∙ cut-right buffer room ((before ++ (lf ∷ [])) ∷ [])
-    ∙ ap (λ l. map kept (lines l)) (append-nil (before ++ (lf ∷ [])))
+-- and nothing is pending there
+byte-pending : (s : Cutting) (b : ℕ) → b ≡ lf → feedByte s b .pending ≡ 0
+unfolding feedByte
+byte-pending s b e = ap pendingAfter (fed-end (s .buffer) (s .pending) b e .0) ∙ ended-pending (s .buffer) (s .pending)
+
+more-behind : (b : ℕ) (bs : List ℕ) → (b ≡ lf → ⊥) → elem lf (b ∷ bs) ≡ true → elem lf bs ≡ true
+unfolding elem
+more-behind b bs f h = rw (ne-eqb lf b (λ e. f (sym e))) at h
+
+ended-none-pending : (s : Cutting) (bs : List ℕ) → (s .pending ≡ 0) ⊎ (elem lf bs ≡ true) → feedBytes s (endedPart bs) .pending ≡ 0
+unfolding feedBytes endedPart elem
+ended-none-pending s [] (inl z) = z
+ended-none-pending s [] (inr h) = cc
+ended-none-pending s (b ∷ bs) h = go (elem lf (b ∷ bs)) refl (ℕ-discrete b lf) h (λ k. ended-none-pending (feedByte s b) bs k)
+  where
+    go : (t : Bool) → elem lf (b ∷ bs) ≡ t → Dec (b ≡ lf) → (s .pending ≡ 0) ⊎ (elem lf (b ∷ bs) ≡ true)
+        → ((feedByte s b .pending ≡ 0) ⊎ (elem lf bs ≡ true) → feedBytes (feedByte s b) (endedPart bs) .pending ≡ 0)
+        → feedBytes s (cond t (b ∷ endedPart bs) []) .pending ≡ 0
+    go true e (yes q) h r = r (inl (byte-pending s b q))
+    go true e (no f) h r = r (inr (more-behind b bs f e))
+    go false e d (inl z) r = z
+    go false e d (inr k) r = cc
+
+none-finished : (s : Cutting) → s .pending ≡ 0 → finishCutting s ≡ s .handed
+unfolding finishCutting handedOn
+none-finished s z = rw (finished-none (s .pending) z) (append-nil (s .handed))
+
+-- before the input ends, those lines have been handed on that have ended
+pub cut-so-far : (buffer : List ℕ) → heldBytes ≤ length buffer → (reads : List (List ℕ))
+    → feedReads (startCutting buffer) reads .handed ≡ map kept (lines (endedPart (flatten reads)))
+unfolding startCutting feedReads flatten
+cut-so-far buffer room reads =
+    let s : Cutting = startCutting buffer in
+    let ended : List ℕ = endedPart (flatten reads) in
+    ap (λ c. c .handed) (reads-right s reads)
+    ∙ ended-handed s (flatten reads)
+    ∙ sym (none-finished (feedBytes s ended) (ended-none-pending s (flatten reads) (inl refl)))
+    ∙ cut-right buffer room (ended ∷ [])
+    ∙ ap (λ l. map kept (lines l)) (append-nil ended)
