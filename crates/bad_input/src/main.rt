@@ -1,6 +1,7 @@
-// Bad input of every kind, run and compared: each line of the output is what was tried, the refusal's number, and whether every
-// word is as it was. The file stdout beside src/ has what document 01's table says; the contracts of the crate `calls` say the same
-// for all contents and arguments.
+// Bad input of every kind, run and compared: each line of the output is what was tried, the number that was answered, and whether every
+// word is as it was before; of a Drain also whether every word of its ledger is. Nothing is printed that was not compared. One Drain is not
+// refused, and shows that the comparison sees what is written. The contracts of the crate `calls` say the same for all contents and
+// arguments.
 use network::Credit;
 use network::Drained;
 use network::Found;
@@ -20,14 +21,36 @@ fn same(a: &[u64; 100], b: &[u64; 100]) -> bool {
     true
 }
 
-fn line(what: &[u8], number: u64, untouched: bool) {
+// Whether two ledgers hold the same words.
+fn same_ledger(a: &[u64; 2], b: &[u64; 2]) -> bool {
+    if a[0] != b[0] {
+        return false;
+    }
+    a[1] == b[1]
+}
+
+fn answer(what: &[u8], number: u64, untouched: bool) {
     io::write_all(1, what);
     io::write_all(1, b": ");
     io::print_decimal(1, number);
     if untouched {
-        io::write_all(1, b", nothing written\n");
+        io::write_all(1, b", nothing written");
     } else {
-        io::write_all(1, b", WRITTEN\n");
+        io::write_all(1, b", WRITTEN");
+    }
+}
+
+fn line(what: &[u8], number: u64, untouched: bool) {
+    answer(what, number, untouched);
+    io::write_all(1, b"\n");
+}
+
+fn drain_line(what: &[u8], number: u64, untouched: bool, ledger_untouched: bool) {
+    answer(what, number, untouched);
+    if ledger_untouched {
+        io::write_all(1, b", ledger as it was\n");
+    } else {
+        io::write_all(1, b", LEDGER WRITTEN\n");
     }
 }
 
@@ -106,9 +129,11 @@ fn first(w: &[u64; 100]) -> u64 {
     found(calls::first(w))
 }
 
-fn drain(w: &mut [u64; 100]) -> u64 {
-    let mut ledger = [0u64; 2];
-    drained(calls::drain(w, 9, &mut ledger))
+fn drain_first(w: &mut [u64], n: usize, ledger: &mut [u64; 2]) -> u64 {
+    if w.len() < n {
+        return 99;
+    }
+    drained(calls::drain(&mut w[0..n], 9, ledger))
 }
 
 // A 4 by 1 network, E 2, A 1, J 1, of 96 words, with a packet from node 0 to node 1 in the injection queue of node 0.
@@ -131,8 +156,7 @@ fn move_on(w: [u64; 100]) {
 }
 
 fn drain_on(w: [u64; 100]) {
-    let mut v = w;
-    line(b"  drain", drain(&mut v), same(&v, &w));
+    try_drain(b"  drain", w, WORDS);
 }
 
 fn check_on(w: [u64; 100]) {
@@ -167,15 +191,34 @@ fn each_call(what: &[u8], w: [u64; 100]) {
     drain_on(w);
 }
 
-fn short_stores() {
+fn try_check(what: &[u8], n: usize) {
     let w = network();
-    line(b"check of 0 words", check_first(&w, 0), true);
-    line(b"check of 1 word", check_first(&w, 1), true);
-    line(b"check of 7 words", check_first(&w, 7), true);
-    line(b"check of 8 words", check_first(&w, 8), true);
-    line(b"check of one word too few", check_first(&w, 95), true);
-    line(b"check of just enough words", check_first(&w, 96), true);
-    line(b"check of more words than needed", check(&w), true);
+    let v = w;
+    line(what, check_first(&v, n), same(&v, &w));
+}
+
+// A Drain of the first n words, with a ledger of two words that are not 0.
+fn try_drain(what: &[u8], w: [u64; 100], n: usize) {
+    let mut v = w;
+    let lent = [11u64, 22];
+    let mut ledger = lent;
+    let number = drain_first(&mut v, n, &mut ledger);
+    drain_line(what, number, same(&v, &w), same_ledger(&ledger, &lent));
+}
+
+fn short_stores() {
+    try_check(b"check of 0 words", 0);
+    try_check(b"check of 1 word", 1);
+    try_check(b"check of 7 words", 7);
+    try_check(b"check of 8 words", 8);
+    try_check(b"check of one word too few", 95);
+    try_check(b"check of just enough words", 96);
+    try_check(b"check of more words than needed", 100);
+    let w = network();
+    try_drain(b"drain of 0 words", w, 0);
+    try_drain(b"drain of 7 words", w, 7);
+    try_drain(b"drain of one word too few", w, 95);
+    try_drain(b"drain of just enough words", w, 96);
 }
 
 // One call each, on a network of its own.

@@ -1,194 +1,69 @@
-// The bench program, document 01: a sheet from standard input, its answers to standard output. What a byte of the sheet does and prints is
-// proved in the crate `session`; here the bytes are read, and what is printed is gathered and written out in large pieces.
+// The bench program: a sheet from standard input, its answers to standard output. What a read of the sheet does and prints, and what all reads
+// print together, is proved in the crate `session`; here is read, handed over and written, and nothing else.
 use libc::STDIN_FILENO;
 use libc::STDOUT_FILENO;
+use lines::HELD_BYTES;
 use session::COMMAND_ROOM;
-use session::Place;
-ghost use Prim.Native.Nat.{_+_, _≤_};
+use session::STORE_WORDS;
+ghost use Prim.Native.Nat.{_≤_};
 ghost use lib.ListN.{length};
-ghost use Rattle.sheet.specs.Cutting.{heldBytes};
-ghost use Rattle.session.specs.Session.{commandRoom};
 
-// Where the lines of the next command go, and whether what was gathered could be written.
-struct Gathered {
-    at: usize,
-    open: bool,
+// The bytes of a read at most.
+const PIECE: usize = 1024;
+
+// Room for what a read prints: every byte may end a line, and the end of the input one more.
+const OUT_ROOM: usize = (PIECE + 1) * COMMAND_ROOM;
+
+// How far the sheet has come: the bytes that are pending of a line, and whether to read on.
+struct Turn {
+    pending: usize,
+    more: bool,
 }
 
-// Writes out what is gathered, and says whether it could be.
-fn write_gathered(out: &[u8], at: usize) -> bool
+// Writes the first bytes, and says whether it could.
+fn write_first(out: &[u8], at: usize) -> bool
     requires { ⌜ at ≤ length (now out) ⌝ }
 {
     io::write_all(STDOUT_FILENO, &out[..at])
 }
 
-// Writes out what is gathered once there may be no room for the lines of another command.
-fn make_room(out: &[u8], at: usize) -> Gathered
-    requires { ⌜ commandRoom ≤ length (now out) ⌝ }
-    requires { ⌜ at ≤ length (now out) ⌝ }
-    ensures { λ r. ⌜ r .at + commandRoom ≤ length (now (out .entry)) ⌝ }
-{
-    let limit = out.len() - COMMAND_ROOM;
-    if at <= limit {
-        return Gathered { at: at, open: true };
-    }
-    let written = write_gathered(out, at);
-    Gathered {
-        at: 0,
-        open: written,
-    }
-}
-
-// How far the sheet has come: the bytes that are pending of a line, those of the output that are gathered, whether to read on, and
-// whether the input has come to its end.
-struct Progress {
-    count: usize,
-    at: usize,
-    more: bool,
-    ended: bool,
-}
-
-// The bytes of one read.
-fn run_chunk(
-    store: &mut [u64],
-    line: &mut [u8],
-    out: &mut [u8],
-    chunk: &[u8],
-    start: Place,
-) -> Progress
-    requires { ⌜ heldBytes ≤ length (now line) ⌝ }
-    requires { ⌜ start .at + commandRoom ≤ length (now out) ⌝ }
-    ensures { λ r. ⌜ r .at + commandRoom ≤ length (now (out .entry)) ⌝ }
-{
-    let mut count = start.count;
-    let mut at = start.at;
-    let mut i = 0;
-    while i < chunk.len() {
-        let place = session::run_byte(
-            store,
-            line,
-            Place {
-                count: count,
-                at: at,
-            },
-            chunk[i],
-            out,
-        );
-        let gathered = make_room(out, place.at);
-        count = place.count;
-        at = gathered.at;
-        let open = gathered.open;
-        if !open {
-            return Progress {
-                count: 0,
-                at: 0,
-                more: false,
-                ended: false,
-            };
-        }
-        i += 1;
-    }
-    Progress {
-        count: count,
-        at: at,
-        more: true,
-        ended: false,
-    }
-}
-
-// One read, and its bytes.
-fn read_some(store: &mut [u64], line: &mut [u8], out: &mut [u8], start: Place) -> Progress
-    requires { ⌜ heldBytes ≤ length (now line) ⌝ }
-    requires { ⌜ start .at + commandRoom ≤ length (now out) ⌝ }
-    ensures { λ r. ⌜ r .at + commandRoom ≤ length (now (out .entry)) ⌝ }
-{
-    let mut input = io::large_buffer();
-    let got = libc::read(STDIN_FILENO, &mut input);
-    if got <= 0 {
-        let count = start.count;
-        let at = start.at;
-        return Progress {
-            count: count,
-            at: at,
+// One read, its answer and one write. A read of no bytes is handed over too: it is the end of the input. After a read or a write that
+// failed nothing more is done.
+fn read_once(
+    store: &mut [u64; STORE_WORDS],
+    line: &mut [u8; HELD_BYTES],
+    pending: usize,
+    out: &mut [u8; OUT_ROOM],
+) -> Turn {
+    let mut piece = [0u8; PIECE];
+    let got = libc::read(STDIN_FILENO, &mut piece);
+    if got < 0 {
+        return Turn {
+            pending: 0,
             more: false,
-            ended: got == 0,
         };
     }
-    let n = io::count(got, &input);
-    run_chunk(store, line, out, &input[..n], start)
+    let n = io::count(got, &piece);
+    let answered = session::answer_read(store, line, pending, &piece[..n], out);
+    let written = write_first(out, answered.at);
+    Turn {
+        pending: answered.count,
+        more: written && got > 0,
+    }
 }
 
 // Every read. A proved loop has to end, and nothing says that the input does: it counts its turns down from a number that no run uses up.
-fn read_all(store: &mut [u64], line: &mut [u8], out: &mut [u8]) -> Progress
-    requires { ⌜ heldBytes ≤ length (now line) ⌝ }
-    requires { ⌜ commandRoom ≤ length (now out) ⌝ }
-    ensures { λ r. ⌜ r .at + commandRoom ≤ length (now (out .entry)) ⌝ }
-{
-    let mut count: usize = 0;
-    let mut at: usize = 0;
+fn main() {
+    let mut store = [0u64; STORE_WORDS];
+    let mut line = [0u8; HELD_BYTES];
+    let mut out = [0u8; OUT_ROOM];
+    let mut pending = session::start(&mut store);
     let mut more = true;
-    let mut ended = false;
     let mut turns = u64::MAX;
     while turns > 0 && more {
-        let progress = read_some(
-            store,
-            line,
-            out,
-            Place {
-                count: count,
-                at: at,
-            },
-        );
-        count = progress.count;
-        at = progress.at;
-        more = progress.more;
-        ended = progress.ended;
+        let turn = read_once(&mut store, &mut line, pending, &mut out);
+        pending = turn.pending;
+        more = turn.more;
         turns -= 1;
     }
-    Progress {
-        count: count,
-        at: at,
-        more: more,
-        ended: ended,
-    }
-}
-
-// What is left where the reads stop: a last line without an end counts, if the input has ended and no read has failed.
-fn run_last(store: &mut [u64], line: &[u8], out: &mut [u8], progress: Progress) -> usize
-    requires { ⌜ heldBytes ≤ length (now line) ⌝ }
-    requires { ⌜ progress .at + commandRoom ≤ length (now out) ⌝ }
-    ensures { λ r. ⌜ r ≤ length (now (out .exit)) ⌝ }
-{
-    let count = progress.count;
-    let at = progress.at;
-    let ended = progress.ended;
-    if ended {
-        return session::run_end(
-            store,
-            line,
-            Place {
-                count: count,
-                at: at,
-            },
-            out,
-        );
-    }
-    at
-}
-
-// The whole sheet.
-fn run_sheet(store: &mut [u64], line: &mut [u8], out: &mut [u8])
-    requires { ⌜ heldBytes ≤ length (now line) ⌝ }
-    requires { ⌜ commandRoom ≤ length (now out) ⌝ }
-{
-    let progress = read_all(store, line, out);
-    let at = run_last(store, line, out, progress);
-    write_gathered(out, at);
-}
-
-fn main() {
-    let mut store = [0u64; 8000];
-    let mut line = [0u8; 65];
-    let mut out = [0u8; 32768];
-    run_sheet(&mut store, &mut line, &mut out);
 }

@@ -2,7 +2,6 @@
 -- stands that Look gives back. Assumes nothing.
 use mathlib.Core.Path.{_≡_, refl, ap, ap₂, sym, _∙_}
 use mathlib.Core.Logic.{_≢_}
-use mathlib.Core.Bool.{cond}
 use mathlib.Core.List.{List, [], _∷_}
 use Prim.Native.Nat.{ℕ, _+_, _-_}
 use native.Mathlib.Omega.{arith}
@@ -13,21 +12,21 @@ use Rattle.network.specs.declared.Drained.{Drained}
 use Rattle.network.specs.Sizes.{Shape}
 use Rattle.network.specs.Layout.{shape, queueStart, held}
 use Rattle.network.specs.Refusals.{lookRefusal}
-use Rattle.network.specs.Calls.{lookPart}
+use Rattle.network.specs.Calls.{lookPart, lookAt, drainedMoves, drainedDelivered, drainedStop}
 use Rattle.calls.specs.Answers.{looking, held-part, look-shown}
 use Rattle.bench_c.specs.Outs.{lookOut, stopNumber, drainedOut}
 
 pub drained-told : (answer : Drained) (m d why : ℕ) (s : Stop) → answer ≡ Drained.Stopped m d s → why ≡ stopNumber s → (m ∷ d ∷ why ∷ []) ≡ drainedOut answer
-unfolding drainedOut
+unfolding drainedOut drainedMoves drainedDelivered drainedStop
 drained-told answer m d why s e ew = ap (λ (k : ℕ). m ∷ d ∷ k ∷ []) ew ∙ sym (ap drainedOut e)
 
 pub look-cleared : (w : List ℕ) (n q : ℕ) → lookRefusal w n q ≢ 0 → (0 ∷ 0 ∷ []) ≡ lookOut w n q
-unfolding lookOut
+unfolding lookOut lookPart
 look-cleared w n q ne = rw (ne-eqb (lookRefusal w n q) 0 ne)
 
 pub look-told : (S : Shape) (w : List ℕ) (n q start count : ℕ) → S ≡ shape w → lookRefusal w n q ≡ 0 → start ≡ queueStart S n q → count ≡ length (held S w n q)
     → ((start + 1) ∷ count ∷ []) ≡ lookOut w n q
-unfolding lookOut
+unfolding lookOut lookAt lookPart
 look-told S w n q start count e z es ec =
     rw (eq-eqb (lookRefusal w n q) 0 z)
     (ap₂ (λ (i k : ℕ). (i + 1) ∷ k ∷ []) (es ∙ ap (λ (T : Shape). queueStart T n q) e) (ec ∙ ap (λ (T : Shape). length (held T w n q)) e))

@@ -1,5 +1,5 @@
-// The calls for C, with the signatures of include/bench.h. Each returns the refusal's number, 0 if there is none, and writes all
-// words of `out`, 0 on a refusal. A pointer and a length are a slice here, an `out[2]` an array of two. No call asks anything of its
+// The calls for C, with the signatures of include/bench.h. Each returns the number of its refusal, or 0, and writes all words of
+// `out`, 0 on a refusal. A pointer and a length are a slice here, an `out[2]` an array of two. No call asks anything of its
 // caller but what bench.h says of the memory.
 pub mod outs;
 
@@ -88,7 +88,7 @@ pub extern "C" fn bench_first(words: &[u64], out: &mut [u64; 4]) -> u64
     outs::found(out, f)
 }
 
-// out: the moves made, the number delivered, and why it stopped: 0 emptied, 1 spent, 2 full.
+// out: how many moves were made, how many of them delivered, and the stop: 0 emptied, 1 spent, 2 full.
 #[no_mangle]
 pub extern "C" fn bench_drain(
     words: &mut [u64],

@@ -22,7 +22,7 @@ use Rattle.network.specs.CheckLaws.{Network, QueueFits}
 use Rattle.network.specs.Routes.{deliver, freeSlots}
 use Rattle.network.specs.Refusals.{networkRefusal, makeRefusal, offerRules, offerRefusal, moveRules, moveRefusal, creditRules, creditRefusal, lookRules, lookRefusal, head, elseBy}
 use Rattle.network.specs.RefusalLaws.{elseBy-zero, elseBy-first, neither, not-refused, network-passed}
-use Rattle.network.specs.Calls.{Delivery, Progress, emptyNetwork, makeWords, afterOffer, offerWords, afterMove, moveWords, moveAnswer, creditAnswer, lookPart, firstMove, firstAnswer, drainFrom, drained, drainWords, drainLedger, drainAnswer}
+use Rattle.network.specs.Calls.{NamedMove, Delivery, Progress, emptyNetwork, makeWords, afterOffer, offerWords, afterMove, moveWords, moveAnswer, creditAnswer, lookPart, firstMove, firstAnswer, drainFrom, drained, drainWords, drainLedger, drainAnswer}
 
 -- an answer, and the words that are left
 pub record Answers {A : Type 0} (answer said : A) (words left : List ℕ) : Type 0 where
@@ -166,13 +166,13 @@ unfolding drainAnswer drainWords drainLedger
 drain-broken w budget ledger ne =
     record { says = rw (ne-eqb (networkRefusal w) 0 ne); leaves = rw (ne-eqb (networkRefusal w) 0 ne); writes = rw (ne-eqb (networkRefusal w) 0 ne) }
 
-pub drain-done : (S : Shape) (w : List ℕ) (budget : ℕ) (ledger v written : List ℕ) (ds : List Delivery) (m : ℕ) (why : Stop) → networkRefusal w ≡ 0 → S ≡ shape w
-    → drainFrom S budget (length ledger) w ≡ record { words = v; deliveries = ds; moves = m; stop = why }
+pub drain-done : (S : Shape) (w : List ℕ) (budget : ℕ) (ledger v written : List ℕ) (ms : List NamedMove) (ds : List Delivery) (why : Stop) → networkRefusal w ≡ 0 → S ≡ shape w
+    → drainFrom S budget (length ledger) w ≡ record { words = v; moves = ms; deliveries = ds; stop = why }
     → written ≡ map (λ (d : Delivery). d .packet) ds ++ drop (length ds) ledger
-    → Drains w budget ledger (Drained.Stopped m (length ds) why) v written
+    → Drains w budget ledger (Drained.Stopped (length ms) (length ds) why) v written
 unfolding drainAnswer drainWords drainLedger drained
-drain-done S w budget ledger v written ds m why z e r x =
-    let whole : drainFrom (shape w) budget (length ledger) w ≡ record { words = v; deliveries = ds; moves = m; stop = why } =
+drain-done S w budget ledger v written ms ds why z e r x =
+    let whole : drainFrom (shape w) budget (length ledger) w ≡ record { words = v; moves = ms; deliveries = ds; stop = why } =
     ap (λ (T : Shape). drainFrom T budget (length ledger) w) (sym e) ∙ r in
     record { says = rw (eq-eqb (networkRefusal w) 0 z, whole); leaves = rw (eq-eqb (networkRefusal w) 0 z, whole); writes = rw (eq-eqb (networkRefusal w) 0 z, whole) x }
 

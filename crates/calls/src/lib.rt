@@ -1,6 +1,7 @@
-// The calls of document 01 on lent words. Each does its own checking: it refuses by the number of the first rule that applies, and
-// then has written nothing; else its answer and every word are what the definitions of the crate `network` say (specs/Calls.antt). All
-// tests come first, then one change that cannot fail. No call asks anything of its caller.
+// The calls (RULES R90 to R134) on lent words. Each does its own checking: it refuses by the number of the first rule that applies, and
+// then has written nothing; else its answer and every word are what the definitions of the crate `network` say (specs/Calls.antt). Where
+// the answer is an enum, `told` is the number and every value that it stands for (specs/Answers.antt there). All tests come first, then
+// one change that cannot fail. No call asks anything of its caller.
 
 use network::Credit;
 use network::Drained;
@@ -8,11 +9,14 @@ use network::Found;
 use network::Moved;
 use packet::torus::Sizes;
 ghost use mathlib.Core.Path.{_≡_};
-ghost use lib.ListN.{length};
+ghost use Prim.Native.Nat.{_≤_, _-_};
+ghost use lib.ListN.{length, take, drop};
 ghost use Rattle.network.specs.Refusals.{networkRefusal, makeRefusal, offerRefusal, lookRefusal};
+ghost use Rattle.network.specs.Answers.{MoveTells, CreditTells, FirstTells, DrainTells};
 ghost use Rattle.network.specs.Calls.{shapeOf, makeWords, offerWords, moveWords, moveAnswer, creditAnswer, lookPart, firstAnswer, drainWords, drainLedger, drainAnswer};
+ghost use Rattle.calls.specs.Place.{wordAt, LookPlace};
 
-// Make: writes an empty network of these sizes, all counts 0.
+// Make (R91, R92): an empty network of these sizes.
 pub fn make(words: &mut [u64], x: u64, y: u64, e: u64, a: u64, j: u64) -> u64
     ensures answer { λ r. ⌜ r ≡ makeRefusal (shapeOf x y e a j) (now (words .entry)) ⌝ }
     ensures words { λ _. ⌜ now (words .exit) ≡ makeWords (shapeOf x y e a j) (now (words .entry)) ⌝ }
@@ -34,14 +38,14 @@ pub fn make(words: &mut [u64], x: u64, y: u64, e: u64, a: u64, j: u64) -> u64
     0
 }
 
-// Check: 0 or the refusal.
+// Check (R95).
 pub fn check(words: &[u64]) -> u64
     ensures { λ r. ⌜ r ≡ networkRefusal (now (words .entry)) ⌝ }
 {
     checker::network_refusal(words)
 }
 
-// Offer: the packet goes to the end of the node's injection queue and accepted rises by one.
+// Offer (R101, R102): the packet joins queue 0 of its node as the newest, and counts as accepted.
 pub fn offer(words: &mut [u64], node: u64, destination: u64, tag: u32) -> u64
     ensures answer { λ r. ⌜ r ≡ offerRefusal (now (words .entry)) node destination ⌝ }
     ensures words { λ _. ⌜ now (words .exit) ≡ offerWords (now (words .entry)) node destination tag ⌝ }
@@ -59,10 +63,11 @@ pub fn offer(words: &mut [u64], node: u64, destination: u64, tag: u32) -> u64
     0
 }
 
-// Move: the head of a queue goes to the target that the output names, or is delivered by output 0.
+// Move (R106 to R112): the head of a queue goes to the target that the output names, or is delivered by output 0.
 pub fn move_packet(words: &mut [u64], node: u64, queue: u64, output: u64) -> Moved
     ensures answer { λ r. ⌜ r ≡ moveAnswer (now (words .entry)) node queue output ⌝ }
     ensures words { λ _. ⌜ now (words .exit) ≡ moveWords (now (words .entry)) node queue output ⌝ }
+    ensures told { λ r. ⌜ MoveTells (now (words .entry)) node queue output r ⌝ }
 {
     let broken = checker::network_refusal(words);
     if broken != 0 {
@@ -80,9 +85,10 @@ pub fn move_packet(words: &mut [u64], node: u64, queue: u64, output: u64) -> Mov
     Moved::Passed
 }
 
-// Credit: the free slots of the target that the output names.
+// Credit (R116): the free slots of the target that the output names.
 pub fn credit(words: &[u64], node: u64, output: u64) -> Credit
-    ensures { λ r. ⌜ r ≡ creditAnswer (now (words .entry)) node output ⌝ }
+    ensures answer { λ r. ⌜ r ≡ creditAnswer (now (words .entry)) node output ⌝ }
+    ensures told { λ r. ⌜ CreditTells (now (words .entry)) node output r ⌝ }
 {
     let broken = checker::network_refusal(words);
     if broken != 0 {
@@ -96,7 +102,7 @@ pub fn credit(words: &[u64], node: u64, output: u64) -> Credit
     Credit::Free(flow::free_slots(words, s, node, output))
 }
 
-// Look's companion: the refusal's number, 0 if there is none.
+// Look's companion (R121): by which rule Look is refused, or 0.
 pub fn look_refusal(words: &[u64], node: u64, queue: u64) -> u64
     ensures { λ r. ⌜ r ≡ lookRefusal (now (words .entry)) node queue ⌝ }
 {
@@ -107,9 +113,11 @@ pub fn look_refusal(words: &[u64], node: u64, queue: u64) -> u64
     rules::look_rules(checker::sizes_of(words), node, queue)
 }
 
-// Look: the held words of a queue, as the part of the lent words where they stand; an empty part on a refusal.
+// Look (R119, R120): the held words of a queue, as the part of the lent words where they stand; an empty part on a refusal, and where that one
+// stands is left free.
 pub fn look(words: &[u64], node: u64, queue: u64) -> &[u64]
-    ensures { λ r. ⌜ now r ≡ lookPart (now (words .entry)) node queue ⌝ }
+    ensures part { λ r. ⌜ now r ≡ lookPart (now (words .entry)) node queue ⌝ }
+    ensures place { λ r. ⌜ LookPlace (words .entry) node queue r ⌝ }
 {
     if look_refusal(words, node, queue) != 0 {
         return &words[0..0];
@@ -119,12 +127,22 @@ pub fn look(words: &[u64], node: u64, queue: u64) -> &[u64]
     let count = flow::held_count(words, s, node, queue);
     let from = start + 1;
     let to = from + count as usize;
+    between(words, from, to)
+}
+
+// The words from one index up to another, where they stand.
+fn between(words: &[u64], from: usize, to: usize) -> &[u64]
+    requires { ⌜ (from ≤ to) × (to ≤ length (now words)) ⌝ }
+    ensures place { λ r. ⌜ r .ptr ≡ wordAt ((words .entry) .ptr) from ⌝ }
+    ensures part { λ r. ⌜ now r ≡ take (to - from) (drop from (now (words .entry))) ⌝ }
+{
     &words[from..to]
 }
 
-// First: the first permitted move in the order node, queue, route; or none.
+// First (R123, R124): the earliest permitted move, if there is one.
 pub fn first(words: &[u64]) -> Found
-    ensures { λ r. ⌜ r ≡ firstAnswer (now (words .entry)) ⌝ }
+    ensures answer { λ r. ⌜ r ≡ firstAnswer (now (words .entry)) ⌝ }
+    ensures told { λ r. ⌜ FirstTells (now (words .entry)) r ⌝ }
 {
     let broken = checker::network_refusal(words);
     if broken != 0 {
@@ -133,12 +151,13 @@ pub fn first(words: &[u64]) -> Found
     first::first_move(words, checker::sizes_of(words))
 }
 
-// Drain: First's move again and again, each delivered word to the next word of the ledger, until nothing is held, or the budget is
-// used, or the next move delivers and no ledger word is left. The words are checked once.
+// Drain (R127 to R134): First's move again and again, the packets that it delivers into the ledger, until nothing is held, or the budget
+// is used, or a delivery is next and the ledger is full. The words are checked once.
 pub fn drain(words: &mut [u64], budget: u32, ledger: &mut [u64]) -> Drained
     ensures answer { λ r. ⌜ r ≡ drainAnswer (now (words .entry)) budget (length (now (ledger .entry))) ⌝ }
     ensures words { λ _. ⌜ now (words .exit) ≡ drainWords (now (words .entry)) budget (length (now (ledger .entry))) ⌝ }
     ensures ledger { λ _. ⌜ now (ledger .exit) ≡ drainLedger (now (words .entry)) budget (now (ledger .entry)) ⌝ }
+    ensures told { λ r. ⌜ DrainTells (now (words .entry)) budget (length (now (ledger .entry))) r ⌝ }
 {
     let broken = checker::network_refusal(words);
     if broken != 0 {

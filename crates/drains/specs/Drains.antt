@@ -17,7 +17,7 @@ use Rattle.network.specs.declared.Drained.{Drained}
 use Rattle.network.specs.Sizes.{Shape}
 use Rattle.network.specs.TorusLaws.{Torus}
 use Rattle.network.specs.CheckLaws.{Network}
-use Rattle.network.specs.Calls.{Delivery, Progress, stopped, oneMore, drainFrom}
+use Rattle.network.specs.Calls.{NamedMove, Delivery, Progress, stopped, oneMore, drainFrom}
 use Rattle.turns.specs.declared.Turn.{Turn}
 use Rattle.turns.specs.Turns.{turnAnswer, turnWords, afterTurns, after-none, after-more, ByTurn, stops, passes, delivers, by-turn, stopped-words}
 
@@ -26,9 +26,11 @@ packets ds = map (λ (d : Delivery). d .packet) ds
 
 -- from the words w₀ and the ledger l₀, m moves have led to w and l, and d packets were delivered
 pub record SoFar (S : Shape) (w₀ : List ℕ) (budget : ℕ) (l₀ w l : List ℕ) (m d : ℕ) : Type 0 where
+  pub made : List NamedMove
   pub handed : List Delivery
   pub network : Network S w
-  pub whole : drainFrom S budget (length l₀) w₀ ≡ afterTurns m handed (drainFrom S (budget - m) (length l₀ - d) w)
+  pub whole : drainFrom S budget (length l₀) w₀ ≡ afterTurns made handed (drainFrom S (budget - m) (length l₀ - d) w)
+  pub moved : length made ≡ m
   pub counted : length handed ≡ d
   pub within : m ≤ budget
   pub room : d ≤ length l₀
@@ -36,19 +38,21 @@ pub record SoFar (S : Shape) (w₀ : List ℕ) (budget : ℕ) (l₀ w l : List �
 
 -- the end of the loop: the answer, the words and the ledger of the whole Drain
 pub record DrainedTo (S : Shape) (w : List ℕ) (budget : ℕ) (ledger : List ℕ) (said : Drained) (v written : List ℕ) : Type 0 where
+  pub made : List NamedMove
   pub handed : List Delivery
-  pub moves : ℕ
   pub why : Stop
-  pub whole : drainFrom S budget (length ledger) w ≡ record { words = v; deliveries = handed; moves = moves; stop = why }
-  pub says : said ≡ Drained.Stopped moves (length handed) why
+  pub whole : drainFrom S budget (length ledger) w ≡ record { words = v; moves = made; deliveries = handed; stop = why }
+  pub says : said ≡ Drained.Stopped (length made) (length handed) why
   pub writes : written ≡ packets handed ++ drop (length handed) ledger
 
 pub so-far-start : (S : Shape) (w : List ℕ) (budget : ℕ) (l : List ℕ) → Network S w → SoFar S w budget l w l 0 0
 so-far-start S w budget l N =
     record {
+      made = [];
       handed = [];
       network = N;
-      whole = sym (after-none (drainFrom S budget (length l) w)) ∙ ap₂ (λ (b r : ℕ). afterTurns 0 [] (drainFrom S b r w)) (sym (sub-zero budget)) (sym (sub-zero (length l)));
+      whole = sym (after-none (drainFrom S budget (length l) w)) ∙ ap₂ (λ (b r : ℕ). afterTurns [] [] (drainFrom S b r w)) (sym (sub-zero budget)) (sym (sub-zero (length l)));
+      moved = refl;
       counted = refl;
       within = omega arith;
       room = omega arith;
@@ -57,41 +61,43 @@ so-far-start S w budget l N =
 
 -- what a turn says of the Drain, by what it came to
 passed : (S : Shape) (w : List ℕ) (b r : ℕ) (t : Turn) (v : List ℕ) → ByTurn S w b r t v → t ≡ Turn.Passed
-    → (b′ : ℕ) × (b ≡ suc b′) × Network S v × (drainFrom S b r w ≡ oneMore [] (drainFrom S b′ r v))
+    → (m : NamedMove) × (b′ : ℕ) × (b ≡ suc b′) × Network S v × (drainFrom S b r w ≡ oneMore m [] (drainFrom S b′ r v))
 passed S w b r t v (stops x) e = absurd (let z : _≡_ {A = ℕ} 0 1 = cc in native.Mathlib.Nat.suc-ne-zero 0 (sym z))
-passed S w b r t v (passes b′ x M y) e = (b′, x, M, y)
-passed S w b r t v (delivers n b′ r′ x x′ M y) e = absurd (let z : _≡_ {A = ℕ} 0 1 = cc in native.Mathlib.Nat.suc-ne-zero 0 (sym z))
+passed S w b r t v (passes m b′ x M y) e = (m, b′, x, M, y)
+passed S w b r t v (delivers m n b′ r′ x x′ M y) e = absurd (let z : _≡_ {A = ℕ} 0 1 = cc in native.Mathlib.Nat.suc-ne-zero 0 (sym z))
 
 pub record Handed (S : Shape) (w : List ℕ) (b r p : ℕ) (v : List ℕ) : Type 0 where
+  pub move : NamedMove
   pub node : ℕ
   pub budget : ℕ
   pub room : ℕ
   pub one-less : b ≡ suc budget
   pub one-word : r ≡ suc room
   pub network : Network S v
-  pub goes-on : drainFrom S b r w ≡ oneMore (record { node = node; packet = p } ∷ []) (drainFrom S budget room v)
+  pub goes-on : drainFrom S b r w ≡ oneMore move (record { node = node; packet = p } ∷ []) (drainFrom S budget room v)
 
 delivered : (S : Shape) (w : List ℕ) (b r p : ℕ) (t : Turn) (v : List ℕ) → ByTurn S w b r t v → t ≡ Turn.Delivered p → Handed S w b r p v
 delivered S w b r p t v (stops x) e = absurd (let z : _≡_ {A = ℕ} 0 1 = cc in native.Mathlib.Nat.suc-ne-zero 0 (sym z))
-delivered S w b r p t v (passes b′ x M y) e = absurd (let z : _≡_ {A = ℕ} 0 1 = cc in native.Mathlib.Nat.suc-ne-zero 0 (sym z))
-delivered S w b r p t v (delivers {p = p′} n b′ r′ x x′ M y) e =
+delivered S w b r p t v (passes m b′ x M y) e = absurd (let z : _≡_ {A = ℕ} 0 1 = cc in native.Mathlib.Nat.suc-ne-zero 0 (sym z))
+delivered S w b r p t v (delivers {p = p′} m n b′ r′ x x′ M y) e =
     let same : p′ ≡ p = cc in
     record {
+      move = m;
       node = n;
       budget = b′;
       room = r′;
       one-less = x;
       one-word = x′;
       network = M;
-      goes-on = subst (λ (k : ℕ). drainFrom S b r w ≡ oneMore (record { node = n; packet = k } ∷ []) (drainFrom S b′ r′ v)) same y;
+      goes-on = subst (λ (k : ℕ). drainFrom S b r w ≡ oneMore m (record { node = n; packet = k } ∷ []) (drainFrom S b′ r′ v)) same y;
     }
 
 ended : (S : Shape) (w : List ℕ) (b r : ℕ) (why : Stop) (t : Turn) (v : List ℕ) → ByTurn S w b r t v → t ≡ Turn.Stopped why → drainFrom S b r w ≡ stopped w why
 ended S w b r why t v (stops {why = why′} x) e =
     let same : why′ ≡ why = cc in
     subst (λ (k : Stop). drainFrom S b r w ≡ stopped w k) same x
-ended S w b r why t v (passes b′ x M y) e = absurd (let z : _≡_ {A = ℕ} 0 1 = cc in native.Mathlib.Nat.suc-ne-zero 0 (sym z))
-ended S w b r why t v (delivers n b′ r′ x x′ M y) e = absurd (let z : _≡_ {A = ℕ} 0 1 = cc in native.Mathlib.Nat.suc-ne-zero 0 (sym z))
+ended S w b r why t v (passes m b′ x M y) e = absurd (let z : _≡_ {A = ℕ} 0 1 = cc in native.Mathlib.Nat.suc-ne-zero 0 (sym z))
+ended S w b r why t v (delivers m n b′ r′ x x′ M y) e = absurd (let z : _≡_ {A = ℕ} 0 1 = cc in native.Mathlib.Nat.suc-ne-zero 0 (sym z))
 
 packets-append : (ds es : List Delivery) → packets (ds ++ es) ≡ packets ds ++ packets es
 packets-append [] es = refl
@@ -107,26 +113,29 @@ next-word ds x d l e h =
     ∙ ap₂ (λ (a : List ℕ) (k : ℕ). a ++ drop k l) (sym (packets-append ds (x ∷ []))) (sym (add-one d))
 
 -- a Drain that has come to its end
-at-the-end : (m : ℕ) (ds : List Delivery) (w : List ℕ) (why : Stop) → afterTurns m ds (stopped w why) ≡ record { words = w; deliveries = ds; moves = m; stop = why }
+at-the-end : (ms : List NamedMove) (ds : List Delivery) (w : List ℕ) (why : Stop)
+    → afterTurns ms ds (stopped w why) ≡ record { words = w; moves = ms; deliveries = ds; stop = why }
 unfolding afterTurns stopped
-at-the-end m ds w why = λ i. record { words = w; deliveries = append-nil ds i; moves = add-zero m i; stop = why }
+at-the-end ms ds w why = λ i. record { words = w; moves = append-nil ms i; deliveries = append-nil ds i; stop = why }
 
 module _ (S : Shape) (tor : Torus S) (w₀ : List ℕ) (budget : ℕ) (l₀ : List ℕ) where
   -- a turn that passed a packet on
   pub so-far-passed : (w l : List ℕ) (m d : ℕ) → SoFar S w₀ budget l₀ w l m d → turnAnswer S w (budget - m) (length l₀ - d) ≡ Turn.Passed
       → SoFar S w₀ budget l₀ (turnWords S w (budget - m) (length l₀ - d)) l (m + 1) d
   so-far-passed w l m d f e =
-      let (b, eb, M, y) = passed S w (budget - m) (length l₀ - d) _ _ (by-turn S tor w (f .network) (budget - m) (length l₀ - d)) e in
+      let (k, b, eb, M, y) = passed S w (budget - m) (length l₀ - d) _ _ (by-turn S tor w (f .network) (budget - m) (length l₀ - d)) e in
       let left : b ≡ budget - (m + 1) = omega arith in
       let some : m + 1 ≤ budget = omega arith in
       record {
+        made = f .made ++ (k ∷ []);
         handed = f .handed;
         network = M;
         whole =
             f .whole
-            ∙ ap (afterTurns m (f .handed)) y
-            ∙ after-more m (f .handed) [] (drainFrom S b (length l₀ - d) (turnWords S w (budget - m) (length l₀ - d)))
-            ∙ ap₂ (λ (ds : List Delivery) (x : ℕ). afterTurns (m + 1) ds (drainFrom S x (length l₀ - d) (turnWords S w (budget - m) (length l₀ - d)))) (append-nil (f .handed)) left;
+            ∙ ap (afterTurns (f .made) (f .handed)) y
+            ∙ after-more (f .made) k (f .handed) [] (drainFrom S b (length l₀ - d) (turnWords S w (budget - m) (length l₀ - d)))
+            ∙ ap₂ (λ (ds : List Delivery) (x : ℕ). afterTurns (f .made ++ (k ∷ [])) ds (drainFrom S x (length l₀ - d) (turnWords S w (budget - m) (length l₀ - d)))) (append-nil (f .handed)) left;
+        moved = length-append (f .made) (k ∷ []) ∙ ap (λ (x : ℕ). x + 1) (f .moved);
         counted = f .counted;
         within = some;
         room = f .room;
@@ -146,13 +155,15 @@ module _ (S : Shape) (tor : Torus S) (w₀ : List ℕ) (budget : ℕ) (l₀ : Li
       let some : m + 1 ≤ budget = omega arith in
       let word : d + 1 ≤ length l₀ = omega arith in
       record {
+        made = f .made ++ (h .move ∷ []);
         handed = f .handed ++ (record { node = h .node; packet = p } ∷ []);
         network = h .network;
         whole =
             f .whole
-            ∙ ap (afterTurns m (f .handed)) (h .goes-on)
-            ∙ after-more m (f .handed) (record { node = h .node; packet = p } ∷ []) (drainFrom S (h .budget) (h .room) (turnWords S w (budget - m) (length l₀ - d)))
-            ∙ ap₂ (λ (x y : ℕ). afterTurns (m + 1) (f .handed ++ (record { node = h .node; packet = p } ∷ [])) (drainFrom S x y (turnWords S w (budget - m) (length l₀ - d)))) left free;
+            ∙ ap (afterTurns (f .made) (f .handed)) (h .goes-on)
+            ∙ after-more (f .made) (h .move) (f .handed) (record { node = h .node; packet = p } ∷ []) (drainFrom S (h .budget) (h .room) (turnWords S w (budget - m) (length l₀ - d)))
+            ∙ ap₂ (λ (x y : ℕ). afterTurns (f .made ++ (h .move ∷ [])) (f .handed ++ (record { node = h .node; packet = p } ∷ [])) (drainFrom S x y (turnWords S w (budget - m) (length l₀ - d)))) left free;
+        moved = length-append (f .made) (h .move ∷ []) ∙ ap (λ (x : ℕ). x + 1) (f .moved);
         counted = length-append (f .handed) (record { node = h .node; packet = p } ∷ []) ∙ ap (λ (x : ℕ). x + 1) (f .counted);
         within = some;
         room = word;
@@ -161,28 +172,28 @@ module _ (S : Shape) (tor : Torus S) (w₀ : List ℕ) (budget : ℕ) (l₀ : Li
 
   -- a turn that stopped: the whole Drain
   pub so-far-stopped : (w l : List ℕ) (m d : ℕ) (why : Stop) (f : SoFar S w₀ budget l₀ w l m d) → turnAnswer S w (budget - m) (length l₀ - d) ≡ Turn.Stopped why
-      → drainFrom S budget (length l₀) w₀ ≡ record { words = w; deliveries = f .handed; moves = m; stop = why }
+      → drainFrom S budget (length l₀) w₀ ≡ record { words = w; moves = f .made; deliveries = f .handed; stop = why }
   so-far-stopped w l m d why f e =
       f .whole
-      ∙ ap (afterTurns m (f .handed)) (ended S w (budget - m) (length l₀ - d) why _ _ (by-turn S tor w (f .network) (budget - m) (length l₀ - d)) e)
-      ∙ at-the-end m (f .handed) w why
+      ∙ ap (afterTurns (f .made) (f .handed)) (ended S w (budget - m) (length l₀ - d) why _ _ (by-turn S tor w (f .network) (budget - m) (length l₀ - d)) e)
+      ∙ at-the-end (f .made) (f .handed) w why
 
   pub so-far-end : (w l : List ℕ) (m d : ℕ) (why : Stop) → SoFar S w₀ budget l₀ w l m d → turnAnswer S w (budget - m) (length l₀ - d) ≡ Turn.Stopped why
       → DrainedTo S w₀ budget l₀ (Drained.Stopped m d why) w l
   so-far-end w l m d why f e =
       record {
+        made = f .made;
         handed = f .handed;
-        moves = m;
         why = why;
         whole = so-far-stopped w l m d why f e;
-        says = ap (λ (x : ℕ). Drained.Stopped m x why) (sym (f .counted));
+        says = ap₂ (λ (x y : ℕ). Drained.Stopped x y why) (sym (f .moved)) (sym (f .counted));
         writes = f .written ∙ ap (λ (x : ℕ). packets (f .handed) ++ drop x l₀) (sym (f .counted));
       }
 
   -- while a turn does not stop, some budget is left, and a ledger word where it delivered
   pub passed-budget : (w l : List ℕ) (m d : ℕ) → SoFar S w₀ budget l₀ w l m d → turnAnswer S w (budget - m) (length l₀ - d) ≡ Turn.Passed → m < budget
   passed-budget w l m d f e =
-      let (b, eb, M, y) = passed S w (budget - m) (length l₀ - d) _ _ (by-turn S tor w (f .network) (budget - m) (length l₀ - d)) e in
+      let (k, b, eb, M, y) = passed S w (budget - m) (length l₀ - d) _ _ (by-turn S tor w (f .network) (budget - m) (length l₀ - d)) e in
       omega arith
 
   pub delivered-budget : (w l : List ℕ) (m d p : ℕ) → SoFar S w₀ budget l₀ w l m d → turnAnswer S w (budget - m) (length l₀ - d) ≡ Turn.Delivered p

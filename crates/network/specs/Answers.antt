@@ -1,7 +1,7 @@
 -- What the answer of each call tells whose answer is an enum: its number, the refusal or 0, and each of its values, where the call is refused
 -- and where it is not. All of it is read by the definitions at the end of Calls.antt. A record for each call, with the law that the call's answer
 -- keeps it. Order: an answer by its refusal; Move; Credit; First; Drain. Assumes nothing.
-use mathlib.Core.Path.{_≡_, refl, _∙_}
+use mathlib.Core.Path.{_≡_, refl}
 use mathlib.Core.Bool.{Bool, true, false, cond}
 use mathlib.Core.List.{List, [], _∷_}
 use Prim.Native.Nat.{ℕ, zero, suc}
@@ -20,11 +20,11 @@ use Rattle.network.specs.Calls.{unlessRefused, moveAnswer, creditAnswer,
 use Rattle.network.specs.Calls.{movedNumber, movedPackets, creditNumber, creditSlots, foundNumber, foundMove, drainedNumber, drainedMoves, drainedDelivered, drainedStop}
 use Rattle.network.specs.FirstLaws.{Finds, nothing, named, first-finds}
 
--- an answer by its refusal: what is read of it where the call is refused and where it is not
-read : {A B : Type 0} (f : A → B) (refusal : ℕ) {after before : A} {told untold : B} → f after ≡ told → f before ≡ untold
+-- what is read of an answer, where the call is refused and where it is not
+pub by-refusal : {A B : Type 0} (f : A → B) (refusal : ℕ) {after before : A} {told untold : B} → f after ≡ told → f before ≡ untold
     → f (unlessRefused refusal after before) ≡ unlessRefused refusal told untold
-read f zero t u = t
-read f (suc k) t u = rw (ne-eqb (suc k) 0 (suc-ne-zero k)) u
+by-refusal f zero t u = t
+by-refusal f (suc k) t u = rw (ne-eqb (suc k) 0 (suc-ne-zero k)) u
 
 -- the number of an answer that is 0 where the call is not refused
 number-of : {A : Type 0} (f : A → ℕ) (refusal : ℕ) {after before : A} → f after ≡ 0 → f before ≡ refusal → f (unlessRefused refusal after before) ≡ refusal
@@ -41,7 +41,7 @@ unfolding moveAnswer movedNumber movedPackets
 move-tells w n q o =
     record {
       number = number-of movedNumber (moveRefusal w n q o) (no-number (eqb o deliver) _) refl;
-      packets = read movedPackets (moveRefusal w n q o) (if-delivered (eqb o deliver) _) refl;
+      packets = by-refusal movedPackets (moveRefusal w n q o) (if-delivered (eqb o deliver) _) refl;
     }
   where
     no-number : (b : Bool) (p : ℕ) → movedNumber (cond b (Moved.Delivered p) Moved.Passed) ≡ 0
@@ -62,7 +62,7 @@ unfolding creditAnswer creditNumber creditSlots
 credit-tells w n o =
     record {
       number = number-of creditNumber (creditRefusal w n o) refl refl;
-      slots = read creditSlots (creditRefusal w n o) refl refl;
+      slots = by-refusal creditSlots (creditRefusal w n o) refl refl;
     }
 
 -- First: the move that the search comes to, if it comes to one
@@ -75,7 +75,7 @@ unfolding firstAnswer foundNumber foundMove
 first-tells w =
     record {
       number = number-of foundNumber (networkRefusal w) (no-number (firstMove (shape w) w) (first-finds (shape w) w)) refl;
-      move = read foundMove (networkRefusal w) refl refl;
+      move = by-refusal foundMove (networkRefusal w) refl refl;
     }
   where
     no-number : {P : ℕ → ℕ → ℕ → Type 0} (f : Found) → Finds P f → foundNumber f ≡ 0
@@ -85,7 +85,7 @@ first-tells w =
 -- Drain: how many moves were made, how many packets were delivered, and why it stopped
 pub record DrainTells (w : List ℕ) (budget room : ℕ) (r : Drained) : Type 0 where
   pub number : drainedNumber r ≡ networkRefusal w
-  pub moves : drainedMoves r ≡ unlessRefused (networkRefusal w) (drained w budget room .moves) 0
+  pub moves : drainedMoves r ≡ unlessRefused (networkRefusal w) (length (drained w budget room .moves)) 0
   pub delivered : drainedDelivered r ≡ unlessRefused (networkRefusal w) (length (drained w budget room .deliveries)) 0
   pub stop : drainedStop r ≡ unlessRefused (networkRefusal w) (drained w budget room .stop ∷ []) []
 
@@ -94,7 +94,7 @@ unfolding drainAnswer drainedNumber drainedMoves drainedDelivered drainedStop
 drain-tells w budget room =
     record {
       number = number-of drainedNumber (networkRefusal w) refl refl;
-      moves = read drainedMoves (networkRefusal w) refl refl;
-      delivered = read drainedDelivered (networkRefusal w) refl refl;
-      stop = read drainedStop (networkRefusal w) refl refl;
+      moves = by-refusal drainedMoves (networkRefusal w) refl refl;
+      delivered = by-refusal drainedDelivered (networkRefusal w) refl refl;
+      stop = by-refusal drainedStop (networkRefusal w) refl refl;
     }

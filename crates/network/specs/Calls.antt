@@ -124,37 +124,44 @@ firstAnswer w = cond (eqb (networkRefusal w) 0) (firstMove (shape w) w) (Found.R
 
 -- Drain -------------------------------------------------------------------------------------------------------------------------------
 
+-- node, queue and output of a move
+pub record NamedMove : Type 0 where
+  pub node : ℕ
+  pub queue : ℕ
+  pub output : ℕ
+
 -- a packet word handed out, and the node of its move
 pub record Delivery : Type 0 where
   pub node : ℕ
   pub packet : ℕ
 
--- where moves made one after another have come to: the words, the packets handed out in order, the number of moves, why they stopped
+-- where moves made one after another have come to: the words, the moves and the packets handed out, both in order, and why they stopped
 pub record Progress : Type 0 where
   pub words : List ℕ
+  pub moves : List NamedMove
   pub deliveries : List Delivery
-  pub moves : ℕ
   pub stop : Stop
 
 unfoldable pub stopped : List ℕ → Stop → Progress
-stopped w why = record { words = w; deliveries = []; moves = 0; stop = why }
+stopped w why = record { words = w; moves = []; deliveries = []; stop = why }
 
 -- one move more, made first, with what it handed out
-unfoldable pub oneMore : List Delivery → Progress → Progress
-oneMore ds r = record { words = r .words; deliveries = ds ++ r .deliveries; moves = suc (r .moves); stop = r .stop }
+unfoldable pub oneMore : NamedMove → List Delivery → Progress → Progress
+oneMore m ds r = record { words = r .words; moves = m ∷ r .moves; deliveries = ds ++ r .deliveries; stop = r .stop }
 
 -- R132, full: a delivery is next and no ledger word is left. `room` is the number of ledger words left, and `on` goes on from there
 unfoldable pub deliverNext : Shape → List ℕ → ℕ → ℕ → ℕ → (ℕ → List ℕ → Progress) → Progress
 deliverNext S w n q zero on = stopped w Stop.Full
 deliverNext S w n q (suc room) on =
-    oneMore (record { node = n; packet = head (held S w n q) } ∷ []) (on room (afterMove S w n q deliver))
+    oneMore (record { node = n; queue = q; output = deliver }) (record { node = n; packet = head (held S w n q) } ∷ [])
+    (on room (afterMove S w n q deliver))
 
 -- R127: the move that First names, and on. While anything is held it names one, so the first two cases do not come up (run/specs/Stops.antt)
 unfoldable pub moveNext : Shape → List ℕ → ℕ → Found → (ℕ → List ℕ → Progress) → Progress
 moveNext S w room (Found.Refused r) on = stopped w Stop.Emptied
 moveNext S w room Found.Nothing on = stopped w Stop.Emptied
 moveNext S w room (Found.Move n q o) on =
-    cond (eqb o deliver) (deliverNext S w n q room on) (oneMore [] (on room (afterMove S w n q o)))
+    cond (eqb o deliver) (deliverNext S w n q room on) (oneMore (record { node = n; queue = q; output = o }) [] (on room (afterMove S w n q o)))
 
 -- R130 to R133: the stops, tested in this order before every move: emptied, spent, full
 unfoldable pub drainFrom : Shape → ℕ → ℕ → List ℕ → Progress
@@ -180,7 +187,7 @@ drainLedger w budget ledger = unlessRefused (networkRefusal w) (written (drained
 unfoldable pub drainAnswer : List ℕ → ℕ → ℕ → Drained
 drainAnswer w budget room =
     cond (eqb (networkRefusal w) 0)
-    (Drained.Stopped (drained w budget room .moves) (length (drained w budget room .deliveries)) (drained w budget room .stop))
+    (Drained.Stopped (length (drained w budget room .moves)) (length (drained w budget room .deliveries)) (drained w budget room .stop))
     (Drained.Refused (networkRefusal w))
 
 -- R321, the number and the values of each answer that is an enum, case by case: the refusal, or 0; and on a refusal no packet, no move, no stop and
@@ -209,12 +216,6 @@ unfoldable pub foundNumber : Found → ℕ
 foundNumber (Found.Refused r) = r
 foundNumber Found.Nothing = 0
 foundNumber (Found.Move n q o) = 0
-
--- node, queue and output of a move, as an answer names it
-pub record NamedMove : Type 0 where
-  pub node : ℕ
-  pub queue : ℕ
-  pub output : ℕ
 
 -- the move that is named, if one is
 unfoldable pub foundMove : Found → List NamedMove

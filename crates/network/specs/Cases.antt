@@ -1,7 +1,7 @@
 -- The kept cases K1 to K12 as rows of one theorem about the definitions that the contracts cite. A row like `k5` is computed from them; where the
 -- case is meant of any network, a row like `k5-every` beside it says so of each one (K2 and K8 say it at once).
--- Order: how the rows' networks are written down; what the rows about every network speak of; the rows; what proves those about every network;
--- the theorem. Assumes nothing.
+-- Order: how the rows' networks are written down; what the rows about every network speak of; the rows; what proves them; the theorem.
+-- Assumes nothing.
 use mathlib.Core.Path.{_≡_, refl, ap, ap₂, _∙_}
 use mathlib.Core.Logic.{_⊎_, inl, inr, _≢_}
 use mathlib.Core.Bool.{Bool, true, false, not, cond, _&&_, _||_}
@@ -26,7 +26,7 @@ use Rattle.network.specs.Packet.{signed, byte, place, packetWord, tag, d
 use Rattle.network.specs.Torus.{coordinate, stride, along, neighbour, movedBelow, movedBy}
 use Rattle.network.specs.Layout.{headerWords, shape, accepted, delivered, movesMade, raised, acceptedAt, queueLength, nodeWords, queueStart, queueEnd, need, queueWords, queuePart, countOf, packetsOf, unusedOf, held, putQueue, total}
 use Rattle.network.specs.Check.{rightPlace, isQueueOf, reach, nearEnough, opposite, rightSign, lowerDone, packetFits, queueFits, queuesFit, hasRoom, ringHasRoom, ringsHaveRoom, packetsHeld, workLeft, countersFit, isNetwork}
-use Rattle.network.specs.Routes.{deliver, inOrder, without, incoming, incomingFirst, headings, routes, target, freeSlots, slotsNeeded}
+use Rattle.network.specs.Routes.{deliver, inOrder, without, incoming, incomingFirst, headings, routes, target, freeSlots, entersRing, slotsNeeded}
 use Rattle.network.specs.Refusals.{refuse, noRoute, noSlot, noBubble, networkRefusal, makeRefusal, offerRules, offerRefusal, head, flowRules, moveRules, moveRefusal}
 use Rattle.network.specs.Calls.{Progress, shapeOf, emptyNetwork, makeWords, offered, afterOffer, offerWords, headLeaves, packetArrives, afterMove, firstOutput, firstInQueue, orElse, search, firstInNode, firstMove, firstAnswer, stopped, oneMore, deliverNext, moveNext, drainFrom, drained, drainAnswer}
 use Rattle.network.specs.TorusLaws.{along-lt, inRange-torus}
@@ -155,16 +155,19 @@ pub record KeptCases : Type 0 where
   pub k3 : (offered four-by-three 0 6 7 ≡ 30065164801) × (held four-by-three (offerWords (empty 4 3 2 1 1) 0 6 7) 0 0 ≡ 30065164801 ∷ [])
   -- from node 0 to node 11, both offsets negative
   pub k4 : (offered four-by-three 0 11 0 ≡ 786431) × (held four-by-three (offerWords (empty 4 3 2 1 1) 0 11 0) 0 0 ≡ 786431 ∷ [])
-  -- the rows K5 to K7 go through these queues, for x+, x−, y+ and y−: the ring's own, then the injection queue, the adaptive queues but that of
-  -- the opposite direction, and for y the escape queues of x
-  pub entered-from : map (λ d. sources d) (inOrder 0 directions)
-      ≡ (5 ∷ 0 ∷ 1 ∷ 3 ∷ 4 ∷ []) ∷ (6 ∷ 0 ∷ 2 ∷ 3 ∷ 4 ∷ []) ∷ (7 ∷ 0 ∷ 1 ∷ 2 ∷ 3 ∷ 5 ∷ 6 ∷ []) ∷ (8 ∷ 0 ∷ 1 ∷ 2 ∷ 4 ∷ 5 ∷ 6 ∷ []) ∷ []
+  -- the rows K5 to K7 go through these queues, for x+, x−, y+ and y− (directions 0 to 3): the ring's own, then the injection queue, the adaptive
+  -- queues but that of the opposite direction, and for y the escape queues of x, from which a packet turns
+  pub k5-sources : (sources 0 ≡ 5 ∷ 0 ∷ 1 ∷ 3 ∷ 4 ∷ [])
+      × (sources 1 ≡ 6 ∷ 0 ∷ 2 ∷ 3 ∷ 4 ∷ [])
+      × (sources 2 ≡ 7 ∷ 0 ∷ 1 ∷ 2 ∷ 3 ∷ 5 ∷ 6 ∷ [])
+      × (sources 3 ≡ 8 ∷ 0 ∷ 1 ∷ 2 ∷ 4 ∷ 5 ∷ 6 ∷ [])
   -- one packet ahead: the ring's own queue may go on, every other one lacks the bubble
   pub k5 : Entries 0 1 (0 ∷ 12 ∷ 12 ∷ 12 ∷ 12 ∷ [])
       × Entries 1 1 (0 ∷ 12 ∷ 12 ∷ 12 ∷ 12 ∷ [])
       × Entries 2 1 (0 ∷ 12 ∷ 12 ∷ 12 ∷ 12 ∷ 12 ∷ 12 ∷ [])
       × Entries 3 1 (0 ∷ 12 ∷ 12 ∷ 12 ∷ 12 ∷ 12 ∷ 12 ∷ [])
-  pub k5-every : (w : List ℕ) (n q d : ℕ) → Entering w n q d → ahead w n d ≡ 1 → moveRefusal w n q (escapeQueue d) ≡ cond (eqb q (escapeQueue d)) 0 12
+  pub k5-every : (w : List ℕ) (n q d : ℕ) → Entering w n q d → ahead w n d ≡ 1
+      → moveRefusal w n q (escapeQueue d) ≡ cond (eqb q (escapeQueue d)) 0 12
   -- two ahead: no slot, wherever the packet stands
   pub k6 : Entries 0 2 (11 ∷ 11 ∷ 11 ∷ 11 ∷ 11 ∷ [])
       × Entries 1 2 (11 ∷ 11 ∷ 11 ∷ 11 ∷ 11 ∷ [])
@@ -187,7 +190,9 @@ pub record KeptCases : Type 0 where
       → (offset 0 (headOf w n q) ≡ pos 1 → moveRefusal w n q 0 ≡ 10)
       × (offset 0 (headOf w n q) ≡ pos 0 → offset 1 (headOf w n q) ≡ pos 0 → moveRefusal w n q 5 ≡ 10)
   -- no move is made without a budget, and nothing held goes before nothing left to spend
-  pub k10 : (room : ℕ) → (drainAnswer (empty 4 4 2 1 1) 0 room ≡ Drained.Stopped 0 0 Stop.Emptied) × (drainAnswer (crossing 0 0) 0 room ≡ Drained.Stopped 0 0 Stop.Spent)
+  pub k10 : (room : ℕ)
+      → (drainAnswer (empty 4 4 2 1 1) 0 room ≡ Drained.Stopped 0 0 Stop.Emptied)
+      × (drainAnswer (crossing 0 0) 0 room ≡ Drained.Stopped 0 0 Stop.Spent)
   pub k10-every : (w : List ℕ) (room : ℕ) → networkRefusal w ≡ 0
       → drainAnswer w 0 room ≡ Drained.Stopped 0 0 (cond (eqb (packetsHeld (shape w) w) 0) Stop.Emptied Stop.Spent)
   -- a ring of four slots: full it is refused, with one slot free it passes; a hop left in an x queue of two columns is refused
@@ -216,7 +221,8 @@ by-rules w n q o refusal e r = elseBy-zero (networkRefusal w) (moveRules (shape 
 all-by-rules : (w : List ℕ) (n o : ℕ) (qs : List ℕ) → networkRefusal w ≡ 0
     → map (λ q. moveRefusal w n q o) qs ≡ map (λ q. moveRules (shape w) w n q o) qs
 all-by-rules w n o [] e = refl
-all-by-rules w n o (q ∷ qs) e = ap₂ (λ (r : ℕ) (rs : List ℕ). r ∷ rs) (by-rules w n q o (moveRules (shape w) w n q o) e refl) (all-by-rules w n o qs e)
+all-by-rules w n o (q ∷ qs) e =
+    ap₂ (λ (r : ℕ) (rs : List ℕ). r ∷ rs) (by-rules w n q o (moveRules (shape w) w n q o) e refl) (all-by-rules w n o qs e)
 
 entries : (d count : ℕ) (refusals : List ℕ) → networkRefusal (crossing d count) ≡ 0
     → map (λ q. moveRules (shape (crossing d count)) (crossing d count) 0 q (escapeQueue d)) (sources d) ≡ refusals → Entries d count refusals
@@ -237,7 +243,7 @@ module _ (w : List ℕ) (n q d : ℕ) (s : Entering w n q d) where
   free count e = ap₂ (λ (a b : ℕ). a - b) (escape-capacity (shape w) d ∙ s .two-slots) e
 
   needed : slotsNeeded q (escapeQueue d) ≡ cond (eqb q (escapeQueue d)) 1 2
-  unfolding slotsNeeded
+  unfolding entersRing slotsNeeded
   needed = rw (lt-ltb directions (escapeQueue d) (omega arith)) (go (eqb q (escapeQueue d)))
     where
       go : (own : Bool) → _≡_ {A = ℕ} (cond (true && not own) 2 1) (cond own 1 2)
@@ -308,7 +314,8 @@ not-delivered q p e t = go (route-of q p 0 t)
         omega arith
     go (inr r) = way (r .by)
       where
-        way : (0 ≡ adaptiveQueue (heading (r .dimension) p)) ⊎ ((0 ≡ escapeQueue (heading (r .dimension) p)) × ((j : ℕ) → j < r .dimension → distance j p ≡ 0)) → ⊥
+        way : (0 ≡ adaptiveQueue (heading (r .dimension) p))
+            ⊎ ((0 ≡ escapeQueue (heading (r .dimension) p)) × ((j : ℕ) → j < r .dimension → distance j p ≡ 0)) → ⊥
         way (inl z) = omega arith
         way (inr (z, l)) = omega arith
 
@@ -335,7 +342,7 @@ without-budget w room e = rw (eq-eqb (networkRefusal w) 0 e) (go (eqb (packetsHe
     at-once none = cond none (stopped w Stop.Emptied) (stopped w Stop.Spent)
 
     go : (none : Bool)
-        → Drained.Stopped (at-once none .moves) (length (at-once none .deliveries)) (at-once none .stop) ≡ Drained.Stopped 0 0 (cond none Stop.Emptied Stop.Spent)
+        → Drained.Stopped (length (at-once none .moves)) (length (at-once none .deliveries)) (at-once none .stop) ≡ Drained.Stopped 0 0 (cond none Stop.Emptied Stop.Spent)
     go true = refl
     go false = refl
 
@@ -418,14 +425,14 @@ module _ (w : List ℕ) (d : ℕ) (r : RingsOfTwo w d) where
       ring e n he hn (no ne) = others e n he hn ne
 
 pub keptCases : KeptCases
-unfolding next oneHop chosen outside sources inEach crossing allBelow someBelow allOf elem sumBelow sumOf product digit putDigit turn size within sizesInRange nodes capacity signed byte place packetWord tag destination offset withOffset distance forward backward hops heading hopsLeft work shrunk hop shorterWay coordinate stride along neighbour movedBelow movedBy shape accepted delivered movesMade raised queueLength nodeWords queueStart queueEnd need queueWords queuePart countOf packetsOf unusedOf held putQueue total rightPlace isQueueOf reach nearEnough opposite rightSign lowerDone packetFits queueFits queuesFit hasRoom ringHasRoom ringsHaveRoom packetsHeld workLeft countersFit isNetwork inOrder without incoming incomingFirst headings routes target freeSlots slotsNeeded networkRefusal makeRefusal offerRules offerRefusal head flowRules moveRules moveRefusal shapeOf emptyNetwork makeWords offered afterOffer offerWords headLeaves packetArrives afterMove firstOutput firstInQueue orElse search firstInNode firstMove firstAnswer stopped oneMore deliverNext moveNext drainFrom drained drainAnswer
+unfolding next oneHop chosen outside sources inEach crossing allBelow someBelow allOf elem sumBelow sumOf product digit putDigit turn size within sizesInRange nodes capacity signed byte place packetWord tag destination offset withOffset distance forward backward hops heading hopsLeft work shrunk hop shorterWay coordinate stride along neighbour movedBelow movedBy shape accepted delivered movesMade raised queueLength nodeWords queueStart queueEnd need queueWords queuePart countOf packetsOf unusedOf held putQueue total rightPlace isQueueOf reach nearEnough opposite rightSign lowerDone packetFits queueFits queuesFit hasRoom ringHasRoom ringsHaveRoom packetsHeld workLeft countersFit isNetwork inOrder without incoming incomingFirst headings routes target freeSlots entersRing slotsNeeded networkRefusal makeRefusal offerRules offerRefusal head flowRules moveRules moveRefusal shapeOf emptyNetwork makeWords offered afterOffer offerWords headLeaves packetArrives afterMove firstOutput firstInQueue orElse search firstInNode firstMove firstAnswer stopped oneMore deliverNext moveNext drainFrom drained drainAnswer
 keptCases =
     record {
       k1 = refl;
       k2 = (refl, (λ w e. rw e), (λ w e. rw e), λ w e. too-short largest w refl (omega arith) (let l : need largest ≡ 20744 = refl in omega arith));
       k3 = (refl, refl);
       k4 = (refl, refl);
-      entered-from = refl;
+      k5-sources = (refl, refl, refl, refl);
       k5 = (entries 0 1 _ refl refl, entries 1 1 _ refl refl, entries 2 1 _ refl refl, entries 3 1 _ refl refl);
       k5-every = one-ahead;
       k6 = (entries 0 2 _ refl refl, entries 1 2 _ refl refl, entries 2 2 _ refl refl, entries 3 2 _ refl refl);

@@ -142,7 +142,7 @@ place-same (x ∷ os) o p t e = go (ℕ-discrete o x) (ℕ-discrete p x) (or-e (
 
 -- the theorem -------------------------------------------------------------------------------------------------------------------------
 
-abbrev Allowed : List ℕ → NamedMove → Type 0
+abbrev pub Allowed : List ℕ → NamedMove → Type 0
 Allowed w m = Permitted (shape w) w (m .node) (m .queue) (m .output)
 
 same-move : (a b : NamedMove) → a .node ≡ b .node → a .queue ≡ b .queue → a .output ≡ b .output → a ≡ b
@@ -203,7 +203,7 @@ module _ (w : List ℕ) where
       let (z, r) = neither (networkRefusal w) (moveRules (shape w) w (m .node) (m .queue) (m .output)) p in
       (z, permitted-of (shape w) w (m .node) (m .queue) (m .output) r)
 
-  permits : (m : NamedMove) → networkRefusal w ≡ 0 → Allowed w m → Permits w m
+  pub permits : (m : NamedMove) → networkRefusal w ≡ 0 → Allowed w m → Permits w m
   unfolding moveRefusal
   permits m z P =
       elseBy-zero (networkRefusal w) (moveRules (shape w) w (m .node) (m .queue) (m .output)) z

@@ -1,5 +1,5 @@
 -- What a Drain cannot go beyond, whatever the words are: its moves are at most the budget, its deliveries at most the room in the ledger.
--- Order: one move more; the next move; a whole Drain. Assumes nothing.
+-- Order: one move more; the next move; a whole Drain; its answer. Assumes nothing.
 use mathlib.Core.Path.{_≡_}
 use mathlib.Core.Bool.{Bool, true, false, cond}
 use mathlib.Core.List.{List, [], _∷_, _++_}
@@ -9,25 +9,26 @@ use lib.Dec.{eqb}
 use lib.ListN.{length, length-append}
 use Rattle.network.specs.declared.Found.{Found}
 use Rattle.network.specs.declared.Stop.{Stop}
+use Rattle.network.specs.declared.Drained.{Drained}
 use Rattle.network.specs.Sizes.{Shape}
-use Rattle.network.specs.Layout.{held}
+use Rattle.network.specs.Layout.{shape, held}
 use Rattle.network.specs.Check.{packetsHeld}
 use Rattle.network.specs.Routes.{deliver}
-use Rattle.network.specs.Refusals.{head}
-use Rattle.network.specs.Calls.{Delivery, Progress, afterMove, firstMove, stopped, oneMore, deliverNext, moveNext, drainFrom}
+use Rattle.network.specs.Refusals.{networkRefusal, head}
+use Rattle.network.specs.Calls.{NamedMove, Delivery, Progress, afterMove, firstMove, stopped, oneMore, deliverNext, moveNext, drainFrom, drained, drainAnswer, drainedDelivered}
 
 pub record Within (budget room : ℕ) (r : Progress) : Type 0 where
-  pub few-moves : r .moves ≤ budget
+  pub few-moves : length (r .moves) ≤ budget
   pub few-deliveries : length (r .deliveries) ≤ room
 
 within-stopped : (budget room : ℕ) (w : List ℕ) (why : Stop) → Within budget room (stopped w why)
 unfolding stopped
 within-stopped budget room w why = record { few-moves = omega arith; few-deliveries = omega arith }
 
-within-more : (budget left room : ℕ) (ds : List Delivery) (r : Progress) → length ds + left ≤ room → Within budget left r → Within (suc budget) room (oneMore ds r)
+within-more : (budget left room : ℕ) (m : NamedMove) (ds : List Delivery) (r : Progress) → length ds + left ≤ room → Within budget left r → Within (suc budget) room (oneMore m ds r)
 unfolding oneMore
-within-more budget left room ds r e h =
-    let m = h .few-moves in
+within-more budget left room m ds r e h =
+    let k = h .few-moves in
     let d = h .few-deliveries in
     let l : length (ds ++ r .deliveries) ≡ length ds + length (r .deliveries) = length-append ds (r .deliveries) in
     record { few-moves = omega arith; few-deliveries = omega arith }
@@ -37,7 +38,7 @@ module _ (S : Shape) (w : List ℕ) (budget : ℕ) (on : ℕ → List ℕ → Pr
   unfolding deliverNext
   within-delivery n q zero = within-stopped (suc budget) zero w Stop.Full
   within-delivery n q (suc room) =
-      within-more budget room (suc room) (record { node = n; packet = head (held S w n q) } ∷ []) (on room (afterMove S w n q deliver)) (omega arith)
+      within-more budget room (suc room) (record { node = n; queue = q; output = deliver }) (record { node = n; packet = head (held S w n q) } ∷ []) (on room (afterMove S w n q deliver)) (omega arith)
       (rec room (afterMove S w n q deliver))
 
   within-next : (room : ℕ) (f : Found) → Within (suc budget) room (moveNext S w room f on)
@@ -46,9 +47,9 @@ module _ (S : Shape) (w : List ℕ) (budget : ℕ) (on : ℕ → List ℕ → Pr
   within-next room Found.Nothing = within-stopped (suc budget) room w Stop.Emptied
   within-next room (Found.Move n q o) = go (eqb o deliver)
     where
-      go : (t : Bool) → Within (suc budget) room (cond t (deliverNext S w n q room on) (oneMore [] (on room (afterMove S w n q o))))
+      go : (t : Bool) → Within (suc budget) room (cond t (deliverNext S w n q room on) (oneMore (record { node = n; queue = q; output = o }) [] (on room (afterMove S w n q o))))
       go true = within-delivery n q room
-      go false = within-more budget room room [] (on room (afterMove S w n q o)) (omega arith) (rec room (afterMove S w n q o))
+      go false = within-more budget room room (record { node = n; queue = q; output = o }) [] (on room (afterMove S w n q o)) (omega arith) (rec room (afterMove S w n q o))
 
 pub drain-within : (S : Shape) (budget room : ℕ) (w : List ℕ) → Within budget room (drainFrom S budget room w)
 unfolding drainFrom
@@ -64,3 +65,16 @@ drain-within S (suc budget) room w =
         → Within (suc budget) room (cond t (stopped w Stop.Emptied) (moveNext S w room (firstMove S w) (λ room′ w′. drainFrom S budget room′ w′)))
     go true h = within-stopped (suc budget) room w Stop.Emptied
     go false h = h
+
+-- what a Drain answers, refused or not
+pub delivered-within : (w : List ℕ) (budget room : ℕ) → drainedDelivered (drainAnswer w budget room) ≤ room
+unfolding drainAnswer drainedDelivered drained
+delivered-within w budget room = go (eqb (networkRefusal w) 0)
+  where
+    r : Progress
+    r = drainFrom (shape w) budget room w
+
+    go : (b : Bool)
+        → drainedDelivered (cond b (Drained.Stopped (length (r .moves)) (length (r .deliveries)) (r .stop)) (Drained.Refused (networkRefusal w))) ≤ room
+    go true = drain-within (shape w) budget room w .few-deliveries
+    go false = omega arith

@@ -16,7 +16,7 @@ use Rattle.network.specs.Sizes.{Shape, sizesInRange, nodes, queues, isEs
 use Rattle.network.specs.Layout.{shape, headerWords, need, held}
 use Rattle.network.specs.Check.{isNetwork}
 use Rattle.network.specs.CheckLaws.{Network, network-of, network-by}
-use Rattle.network.specs.Routes.{routes, deliver, freeSlots, slotsNeeded}
+use Rattle.network.specs.Routes.{routes, deliver, freeSlots, entersRing, slotsNeeded}
 use Rattle.network.specs.Refusals.{refuse, elseBy, networkRefusal, head, flowRules, moveRules, moveRefusal, shortStore, wrongSize, noNetwork, noSuchNode, noSuchQueue, noSuchOutput, queueEmpty, noRoute, noSlot, noBubble}
 
 -- a test that would refuse by k + 1 did not apply, and the later ones say 0
@@ -82,7 +82,7 @@ flow-of S w n q o e ne =
 
 pub needed-pos : (q o : ℕ) → 0 < slotsNeeded q o
 unfolding slotsNeeded
-needed-pos q o = go (isEscape o && not (eqb q o))
+needed-pos q o = go (entersRing q o)
   where
     go : (b : Bool) → 0 < cond b 2 1
     go true = omega arith

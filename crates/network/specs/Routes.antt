@@ -51,7 +51,11 @@ target S n o = neighbour S (directionOf o) n
 unfoldable pub freeSlots : Shape → List ℕ → ℕ → ℕ → ℕ
 freeSlots S w n o = capacity S o - length (held S w (target S n o) o)
 
--- R150 to R152: two for whoever enters an escape ring; one along the ring, where the head's queue has the output's number, and one into an
--- adaptive queue
+-- R151, R152: a head that goes into an escape queue enters its ring, unless it stands in the escape queue of that direction: there its queue has the
+-- output's number, and it travels in the ring already
+unfoldable pub entersRing : ℕ → ℕ → Bool
+entersRing q o = isEscape o && not (eqb q o)
+
+-- R150 to R152: two free slots for whoever enters a ring, else one
 unfoldable pub slotsNeeded : ℕ → ℕ → ℕ
-slotsNeeded q o = cond (isEscape o && not (eqb q o)) 2 1
+slotsNeeded q o = cond (entersRing q o) 2 1

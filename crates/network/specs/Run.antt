@@ -14,7 +14,8 @@ use Rattle.network.specs.Packet.{label, destination}
 use Rattle.network.specs.Layout.{shape, need, total, delivered, movesMade}
 use Rattle.network.specs.Check.{packetsHeld, workLeft, ringHasRoom}
 use Rattle.network.specs.Refusals.{networkRefusal, moveRefusal, head}
-use Rattle.network.specs.Calls.{Delivery, moveWords, moveAnswer, movedPackets, drained, drainWords, drainLedger, drainAnswer, drainedMoves, drainedDelivered}
+use Rattle.network.specs.Choices.{Permits}
+use Rattle.network.specs.Calls.{unlessRefused, NamedMove, Delivery, moveWords, moveAnswer, movedNumber, movedPackets, drained, drainWords, drainLedger, drainAnswer, drainedMoves, drainedDelivered}
 
 -- R220, R221: a Move's node, queue and output; a Drain's budget, and its ledger, which is no part of the network's words
 pub data Call : Type 0 where
@@ -27,11 +28,13 @@ pub record Ledger : Type 0 where
   pub left : List ℕ
   pub written : ℕ
 
--- the words as they are left, what was handed out and where, in order, the number of moves made, and the ledgers of the Drains
+-- the words as they are left, the moves made and what was handed out and where, both in order, how many moves the calls' answers tell of, and the
+-- ledgers of the Drains
 pub record Outcome : Type 0 where
   pub words : List ℕ
+  pub moves : List NamedMove
+  pub told : ℕ
   pub handedOut : List Delivery
-  pub moves : ℕ
   pub ledgers : List Ledger
 
 -- R227: packet words, each beside the node of the move that gave it
@@ -53,28 +56,36 @@ unfoldable pub outcome : Call → List ℕ → Outcome
 outcome (move n q o) w =
     record {
       words = moveWords w n q o;
+      moves = unlessRefused (moveRefusal w n q o) (record { node = n; queue = q; output = o } ∷ []) [];
+      told = unlessRefused (movedNumber (moveAnswer w n q o)) 1 0;
       handedOut = map (λ p. record { node = n; packet = p }) (movedPackets (moveAnswer w n q o));
-      moves = cond (eqb (moveRefusal w n q o) 0) 1 0;
       ledgers = [];
     }
 outcome (drain budget ledger) w =
     record {
       words = drainWords w budget (length ledger);
+      moves = unlessRefused (networkRefusal w) (drained w budget (length ledger) .moves) [];
+      told = drainedMoves (drainAnswer w budget (length ledger));
       handedOut = atNodes (map (λ d. d .node) (drained w budget (length ledger) .deliveries)) (wordsWritten (ledgerOf w budget ledger));
-      moves = drainedMoves (drainAnswer w budget (length ledger));
       ledgers = ledgerOf w budget ledger ∷ [];
     }
 
 -- R215: every call is lent the words as the one before it left them
 unfoldable pub run : List Call → List ℕ → Outcome
-run [] w = record { words = w; handedOut = []; moves = 0; ledgers = [] }
+run [] w = record { words = w; moves = []; told = 0; handedOut = []; ledgers = [] }
 run (c ∷ calls) w =
     record {
       words = run calls (outcome c w .words) .words;
+      moves = outcome c w .moves ++ run calls (outcome c w .words) .moves;
+      told = outcome c w .told + run calls (outcome c w .words) .told;
       handedOut = outcome c w .handedOut ++ run calls (outcome c w .words) .handedOut;
-      moves = outcome c w .moves + run calls (outcome c w .words) .moves;
       ledgers = outcome c w .ledgers ++ run calls (outcome c w .words) .ledgers;
     }
+
+-- R226: moves made one after the other, each permitted by then, lead from words to words by what Move does
+unfoldable pub Leads : List ℕ → List NamedMove → List ℕ → Type 0
+Leads w [] v = w ≡ v
+Leads w (m ∷ ms) v = Permits w m × Leads (moveWords w (m .node) (m .queue) (m .output)) ms v
 
 -- the packets of one label among those held, and among those handed out
 unfoldable pub isLabelled : ℕ → ℕ → ℕ
@@ -113,17 +124,20 @@ pub record AfterRun (w : List ℕ) (r : Outcome) : Type 0 where
   pub handed-out-at-home : T (allOf atHome (r .handedOut))
   -- R232, of every label
   pub none-lost-or-doubled : (l : ℕ) → handedWith l (r .handedOut) + heldWith l (shape w) (r .words) ≡ heldWith l (shape w) w
+  -- R225: the moves are as many as the answers tell of; R226: and they lead to the words as they are
+  pub moves-told : r .told ≡ length (r .moves)
+  pub one-by-one : Leads w (r .moves) (r .words)
   -- R233
-  pub moves-and-work : r .moves + workLeft (shape w) (r .words) ≡ workLeft (shape w) w
+  pub moves-and-work : length (r .moves) + workLeft (shape w) (r .words) ≡ workLeft (shape w) w
   -- R234, R235: the header counts the run's moves and the words handed out
-  pub moves-made : movesMade (r .words) ≡ movesMade w + r .moves
+  pub moves-made : movesMade (r .words) ≡ movesMade w + length (r .moves)
   pub deliveries-made : delivered (r .words) ≡ delivered w + length (r .handedOut)
   -- R236, R237, R214: still a network, which can go on, with room in every ring
   pub still-a-network : networkRefusal (r .words) ≡ 0
   pub goes-on : packetsHeld (shape w) (r .words) ≢ 0 → SomeMove (r .words)
   pub rings-have-room : (d n : ℕ) → d < directions → n < nodes (shape w) → T (ringHasRoom (shape w) (r .words) d n)
   -- R212
-  pub emptied-exactly : (packetsHeld (shape w) (r .words) ≡ 0) ↔ (r .moves ≡ workLeft (shape w) w)
+  pub emptied-exactly : (packetsHeld (shape w) (r .words) ≡ 0) ↔ (length (r .moves) ≡ workLeft (shape w) w)
   -- R239: sizes, length and what lies behind the last node are those of the start
   pub same-shape : shape (r .words) ≡ shape w
   pub same-length : length (r .words) ≡ length w

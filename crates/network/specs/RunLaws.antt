@@ -1,5 +1,5 @@
 -- Laws of Run.antt about the ledgers. Order: words beside the nodes of their moves; what a Drain writes; what is handed out; the ledger afterwards;
--- the ledgers of a run.
+-- the ledgers of a run; moves that lead from words to words.
 -- Assumes nothing.
 use mathlib.Core.Path.{_≡_, refl, ap, _∙_}
 use mathlib.Core.Logic.{_≢_}
@@ -11,10 +11,11 @@ use borrow.Author.Tests.{eq-eqb, ne-eqb}
 use lib.ListN.{length, take, drop, length-append, length-drop, length-map}
 use lib.Seq.{take-at, drop-at}
 use Rattle.network.specs.Layout.{shape}
-use Rattle.network.specs.Refusals.{networkRefusal, head}
-use Rattle.network.specs.Calls.{Delivery, drained, drainLedger, drainAnswer, drainedDelivered}
+use Rattle.network.specs.Refusals.{moveRefusal, networkRefusal, head}
+use Rattle.network.specs.Calls.{NamedMove, afterMove, moveWords, Delivery, drained, drainLedger, drainAnswer, drainedDelivered}
 use Rattle.network.specs.DrainLaws.{drain-within}
-use Rattle.network.specs.Run.{Call, move, drain, outcome, run, Ledger, atNodes, ledgerOf, wordsWritten, LedgerKept, AllKept}
+use Rattle.network.specs.Choices.{Permits}
+use Rattle.network.specs.Run.{Leads, Call, move, drain, outcome, run, Ledger, atNodes, ledgerOf, wordsWritten, LedgerKept, AllKept}
 
 -- the nodes and the words of deliveries, put beside each other again
 atNodes-own : (ds : List Delivery) → atNodes (map (λ d. d .node) ds) (map (λ d. d .packet) ds) ≡ ds
@@ -87,3 +88,17 @@ pub run-kept : (calls : List Call) (w : List ℕ) → AllKept (run calls w .ledg
 unfolding run AllKept
 run-kept [] w = tt
 run-kept (c ∷ calls) w = kept-append (outcome c w .ledgers) (run calls (outcome c w .words) .ledgers) (call-kept c w) (run-kept calls (outcome c w .words))
+
+-- moves that lead from words to words
+pub leads-none : (w : List ℕ) → Leads w [] w
+unfolding Leads
+leads-none w = refl
+
+pub leads-one : (w : List ℕ) (m : NamedMove) → Permits w m → Leads w (m ∷ []) (afterMove (shape w) w (m .node) (m .queue) (m .output))
+unfolding Leads moveWords
+leads-one w m p = (p, rw (eq-eqb (moveRefusal w (m .node) (m .queue) (m .output)) 0 p))
+
+pub leads-append : (u w v : List ℕ) (ms ns : List NamedMove) → Leads u ms w → Leads w ns v → Leads u (ms ++ ns) v
+unfolding Leads
+leads-append u w v [] ns e b = rw e b
+leads-append u w v (m ∷ ms) ns a b = (a .0, leads-append (moveWords u (m .node) (m .queue) (m .output)) w v ms ns (a .1) b)

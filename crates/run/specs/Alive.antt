@@ -24,7 +24,7 @@ use Rattle.network.specs.Layout.{held}
 use Rattle.network.specs.LayoutLaws.{some-held}
 use Rattle.network.specs.Check.{packetFits, packetsHeld, opposite}
 use Rattle.network.specs.CheckLaws.{PacketFits, packet-of, Network, both-zero}
-use Rattle.network.specs.Routes.{routes, deliver, target, slotsNeeded, freeSlots}
+use Rattle.network.specs.Routes.{routes, deliver, target, entersRing, slotsNeeded, freeSlots}
 use Rattle.network.specs.RoutesLaws.{EscapeRoute, escape-route, arrived-route}
 use Rattle.network.specs.Refusals.{head}
 use Rattle.network.specs.RefusalLaws.{Permitted}
@@ -117,7 +117,7 @@ one-more S d i n tor hd = along-add S d 1 i n tor hd ∙ ap (λ (x : ℕ). along
 -- along its own ring a packet needs one slot
 fits-one : (S : Shape) (w : List ℕ) (n d : ℕ) → d < directions → Room S w (neighbour S d n) (escapeQueue d)
     → slotsNeeded (escapeQueue d) (escapeQueue d) ≤ freeSlots S w n (escapeQueue d)
-unfolding slotsNeeded freeSlots target Room
+unfolding entersRing slotsNeeded freeSlots target Room
 fits-one S w n d hd room = rw (eq-eqb (escapeQueue d) (escapeQueue d) refl, escape-direction d hd) (go (isEscape (escapeQueue d)))
   where
     go : (b : Bool) → cond (b && false) 2 1 ≤ capacity S (escapeQueue d) - length (held S w (neighbour S d n) (escapeQueue d))
@@ -182,7 +182,7 @@ module _ (S : Shape) (w : List ℕ) (tor : Torus S) (N : Network S w) where
 
   -- an empty ring takes anybody
   into-empty : (n q e : ℕ) → n < nodes S → e < directions → Empty S w e → slotsNeeded q (escapeQueue e) ≤ freeSlots S w n (escapeQueue e)
-  unfolding freeSlots target slotsNeeded Empty
+  unfolding freeSlots target entersRing slotsNeeded Empty
   into-empty n q e hn he z =
       let a : length (held S w (neighbour S (directionOf (escapeQueue e)) n) (escapeQueue e)) ≡ 0 =
       z (neighbour S (directionOf (escapeQueue e)) n)

@@ -64,13 +64,13 @@ drain-to-the-end w budget room e b l = rw (eq-eqb (networkRefusal w) 0 e) (by (d
     r : Progress
     r = drainFrom (shape w) budget room w
 
-    ran : Ran (shape w) w (r .words) (r .deliveries) (r .moves)
+    ran : Ran (shape w) w (r .words) (r .deliveries) (length (r .moves))
     ran = drain-ran (shape w) (torus w N) budget room w N
 
     all : {a b c d : ℕ} {x y : Stop} → a ≡ b → c ≡ d → x ≡ y → Drained.Stopped a c x ≡ Drained.Stopped b d y
     all p q s = λ i. Drained.Stopped (p i) (q i) (s i)
 
-    by : Why (shape w) budget room r → Drained.Stopped (r .moves) (length (r .deliveries)) (r .stop) ≡ Drained.Stopped (workLeft (shape w) w) (packetsHeld (shape w) w) Stop.Emptied
+    by : Why (shape w) budget room r → Drained.Stopped (length (r .moves)) (length (r .deliveries)) (r .stop) ≡ Drained.Stopped (workLeft (shape w) w) (packetsHeld (shape w) w) Stop.Emptied
     by (nothing-held s z) =
         let done : workLeft (shape w) (r .words) ≡ 0 = no-packets (shape w) (r .words) z in
         let x = ran .work-done in
@@ -81,7 +81,7 @@ drain-to-the-end w budget room e b l = rw (eq-eqb (networkRefusal w) 0 e) (by (d
 
 -- whatever the arbiter picks: two runs that empty the same network make as many moves, and hand out as many packets of every label
 pub record SameInTheEnd (a b : Outcome) : Type 0 where
-  pub moves : a .moves ≡ b .moves
+  pub moves : length (a .moves) ≡ length (b .moves)
   pub handed : (l : ℕ) → handedWith l (a .handedOut) ≡ handedWith l (b .handedOut)
 
 none-with : (S : Shape) (w : List ℕ) (l : ℕ) → packetsHeld S w ≡ 0 → heldWith l S w ≡ 0

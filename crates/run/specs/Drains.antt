@@ -1,45 +1,45 @@
--- What a Drain does, as the same fact as a move's, and when it stops. Order: the next move; a whole Drain; a Drain with enough budget and ledger.
--- Assumes nothing.
-use mathlib.Core.Path.{_≡_, refl, ap, sym, _∙_, subst}
-use mathlib.Core.Logic.{_⊎_, inl, inr, _≢_}
+-- What a Drain does: the same fact as a move's, and that each of its moves is one that Move makes. Order: the next move; a whole Drain; its moves one by
+-- one. Assumes nothing.
+use mathlib.Core.Path.{_≡_, sym, _∙_, subst}
+use mathlib.Core.Logic.{_≢_}
 use mathlib.Core.Bool.{Bool, true, false, cond}
 use mathlib.Core.List.{List, [], _∷_, _++_}
-use Prim.Native.Nat.{ℕ, zero, suc, _+_, _-_, _<_, _≤_}
+use Prim.Native.Nat.{ℕ, zero, suc, _+_, _-_}
 use native.Mathlib.Numerals.{one-add}
 use native.Mathlib.Decide.{ℕ-discrete}
-use native.Mathlib.Omega.{arith}
 use borrow.Author.Tests.{eq-eqb, ne-eqb}
 use lib.Dec.{T, eqb}
 use lib.ListN.{length}
-use Rattle.base.specs.Sums.{sumOf, sum-zero, sumBelow}
 use Rattle.network.specs.declared.Found.{Found}
 use Rattle.network.specs.declared.Stop.{Stop}
-use Rattle.network.specs.Sizes.{Shape, nodes, queues}
-use Rattle.network.specs.Packet.{work}
+use Rattle.network.specs.Sizes.{Shape}
 use Rattle.network.specs.TorusLaws.{Torus}
-use Rattle.network.specs.Layout.{held, total}
-use Rattle.network.specs.LayoutLaws.{total-zero, some-held, total-part}
-use Rattle.network.specs.Check.{packetsHeld, workLeft}
+use Rattle.network.specs.Layout.{shape, held}
+use Rattle.network.specs.Check.{packetsHeld}
 use Rattle.network.specs.CheckLaws.{Network}
 use Rattle.network.specs.Routes.{deliver}
 use Rattle.network.specs.Refusals.{head}
-use Rattle.network.specs.RefusalLaws.{Permitted}
-use Rattle.network.specs.FirstLaws.{Finds, nothing, named, first-finds, first-nothing}
-use Rattle.network.specs.Calls.{Delivery, Progress, afterMove, firstMove, stopped, oneMore, deliverNext, moveNext, drainFrom}
+use Rattle.network.specs.RefusalLaws.{Permitted, network-passes}
+use Rattle.network.specs.FirstLaws.{Finds, nothing, named, first-finds}
+use Rattle.network.specs.Calls.{NamedMove, Delivery, Progress, afterMove, firstMove, stopped, oneMore, deliverNext, moveNext, drainFrom}
+use Rattle.network.specs.RunLaws.{leads-none, leads-one, leads-append}
+use Rattle.network.specs.ChoiceLaws.{permits}
+use Rattle.network.specs.Run.{Leads}
 use Rattle.run.specs.Step.{Ran, ran-none, ran-then, handsOut, step}
-use Rattle.run.specs.Alive.{Some, alive}
 
 -- moves that led from w to where r has come
 abbrev pub RanTo : Shape → List ℕ → Progress → Type 0
-RanTo S w r = Ran S w (r .words) (r .deliveries) (r .moves)
+RanTo S w r = Ran S w (r .words) (r .deliveries) (length (r .moves))
 
 stops : (S : Shape) (w : List ℕ) (why : Stop) → Network S w → RanTo S w (stopped w why)
 unfolding stopped
 stops S w why N = ran-none S w N
 
-goes-on : (S : Shape) (u w : List ℕ) (ds : List Delivery) (r : Progress) → Ran S u w ds 1 → RanTo S w r → RanTo S u (oneMore ds r)
+goes-on : (S : Shape) (u w : List ℕ) (m : NamedMove) (ds : List Delivery) (r : Progress) → Ran S u w ds 1 → RanTo S w r → RanTo S u (oneMore m ds r)
 unfolding oneMore
-goes-on S u w ds r a b = subst (λ (k : ℕ). Ran S u (r .words) (ds ++ r .deliveries) k) (one-add (r .moves)) (ran-then S u w (r .words) ds (r .deliveries) 1 (r .moves) a b)
+goes-on S u w m ds r a b =
+    subst (λ (k : ℕ). Ran S u (r .words) (ds ++ r .deliveries) k) (one-add (length (r .moves)))
+    (ran-then S u w (r .words) ds (r .deliveries) 1 (length (r .moves)) a b)
 
 hands-out : (S : Shape) (w : List ℕ) (n q o : ℕ) → o ≡ deliver → handsOut S w n q o ≡ record { node = n; packet = head (held S w n q) } ∷ []
 unfolding handsOut
@@ -66,14 +66,14 @@ module _ (S : Shape) (tor : Torus S) where
           let b : Ran S w (afterMove S w n q deliver) (record { node = n; packet = head (held S w n q) } ∷ []) 1 =
           subst (λ (x : ℕ). Ran S w (afterMove S w n q x) (record { node = n; packet = head (held S w n q) } ∷ []) 1) e
           (subst (λ (ds : List Delivery). Ran S w (afterMove S w n q o) ds 1) (hands-out S w n q o e) a) in
-          goes-on S w (afterMove S w n q deliver) (record { node = n; packet = head (held S w n q) } ∷ []) (on room′ (afterMove S w n q deliver)) b
+          goes-on S w (afterMove S w n q deliver) (record { node = n; queue = q; output = deliver }) (record { node = n; packet = head (held S w n q) } ∷ []) (on room′ (afterMove S w n q deliver)) b
           (rec room′ (afterMove S w n q deliver) (b .network))
 
-      go : Dec (o ≡ deliver) → (room′ : ℕ) → RanTo S w (cond (eqb o deliver) (deliverNext S w n q room′ on) (oneMore [] (on room′ (afterMove S w n q o))))
+      go : Dec (o ≡ deliver) → (room′ : ℕ) → RanTo S w (cond (eqb o deliver) (deliverNext S w n q room′ on) (oneMore (record { node = n; queue = q; output = o }) [] (on room′ (afterMove S w n q o))))
       go (yes e) room′ = rw (eq-eqb o deliver e) (delivers e room′)
       go (no ne) room′ =
           let b : Ran S w (afterMove S w n q o) [] 1 = subst (λ (ds : List Delivery). Ran S w (afterMove S w n q o) ds 1) (hands-nothing S w n q o ne) a in
-          rw (ne-eqb o deliver ne) (goes-on S w (afterMove S w n q o) [] (on room′ (afterMove S w n q o)) b (rec room′ (afterMove S w n q o) (b .network)))
+          rw (ne-eqb o deliver ne) (goes-on S w (afterMove S w n q o) (record { node = n; queue = q; output = o }) [] (on room′ (afterMove S w n q o)) b (rec room′ (afterMove S w n q o) (b .network)))
 
   -- a whole Drain
   pub drain-ran : (budget room : ℕ) (w : List ℕ) → Network S w → RanTo S w (drainFrom S budget room w)
@@ -91,3 +91,54 @@ module _ (S : Shape) (tor : Torus S) where
           → RanTo S w (cond t (stopped w Stop.Emptied) (moveNext S w room (firstMove S w) (λ room′ w′. drainFrom S budget room′ w′)))
       go true r = stops S w Stop.Emptied N
       go false r = r
+
+  -- each move of a Drain is permitted where it is made, and does what Move does
+  leads-next : (w : List ℕ) (room : ℕ) (f : Found) (on : ℕ → List ℕ → Progress) → shape w ≡ S → Network S w → Finds (Permitted S w) f
+      → ((r : ℕ) (v : List ℕ) → shape v ≡ S → Network S v → Leads v (on r v .moves) (on r v .words))
+      → Leads w (moveNext S w room f on .moves) (moveNext S w room f on .words)
+  unfolding moveNext deliverNext stopped oneMore
+  leads-next w room f on same N nothing rec = leads-none w
+  leads-next w room f on same N (named {n} {q} {o} P) rec = go (ℕ-discrete o deliver) room
+    where
+      a : Ran S w (afterMove S w n q o) (handsOut S w n q o) 1
+      a = step S w n q o tor N P
+
+      m : NamedMove
+      m = record { node = n; queue = q; output = o }
+
+      first : Leads w (m ∷ []) (afterMove S w n q o)
+      first = subst (λ (T : Shape). Leads w (m ∷ []) (afterMove T w n q o)) same (leads-one w m (permits w m (network-passes w (subst (λ (T : Shape). Network T w) (sym same) N)) (subst (λ (T : Shape). Permitted T w n q o) (sym same) P)))
+
+      later : (r : ℕ) → Leads w (m ∷ on r (afterMove S w n q o) .moves) (on r (afterMove S w n q o) .words)
+      later r =
+          leads-append w (afterMove S w n q o) (on r (afterMove S w n q o) .words) (m ∷ []) (on r (afterMove S w n q o) .moves) first
+          (rec r (afterMove S w n q o) (a .same-shape ∙ same) (a .network))
+
+      delivers : o ≡ deliver → (room′ : ℕ) → Leads w (deliverNext S w n q room′ on .moves) (deliverNext S w n q room′ on .words)
+      delivers e zero = leads-none w
+      delivers e (suc room′) =
+          subst (λ (x : ℕ). Leads w (record { node = n; queue = q; output = x } ∷ on room′ (afterMove S w n q x) .moves) (on room′ (afterMove S w n q x) .words)) e (later room′)
+
+      go : Dec (o ≡ deliver) → (room′ : ℕ)
+          → Leads w (cond (eqb o deliver) (deliverNext S w n q room′ on) (oneMore m [] (on room′ (afterMove S w n q o))) .moves)
+          (cond (eqb o deliver) (deliverNext S w n q room′ on) (oneMore m [] (on room′ (afterMove S w n q o))) .words)
+      go (yes e) room′ = rw (eq-eqb o deliver e) (delivers e room′)
+      go (no ne) room′ = rw (ne-eqb o deliver ne) (later room′)
+
+  pub drain-leads : (budget room : ℕ) (w : List ℕ) → shape w ≡ S → Network S w → Leads w (drainFrom S budget room w .moves) (drainFrom S budget room w .words)
+  unfolding drainFrom stopped
+  drain-leads zero room w same N = go (eqb (packetsHeld S w) 0)
+    where
+      go : (t : Bool) → Leads w (cond t (stopped w Stop.Emptied) (stopped w Stop.Spent) .moves) (cond t (stopped w Stop.Emptied) (stopped w Stop.Spent) .words)
+      go true = leads-none w
+      go false = leads-none w
+  drain-leads (suc budget) room w same N =
+      go (eqb (packetsHeld S w) 0)
+      (leads-next w room (firstMove S w) (λ room′ w′. drainFrom S budget room′ w′) same N (first-finds S w) (λ r v s M. drain-leads budget r v s M))
+    where
+      rest : Progress
+      rest = moveNext S w room (firstMove S w) (λ room′ w′. drainFrom S budget room′ w′)
+
+      go : (t : Bool) → Leads w (rest .moves) (rest .words) → Leads w (cond t (stopped w Stop.Emptied) rest .moves) (cond t (stopped w Stop.Emptied) rest .words)
+      go true l = leads-none w
+      go false l = l

@@ -18,7 +18,7 @@ use Rattle.network.specs.Torus.{along, neighbour}
 use Rattle.network.specs.TorusLaws.{Torus, along-lt, along-add, along-rounds, along-round, size-pos}
 use Rattle.network.specs.Layout.{held}
 use Rattle.network.specs.Check.{hasRoom, ringHasRoom}
-use Rattle.network.specs.Routes.{slotsNeeded, freeSlots, target}
+use Rattle.network.specs.Routes.{entersRing, slotsNeeded, freeSlots, target}
 use Rattle.run.specs.Queues.{same?}
 
 -- a free slot in one queue
@@ -81,7 +81,7 @@ escape-lt d h = omega arith
 
 -- R151, R152
 needs-two : (q d : ℕ) → q ≢ escapeQueue d → slotsNeeded q (escapeQueue d) ≡ 2
-unfolding slotsNeeded
+unfolding entersRing slotsNeeded
 needs-two q d ne = go (isEscape (escapeQueue d)) (escape-is d) (eqb q (escapeQueue d)) (ne-eqb q (escapeQueue d) ne)
   where
     go : (a : Bool) → T a → (b : Bool) → b ≡ false → _≡_ {A = ℕ} (cond (a && not b) 2 1) 2

@@ -23,7 +23,7 @@ use Rattle.network.specs.Routes.{deliver}
 use Rattle.network.specs.Refusals.{networkRefusal, head}
 use Rattle.network.specs.RefusalLaws.{Permitted, network-passed, network-passes}
 use Rattle.network.specs.FirstLaws.{Finds, nothing, named, first-finds, first-nothing}
-use Rattle.network.specs.Calls.{Delivery, Progress, afterMove, firstMove, firstAnswer, stopped, oneMore, deliverNext, moveNext, drainFrom, drained, drainWords, drainAnswer, drainedMoves, drainedDelivered, drainedStop, foundMove}
+use Rattle.network.specs.Calls.{NamedMove, Delivery, Progress, afterMove, firstMove, firstAnswer, stopped, oneMore, deliverNext, moveNext, drainFrom, drained, drainWords, drainAnswer, drainedMoves, drainedDelivered, drainedStop, foundMove}
 use Rattle.network.specs.DrainLaws.{Within, drain-within}
 use Rattle.network.specs.Choices.{NextDelivers, DrainStops}
 use Rattle.run.specs.Step.{Ran, step}
@@ -40,15 +40,15 @@ pub record Delivers (S : Shape) (w : List ℕ) : Type 0 where
 -- why moves stopped, by the stop that they name
 pub data Why (S : Shape) (budget room : ℕ) (r : Progress) : Type 0 where
   nothing-held : r .stop ≡ Stop.Emptied → packetsHeld S (r .words) ≡ 0 → Why S budget room r
-  budget-used : r .stop ≡ Stop.Spent → packetsHeld S (r .words) ≢ 0 → r .moves ≡ budget → Why S budget room r
-  ledger-full : r .stop ≡ Stop.Full → packetsHeld S (r .words) ≢ 0 → r .moves < budget → Delivers S (r .words) → length (r .deliveries) ≡ room → Why S budget room r
+  budget-used : r .stop ≡ Stop.Spent → packetsHeld S (r .words) ≢ 0 → length (r .moves) ≡ budget → Why S budget room r
+  ledger-full : r .stop ≡ Stop.Full → packetsHeld S (r .words) ≢ 0 → length (r .moves) < budget → Delivers S (r .words) → length (r .deliveries) ≡ room → Why S budget room r
 
 -- one move more, with what it handed out
-why-more : (S : Shape) (budget left room : ℕ) (ds : List Delivery) (r : Progress) → length ds + left ≡ room → Why S budget left r → Why S (suc budget) room (oneMore ds r)
+why-more : (S : Shape) (budget left room : ℕ) (k : NamedMove) (ds : List Delivery) (r : Progress) → length ds + left ≡ room → Why S budget left r → Why S (suc budget) room (oneMore k ds r)
 unfolding oneMore
-why-more S budget left room ds r e (nothing-held s z) = nothing-held s z
-why-more S budget left room ds r e (budget-used s h m) = budget-used s h (ap suc m)
-why-more S budget left room ds r e (ledger-full s h m d l) =
+why-more S budget left room k ds r e (nothing-held s z) = nothing-held s z
+why-more S budget left room k ds r e (budget-used s h m) = budget-used s h (ap suc m)
+why-more S budget left room k ds r e (ledger-full s h m d l) =
     let a : length (ds ++ r .deliveries) ≡ length ds + length (r .deliveries) = length-append ds (r .deliveries) in
     ledger-full s h (omega arith) d (omega arith)
 
@@ -67,14 +67,14 @@ module _ (S : Shape) (tor : Torus S) where
       delivers : o ≡ deliver → (room′ : ℕ) → Why S (suc budget) room′ (deliverNext S w n q room′ on)
       delivers z zero = ledger-full refl ne (omega arith) (record { node = n; queue = q; first = e ∙ ap (λ (x : ℕ). Found.Move n q x) z }) refl
       delivers z (suc left) =
-          why-more S budget left (suc left) (record { node = n; packet = head (held S w n q) } ∷ []) (on left (afterMove S w n q deliver)) (omega arith)
+          why-more S budget left (suc left) (record { node = n; queue = q; output = deliver }) (record { node = n; packet = head (held S w n q) } ∷ []) (on left (afterMove S w n q deliver)) (omega arith)
           (rec left (afterMove S w n q deliver) (subst (λ (x : ℕ). Network S (afterMove S w n q x)) z after))
 
       go : Dec (o ≡ deliver) → (room′ : ℕ)
-          → Why S (suc budget) room′ (cond (eqb o deliver) (deliverNext S w n q room′ on) (oneMore [] (on room′ (afterMove S w n q o))))
+          → Why S (suc budget) room′ (cond (eqb o deliver) (deliverNext S w n q room′ on) (oneMore (record { node = n; queue = q; output = o }) [] (on room′ (afterMove S w n q o))))
       go (yes z) room′ = rw (eq-eqb o deliver z) (delivers z room′)
       go (no ne′) room′ =
-          rw (ne-eqb o deliver ne′) (why-more S budget room′ room′ [] (on room′ (afterMove S w n q o)) (omega arith) (rec room′ (afterMove S w n q o) after))
+          rw (ne-eqb o deliver ne′) (why-more S budget room′ room′ (record { node = n; queue = q; output = o }) [] (on room′ (afterMove S w n q o)) (omega arith) (rec room′ (afterMove S w n q o) after))
 
   pub drain-why : (budget room : ℕ) (w : List ℕ) → Network S w → Why S budget room (drainFrom S budget room w)
   unfolding drainFrom stopped
@@ -114,7 +114,7 @@ next-delivers v N d =
 
 -- each stop with its own condition, and no other's
 stops-by : (budget room : ℕ) (r : Progress) → Network (shape (r .words)) (r .words) → Within budget room r → Why (shape (r .words)) budget room r
-    → DrainStops budget room (Drained.Stopped (r .moves) (length (r .deliveries)) (r .stop)) (r .words)
+    → DrainStops budget room (Drained.Stopped (length (r .moves)) (length (r .deliveries)) (r .stop)) (r .words)
 unfolding drainedMoves drainedDelivered drainedStop stopCode
 stops-by budget room r N limits (nothing-held s z) =
     record {
@@ -154,7 +154,7 @@ drain-stops w budget room e =
     r : Progress
     r = drainFrom (shape w) budget room w
 
-    ran : Ran (shape w) w (r .words) (r .deliveries) (r .moves)
+    ran : Ran (shape w) w (r .words) (r .deliveries) (length (r .moves))
     ran = drain-ran (shape w) (torus w N) budget room w N
 
     same : shape (r .words) ≡ shape w

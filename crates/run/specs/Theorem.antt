@@ -4,7 +4,7 @@
 -- pass the check, so each escape ring has a free slot; and while anything is held, some move is permitted. `Demand3` of network/specs/Run.antt says this in
 -- full, of the very definitions that the contracts of Move and Drain cite; here is its proof.
 -- Order: nothing is held exactly when no work is left; one call; a list of calls; the theorem. Assumes nothing.
-use mathlib.Core.Path.{_≡_, refl, ap, sym, _∙_, subst}
+use mathlib.Core.Path.{_≡_, refl, ap, ap₂, sym, _∙_, subst}
 use mathlib.Core.Logic.{_≢_}
 use mathlib.Core.Bool.{Bool, true, false, cond}
 use mathlib.Core.List.{List, [], _∷_, _++_, map}
@@ -13,7 +13,7 @@ use native.Mathlib.Decide.{ℕ-discrete}
 use native.Mathlib.Omega.{arith}
 use borrow.Author.Tests.{eq-eqb, ne-eqb}
 use lib.Dec.{eqb}
-use lib.ListN.{length}
+use lib.ListN.{length, length-append}
 use Rattle.base.specs.Sums.{sumOf, sumBelow, sum-zero}
 use Rattle.network.specs.declared.Moved.{Moved}
 use Rattle.network.specs.Sizes.{Shape, nodes, queues}
@@ -26,12 +26,12 @@ use Rattle.network.specs.CheckLaws.{Network}
 use Rattle.network.specs.Routes.{deliver}
 use Rattle.network.specs.Refusals.{networkRefusal, moveRules, moveRefusal, head}
 use Rattle.network.specs.RefusalLaws.{network-passed, network-passes, neither, elseBy-zero, permitted-of, permitted-by}
-use Rattle.network.specs.Calls.{Delivery, afterMove, moveWords, moveAnswer, movedPackets, drained, drainWords, drainAnswer, drainedMoves}
-use Rattle.network.specs.Run.{Call, move, drain, Outcome, outcome, run, ledgerOf, SomeMove, AfterRun, Demand3}
-use Rattle.network.specs.RunLaws.{drain-handed, run-kept}
+use Rattle.network.specs.Calls.{unlessRefused, movedNumber, Delivery, afterMove, moveWords, moveAnswer, movedPackets, drained, drainWords, drainAnswer, drainedMoves}
+use Rattle.network.specs.Run.{Call, move, drain, Outcome, outcome, run, Leads, ledgerOf, SomeMove, AfterRun, Demand3}
+use Rattle.network.specs.RunLaws.{drain-handed, run-kept, leads-none, leads-one, leads-append}
 use Rattle.run.specs.Step.{Ran, ran-none, ran-then, handsOut, step}
 use Rattle.run.specs.Alive.{Some, alive}
-use Rattle.run.specs.Drains.{drain-ran}
+use Rattle.run.specs.Drains.{drain-ran, drain-leads}
 
 -- every packet held is some work
 some-work : (ps : List ℕ) → length ps ≤ sumOf work ps
@@ -68,32 +68,61 @@ pub torus : (w : List ℕ) → Network (shape w) w → Torus (shape w)
 unfolding shape
 torus w N = inRange-torus (shape w) (N .in-range) refl
 
--- one call: its outcome is that of moves made one after the other
-abbrev pub Made : List ℕ → Outcome → Type 0
-Made w r = Ran (shape w) w (r .words) (r .handedOut) (r .moves)
+-- one call: its outcome is that of moves made one after the other, which its answer tells of
+pub record Made (w : List ℕ) (r : Outcome) : Type 0 where
+  pub ran : Ran (shape w) w (r .words) (r .handedOut) (length (r .moves))
+  pub leads : Leads w (r .moves) (r .words)
+  pub told : r .told ≡ length (r .moves)
 
 made-move : (w : List ℕ) (n q o : ℕ) → moveRefusal w n q o ≡ 0
-    → outcome (move n q o) w ≡ record { words = afterMove (shape w) w n q o; handedOut = handsOut (shape w) w n q o; moves = 1; ledgers = [] }
-unfolding outcome moveWords moveAnswer handsOut movedPackets
-made-move w n q o e = rw (eq-eqb (moveRefusal w n q o) 0 e) (ap {B = Outcome} (λ (ds : List Delivery). record { words = afterMove (shape w) w n q o; handedOut = ds; moves = 1; ledgers = [] }) (by (eqb o deliver)))
+    → outcome (move n q o) w
+    ≡ record {
+      words = afterMove (shape w) w n q o;
+      moves = record { node = n; queue = q; output = o } ∷ [];
+      told = 1;
+      handedOut = handsOut (shape w) w n q o;
+      ledgers = [];
+    }
+unfolding outcome moveWords moveAnswer handsOut movedPackets movedNumber
+made-move w n q o e = rw (eq-eqb (moveRefusal w n q o) 0 e) (by (eqb o deliver))
   where
     p : ℕ
     p = head (held (shape w) w n q)
 
-    by : (t : Bool) → map {B = Delivery} (λ (x : ℕ). record { node = n; packet = x }) (movedPackets (cond t (Moved.Delivered p) Moved.Passed)) ≡ cond t (record { node = n; packet = p } ∷ []) []
+    answer : Bool → Moved
+    answer t = cond t (Moved.Delivered p) Moved.Passed
+
+    by : (t : Bool)
+        → _≡_ {A = Outcome}
+        (record {
+          words = afterMove (shape w) w n q o;
+          moves = record { node = n; queue = q; output = o } ∷ [];
+          told = unlessRefused (movedNumber (answer t)) 1 0;
+          handedOut = map (λ (x : ℕ). record { node = n; packet = x }) (movedPackets (answer t));
+          ledgers = [];
+        })
+        (record {
+          words = afterMove (shape w) w n q o;
+          moves = record { node = n; queue = q; output = o } ∷ [];
+          told = 1;
+          handedOut = cond t (record { node = n; packet = p } ∷ []) [];
+          ledgers = [];
+        })
     by true = refl
     by false = refl
 
-refused-move : (w : List ℕ) (n q o : ℕ) → moveRefusal w n q o ≢ 0 → outcome (move n q o) w ≡ record { words = w; handedOut = []; moves = 0; ledgers = [] }
-unfolding outcome moveWords moveAnswer movedPackets
-refused-move w n q o ne = rw (ne-eqb (moveRefusal w n q o) 0 ne)
+refused-move : (w : List ℕ) (n q o : ℕ) → moveRefusal w n q o ≢ 0
+    → outcome (move n q o) w ≡ record { words = w; moves = []; told = 0; handedOut = []; ledgers = [] }
+unfolding outcome moveWords moveAnswer movedPackets movedNumber
+refused-move w n q o ne = let e : eqb (moveRefusal w n q o) 0 ≡ false = ne-eqb (moveRefusal w n q o) 0 ne in rw (e, e)
 
 made-drain : (w : List ℕ) (budget : ℕ) (ledger : List ℕ) → networkRefusal w ≡ 0
     → outcome (drain budget ledger) w
     ≡ record {
       words = drained w budget (length ledger) .words;
-      handedOut = drained w budget (length ledger) .deliveries;
       moves = drained w budget (length ledger) .moves;
+      told = length (drained w budget (length ledger) .moves);
+      handedOut = drained w budget (length ledger) .deliveries;
       ledgers = ledgerOf w budget ledger ∷ [];
     }
 unfolding outcome drainWords drainAnswer drainedMoves
@@ -102,8 +131,9 @@ made-drain w budget ledger e =
     (λ (ds : List Delivery).
     record {
       words = drainWords w budget (length ledger);
+      moves = unlessRefused (networkRefusal w) (drained w budget (length ledger) .moves) [];
+      told = drainedMoves (drainAnswer w budget (length ledger));
       handedOut = ds;
-      moves = drainedMoves (drainAnswer w budget (length ledger));
       ledgers = ledgerOf w budget ledger ∷ [];
     })
     (drain-handed w budget ledger e)
@@ -116,26 +146,52 @@ call-made (move n q o) w N = go (ℕ-discrete (moveRefusal w n q o) 0)
     go : Dec (moveRefusal w n q o ≡ 0) → Made w (outcome (move n q o) w)
     go (yes z) =
         rw (made-move w n q o z)
-        (step (shape w) w n q o (torus w N) N (permitted-of (shape w) w n q o (neither (networkRefusal w) (moveRules (shape w) w n q o) z .1)))
-    go (no ne) = rw (refused-move w n q o ne) (ran-none (shape w) w N)
-call-made (drain budget ledger) w N = rw (made-drain w budget ledger (network-passes w N)) (drain-ran (shape w) (torus w N) budget (length ledger) w N)
+        (record {
+          ran = step (shape w) w n q o (torus w N) N (permitted-of (shape w) w n q o (neither (networkRefusal w) (moveRules (shape w) w n q o) z .1));
+          leads = leads-one w (record { node = n; queue = q; output = o }) z;
+          told = refl;
+        })
+    go (no ne) = rw (refused-move w n q o ne) (record { ran = ran-none (shape w) w N; leads = leads-none w; told = refl })
+call-made (drain budget ledger) w N =
+    rw (made-drain w budget ledger (network-passes w N))
+    (record {
+      ran = drain-ran (shape w) (torus w N) budget (length ledger) w N;
+      leads = drain-leads (shape w) (torus w N) budget (length ledger) w refl N;
+      told = refl;
+    })
 
 -- a list of calls
 pub run-made : (calls : List Call) (w : List ℕ) → Network (shape w) w → Made w (run calls w)
 unfolding run
-run-made [] w N = ran-none (shape w) w N
+run-made [] w N = record { ran = ran-none (shape w) w N; leads = leads-none w; told = refl }
 run-made (c ∷ calls) w N = join (call-made c w N) (λ M. run-made calls (outcome c w .words) M)
   where
     v : List ℕ
     v = outcome c w .words
 
     join : Made w (outcome c w) → (Network (shape v) v → Made v (run calls v))
-        → Ran (shape w) w (run calls v .words) (outcome c w .handedOut ++ run calls v .handedOut) (outcome c w .moves + run calls v .moves)
+        → Made w
+        (record {
+          words = run calls v .words;
+          moves = outcome c w .moves ++ run calls v .moves;
+          told = outcome c w .told + run calls v .told;
+          handedOut = outcome c w .handedOut ++ run calls v .handedOut;
+          ledgers = outcome c w .ledgers ++ run calls v .ledgers;
+        })
     join a later =
-        let N′ : Network (shape v) v = subst (λ (S : Shape). Network S v) (sym (a .same-shape)) (a .network) in
-        let b : Ran (shape w) v (run calls v .words) (run calls v .handedOut) (run calls v .moves) =
-        subst (λ (S : Shape). Ran S v (run calls v .words) (run calls v .handedOut) (run calls v .moves)) (a .same-shape) (later N′) in
-        ran-then (shape w) w v (run calls v .words) (outcome c w .handedOut) (run calls v .handedOut) (outcome c w .moves) (run calls v .moves) a b
+        let N′ : Network (shape v) v = subst (λ (S : Shape). Network S v) (sym (a .ran .same-shape)) (a .ran .network) in
+        let b : Made v (run calls v) = later N′ in
+        let ran : Ran (shape w) v (run calls v .words) (run calls v .handedOut) (length (run calls v .moves)) =
+        subst (λ (S : Shape). Ran S v (run calls v .words) (run calls v .handedOut) (length (run calls v .moves))) (a .ran .same-shape) (b .ran) in
+        let count : length (outcome c w .moves ++ run calls v .moves) ≡ length (outcome c w .moves) + length (run calls v .moves) =
+        length-append (outcome c w .moves) (run calls v .moves) in
+        record {
+          ran =
+              subst (λ (k : ℕ). Ran (shape w) w (run calls v .words) (outcome c w .handedOut ++ run calls v .handedOut) k) (sym count)
+              (ran-then (shape w) w v (run calls v .words) (outcome c w .handedOut) (run calls v .handedOut) (length (outcome c w .moves)) (length (run calls v .moves)) (a .ran) ran);
+          leads = leads-append w v (run calls v .words) (outcome c w .moves) (run calls v .moves) (a .leads) (b .leads);
+          told = ap₂ (λ (x y : ℕ). x + y) (a .told) (b .told) ∙ sym count;
+        }
 
 -- the theorem
 some-move : (w : List ℕ) → Network (shape w) w → packetsHeld (shape w) w ≢ 0 → SomeMove w
@@ -156,12 +212,15 @@ unfolding Demand3
 demand3 w calls e = after (run-made calls w (network-passed w e))
   where
     after : Made w (run calls w) → AfterRun w (run calls w)
-    after r =
+    after made =
+        let r = made .ran in
         let N : Network (shape (run calls w .words)) (run calls w .words) =
         subst (λ (S : Shape). Network S (run calls w .words)) (sym (r .same-shape)) (r .network) in
         record {
           handed-out-at-home = r .home;
           none-lost-or-doubled = r .labels;
+          moves-told = made .told;
+          one-by-one = made .leads;
           moves-and-work = r .work-done;
           moves-made = r .moves;
           deliveries-made = r .deliveries;

@@ -1,7 +1,8 @@
--- Document 01, "The bench program", as definitions: what a command does and prints, and what a whole sheet prints. Running.antt says what a byte of the
--- input brings, and has the theorem `sheet-right`; Examples.antt computes document 01's listing; Ledger.antt and Places.antt have laws that the code leans on.
+-- The bench program as definitions: what a command does and prints, and what a whole sheet prints (Session.antt); what each read of a sheet does and
+-- prints, with the theorems `sheet-right` and `lines-right` (Reads.antt). Examples.antt computes a listing; Running.antt has facts that the code's
+-- contracts name besides, Places.antt laws that the code leans on.
 pub mod Session
+pub mod Reads
 pub mod Examples
 pub mod Running
-pub mod Ledger
 pub mod Places

@@ -1,4 +1,4 @@
--- Document 01, "The bench program": what a sheet does to the store and what it prints. Order: a command; commands one after another; the output of a
+-- The bench program (RULES R243 to R257): what a sheet does to the store and what it prints. Order: a command; commands one after another; the output of a
 -- whole input. Assumes nothing.
 use mathlib.Core.List.{List, [], _∷_, _++_, map}
 use Prim.Native.Nat.{ℕ, _+_, _*_}
@@ -16,14 +16,14 @@ pub record Performed : Type 0 where
   pub store : List ℕ
   pub output : List ℕ
 
--- "D,budget drains with a ledger of 64 words"; each D has one of its own
+-- R246: each D has a ledger of its own
 abbrev pub ledgerWords : ℕ
 ledgerWords = 64
 
 abbrev pub newLedger : List ℕ
 newLedger = replicate ledgerWords 0
 
--- "T,X,Y,E,A,J makes; O,node,destination,tag offers; M,node,queue,output moves; D,budget drains .. Other lines .. print ?,13 once each and do nothing."
+-- R243 to R246, R248: which call a command is, and what it prints
 unfoldable pub perform : Command → List ℕ → Performed
 perform (Command.Make x y e a j) w =
     record { store = makeWords (shapeOf x y e a j) w; output = answerLine (code "T") (makeRefusal (shapeOf x y e a j) w) }
@@ -45,7 +45,7 @@ performAll (c ∷ cs) w = behind (perform c w .output) (performAll cs (perform c
     behind : List ℕ → Performed → Performed
     behind bytes p = record { store = p .store; output = bytes ++ p .output }
 
--- "Its store is 8,000 words, zero at the start."
+-- R251
 abbrev pub storeWords : ℕ
 storeWords = 8000
 

@@ -1,7 +1,7 @@
 -- Cutting an input byte by byte gives its lines: theorem `cut-right`. Order: what a byte and the end of the input bring, by cases; the line without
--- the CR of its end; what the buffer holds of a line; the theorem; the commands of the lines. Assumes nothing.
+-- the CR of its end; what the buffer holds of a line; the theorem; the commands of the lines; what is handed on before the input ends. Assumes nothing.
 use mathlib.Core.Path.{_≡_, refl, ap, ap₂, sym, _∙_}
-use mathlib.Core.Bool.{Bool, true, false, cond}
+use mathlib.Core.Bool.{Bool, true, false, cond, _||_}
 use mathlib.Core.List.{List, [], _∷_, _++_, map, flatten, append-nil, append-assoc}
 use mathlib.Core.Logic.{_⊎_, inl, inr}
 use Prim.Native.Nat.{ℕ, zero, suc, _+_, _-_, _<_, _≤_}
@@ -11,10 +11,11 @@ use native.Mathlib.Omega.{arith}
 use lib.Dec.{ltb, eqb}
 use lib.ListN.{length, getD, take, set, length-append, length-set}
 use lib.Seq.{length-take-le, take-suc-set, take-take, getD-take}
-use borrow.Author.Tests.{le-leb, lt-leb, lt-ltb, le-ltb, eq-eqb, ne-eqb}
+use borrow.Author.Tests.{eqb-false, le-leb, lt-leb, lt-ltb, le-ltb, eq-eqb, ne-eqb}
+use Rattle.base.specs.Tests.{elem}
 use Rattle.sheet.specs.declared.Fed.{Fed}
 use Rattle.sheet.specs.Text.{lf, cr}
-use Rattle.sheet.specs.Lines.{lineLimit, withoutCr, lastLine, linesFrom, lines, whole, tooLong, kept}
+use Rattle.sheet.specs.Lines.{lineLimit, withoutCr, lastLine, linesFrom, lines, Kept, whole, tooLong, kept}
 use Rattle.sheet.specs.Commands.{wellFormed, commandOf, keptCommand}
 use Rattle.sheet.specs.Cutting.{heldBytes, waiting, endedAnswer, fedBuffer, fedAnswer, finishedAnswer, handedOn, pendingAfter, Cutting, feedByte, feedBytes, feedReads, startCutting, finishCutting}
 
@@ -313,7 +314,7 @@ feed-right (b ∷ bs) s line a = go (ℕ-discrete b lf) (λ l a′. feed-right b
         ∙ ap (λ ls. s .handed ++ map kept ls) (sym (lines-more line b bs f))
 
 -- however the bytes are read
-feed-append : (s : Cutting) (xs ys : List ℕ) → feedBytes s (xs ++ ys) ≡ feedBytes (feedBytes s xs) ys
+pub feed-append : (s : Cutting) (xs ys : List ℕ) → feedBytes s (xs ++ ys) ≡ feedBytes (feedBytes s xs) ys
 unfolding feedBytes
 feed-append s [] ys = refl
 feed-append s (x ∷ xs) ys = feed-append (feedByte s x) xs ys
@@ -340,10 +341,61 @@ kept-command line = go (decLe (length line) lineLimit)
     go (yes h) = ap keptCommand (kept-whole line h)
     go (no h) = ap keptCommand (kept-long line (omega arith)) ∙ rw (lt-leb (length line) lineLimit (omega arith)) refl
 
-kept-commands : (ls : List (List ℕ)) → map keptCommand (map kept ls) ≡ map commandOf ls
+pub kept-commands : (ls : List (List ℕ)) → map keptCommand (map kept ls) ≡ map commandOf ls
 kept-commands [] = refl
 kept-commands (l ∷ ls) = ap₂ (λ c cs. c ∷ cs) (kept-command l) (kept-commands ls)
 
 pub commands-right : (buffer : List ℕ) → heldBytes ≤ length buffer → (reads : List (List ℕ))
     → map keptCommand (finishCutting (feedReads (startCutting buffer) reads)) ≡ map commandOf (lines (flatten reads))
 commands-right buffer room reads = ap (map keptCommand) (cut-right buffer room reads) ∙ kept-commands (lines (flatten reads))
+
+-- lines that were handed on earlier stay in front, whatever is fed
+abbrev pub handedBefore : List Kept → Cutting → Cutting
+handedBefore earlier s = record { handed = earlier ++ s .handed; buffer = s .buffer; pending = s .pending }
+
+pub byte-behind : (earlier : List Kept) (s : Cutting) (b : ℕ) → feedByte (handedBefore earlier s) b ≡ handedBefore earlier (feedByte s b)
+unfolding feedByte
+byte-behind earlier s b =
+    ap (λ ks. record { handed = ks; buffer = feedByte s b .buffer; pending = feedByte s b .pending })
+    (append-assoc earlier (s .handed) (handedOn (feedByte s b .buffer) (fedAnswer (s .buffer) (s .pending) b)))
+
+pub bytes-behind : (earlier : List Kept) (s : Cutting) (bs : List ℕ) → feedBytes (handedBefore earlier s) bs ≡ handedBefore earlier (feedBytes s bs)
+unfolding feedBytes
+bytes-behind earlier s [] = refl
+bytes-behind earlier s (b ∷ bs) = ap (λ c. feedBytes c bs) (byte-behind earlier s b) ∙ bytes-behind earlier (feedByte s b) bs
+
+-- bytes that are no LF hand nothing on
+neither : (x y : Bool) → x || y ≡ false → (x ≡ false) × (y ≡ false)
+neither true y h = ((cc), (cc))
+neither false y h = (refl, h)
+
+byte-handed : (s : Cutting) (b : ℕ) → (b ≡ lf → ⊥) → feedByte s b .handed ≡ s .handed
+unfolding feedByte fedAnswer handedOn
+byte-handed s b f = rw (ne-eqb b lf f) (append-nil (s .handed))
+
+bytes-handed : (s : Cutting) (rest : List ℕ) → elem lf rest ≡ false → feedBytes s rest .handed ≡ s .handed
+unfolding feedBytes elem
+bytes-handed s [] h = refl
+bytes-handed s (b ∷ bs) h =
+    let n = neither (eqb lf b) (elem lf bs) h in
+    bytes-handed (feedByte s b) bs (n .1) ∙ byte-handed s b (λ e. eqb-false lf b (n .0) (sym e))
+
+-- after an LF nothing is pending, so the end of the input hands nothing on either
+finished-end : (s : Cutting) → finishCutting (feedByte s lf) ≡ feedByte s lf .handed
+unfolding finishCutting feedByte fedAnswer handedOn
+finished-end s =
+    rw (ended-pending (s .buffer) (s .pending), finished-none 0 refl)
+    (append-nil (s .handed ++ handedOn (fedBuffer (s .buffer) (s .pending) lf) (endedAnswer (s .buffer) (s .pending))))
+
+-- so before the input ends, those lines have been handed on that have ended
+pub cut-so-far : (buffer : List ℕ) → heldBytes ≤ length buffer → (reads : List (List ℕ)) (before rest : List ℕ) → flatten reads ≡ before ++ (lf ∷ rest)
+    → elem lf rest ≡ false → feedReads (startCutting buffer) reads .handed ≡ map kept (lines (before ++ (lf ∷ [])))
+unfolding feedBytes feedReads flatten
+cut-so-far buffer room reads before rest e h =
+    let s : Cutting = feedBytes (startCutting buffer) before in
+    ap (λ c. c .handed) (reads-right (startCutting buffer) reads ∙ ap (feedBytes (startCutting buffer)) e ∙ feed-append (startCutting buffer) before (lf ∷ rest))
+    ∙ bytes-handed (feedByte s lf) rest h
+    ∙ sym (finished-end s)
+    ∙ ap finishCutting (sym (feed-append (startCutting buffer) before (lf ∷ [])))
+    ∙ cut-right buffer room ((before ++ (lf ∷ [])) ∷ [])
+    ∙ ap (λ l. map kept (lines l)) (append-nil (before ++ (lf ∷ [])))

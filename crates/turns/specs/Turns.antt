@@ -22,7 +22,7 @@ use Rattle.network.specs.Routes.{deliver}
 use Rattle.network.specs.Refusals.{head}
 use Rattle.network.specs.RefusalLaws.{Permitted}
 use Rattle.network.specs.FirstLaws.{Finds, nothing, named, first-finds}
-use Rattle.network.specs.Calls.{Delivery, Progress, afterMove, firstMove, stopped, oneMore, deliverNext, moveNext, drainFrom}
+use Rattle.network.specs.Calls.{NamedMove, Delivery, Progress, afterMove, firstMove, stopped, oneMore, deliverNext, moveNext, drainFrom}
 use Rattle.run.specs.Step.{Ran, step}
 use Rattle.turns.specs.declared.Turn.{Turn}
 
@@ -54,17 +54,17 @@ byWords S w room f = unlessStopped (turnBy S w room f) (madeBy S w f) w
 unfoldable pub turnWords : Shape → List ℕ → ℕ → ℕ → List ℕ
 turnWords S w budget room = unlessStopped (turnAnswer S w budget room) (madeBy S w (firstMove S w)) w
 
--- a Drain that has made m moves and handed out ds before r
-unfoldable pub afterTurns : ℕ → List Delivery → Progress → Progress
-afterTurns m ds r = record { words = r .words; deliveries = ds ++ r .deliveries; moves = m + r .moves; stop = r .stop }
+-- a Drain that has made the moves ms and handed out ds before r
+unfoldable pub afterTurns : List NamedMove → List Delivery → Progress → Progress
+afterTurns ms ds r = record { words = r .words; moves = ms ++ r .moves; deliveries = ds ++ r .deliveries; stop = r .stop }
 
 -- a Drain by its first turn, which leaves the words v: it stops there, or goes on from v with one move less in its budget
 pub data ByTurn (S : Shape) (w : List ℕ) (budget room : ℕ) : Turn → List ℕ → Type 0 where
   stops : {why : Stop} → drainFrom S budget room w ≡ stopped w why → ByTurn S w budget room (Turn.Stopped why) w
-  passes : {v : List ℕ} (b : ℕ) → budget ≡ suc b → Network S v → drainFrom S budget room w ≡ oneMore [] (drainFrom S b room v)
+  passes : {v : List ℕ} (m : NamedMove) (b : ℕ) → budget ≡ suc b → Network S v → drainFrom S budget room w ≡ oneMore m [] (drainFrom S b room v)
       → ByTurn S w budget room Turn.Passed v
-  delivers : {v : List ℕ} {p : ℕ} (n b r : ℕ) → budget ≡ suc b → room ≡ suc r → Network S v
-      → drainFrom S budget room w ≡ oneMore (record { node = n; packet = p } ∷ []) (drainFrom S b r v) → ByTurn S w budget room (Turn.Delivered p) v
+  delivers : {v : List ℕ} {p : ℕ} (m : NamedMove) (n b r : ℕ) → budget ≡ suc b → room ≡ suc r → Network S v
+      → drainFrom S budget room w ≡ oneMore m (record { node = n; packet = p } ∷ []) (drainFrom S b r v) → ByTurn S w budget room (Turn.Delivered p) v
 
 -- the first stop that holds, or the next move
 empty-drain : (S : Shape) (w : List ℕ) (budget room : ℕ) → packetsHeld S w ≡ 0 → drainFrom S budget room w ≡ stopped w Stop.Emptied
@@ -105,15 +105,18 @@ module _ (S : Shape) (tor : Torus S) (w : List ℕ) (N : Network S w) where
       home z zero e′ = stops e′
       home z (suc r) e′ =
           rw (ne-eqb (suc r) 0 (native.Mathlib.Nat.suc-ne-zero r))
-          (delivers n b r refl refl M
-          (e′ ∙ ap (λ (x : ℕ). oneMore (record { node = n; packet = head (held S w n q) } ∷ []) (drainFrom S b r (afterMove S w n q x))) (sym z)))
+          (delivers (record { node = n; queue = q; output = deliver }) n b r refl refl M
+          (e′
+          ∙ ap
+          (λ (x : ℕ). oneMore (record { node = n; queue = q; output = deliver }) (record { node = n; packet = head (held S w n q) } ∷ []) (drainFrom S b r (afterMove S w n q x)))
+          (sym z)))
 
       go : Dec (o ≡ deliver) → (room′ : ℕ)
           → drainFrom S (suc b) room′ w
-          ≡ cond (eqb o deliver) (deliverNext S w n q room′ (λ r u. drainFrom S b r u)) (oneMore [] (drainFrom S b room′ v))
+          ≡ cond (eqb o deliver) (deliverNext S w n q room′ (λ r u. drainFrom S b r u)) (oneMore (record { node = n; queue = q; output = o }) [] (drainFrom S b room′ v))
           → ByTurn S w (suc b) room′ (t room′) (unlessStopped (t room′) v w)
       go (yes z) room′ e′ = rw (eq-eqb o deliver z) (home z room′ (rw (eq-eqb o deliver z) at e′))
-      go (no ne) room′ e′ = rw (ne-eqb o deliver ne) (passes b refl M (rw (ne-eqb o deliver ne) at e′))
+      go (no ne) room′ e′ = rw (ne-eqb o deliver ne) (passes (record { node = n; queue = q; output = o }) b refl M (rw (ne-eqb o deliver ne) at e′))
 
   pub by-turn : (budget room : ℕ) → ByTurn S w budget room (turnAnswer S w budget room) (turnWords S w budget room)
   unfolding turnAnswer turnWords unlessStopped
@@ -127,24 +130,22 @@ module _ (S : Shape) (tor : Torus S) (w : List ℕ) (N : Network S w) where
           rw (ne-eqb (packetsHeld S w) 0 ne, ne-eqb (suc b) 0 (native.Mathlib.Nat.suc-ne-zero b))
           (by-found b room (firstMove S w) (first-finds S w) (next-drain S w b room ne))
 
--- the whole of a Drain from what its turns so far have come to: m moves made, ds handed out
-pub after-none : (r : Progress) → afterTurns 0 [] r ≡ r
+-- the whole of a Drain from what its turns so far have come to: the moves ms made, ds handed out
+pub after-none : (r : Progress) → afterTurns [] [] r ≡ r
 unfolding afterTurns
-after-none r = λ i. record { words = r .words; deliveries = r .deliveries; moves = zero-add (r .moves) i; stop = r .stop }
+after-none r = refl
 
-pub after-more : (m : ℕ) (ds es : List Delivery) (r : Progress) → afterTurns m ds (oneMore es r) ≡ afterTurns (m + 1) (ds ++ es) r
+pub after-more : (ms : List NamedMove) (m : NamedMove) (ds es : List Delivery) (r : Progress)
+    → afterTurns ms ds (oneMore m es r) ≡ afterTurns (ms ++ (m ∷ [])) (ds ++ es) r
 unfolding afterTurns oneMore
-after-more m ds es r =
+after-more ms m ds es r =
     λ i.
     record {
       words = r .words;
+      moves = sym (append-assoc ms (m ∷ []) (r .moves)) i;
       deliveries = sym (append-assoc ds es (r .deliveries)) i;
-      moves = more m (r .moves) i;
       stop = r .stop;
     }
-  where
-    more : (a b : ℕ) → a + suc b ≡ a + 1 + b
-    more a b = omega arith
 
 -- the turn by a move, at each place where the code returns
 pub by-passed : (S : Shape) (w : List ℕ) (room n q o : ℕ) → o ≢ 0 → turnBy S w room (Found.Move n q o) ≡ Turn.Passed

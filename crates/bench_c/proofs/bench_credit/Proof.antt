@@ -20,7 +20,7 @@ credit-requires-2 c κs = search needs
 
 -- src/lib.rt:47:1
 returns : tie.Need-returns
-returns c = let e = c .before .before .credit .ensures in (c .credit2 .ensures .0 ∙ ap creditNumber e, c .credit2 .ensures .1 ∙ ap creditOut e)
+returns c = let e = c .before .before .credit .ensures .0 in (c .credit2 .ensures .0 ∙ ap creditNumber e, c .credit2 .ensures .1 ∙ ap creditOut e)
 
 pub bench-credit-spec : {M : Type 1} → statement M
 bench-credit-spec = tie.close (tie.spec credit-requires credit-requires-2 returns)

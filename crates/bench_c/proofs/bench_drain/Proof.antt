@@ -28,7 +28,7 @@ same-length-2 c = search needs
 
 -- src/lib.rt:86:1
 returns : tie.Need-returns
-returns c = let e = c .before .before .before .before .before .before .drain .ensures .0 in (c .drained .ensures .0 ∙ ap drainedNumber e, (c .before .before .before .before .before .before .drain .ensures .1 .0, (c .before .before .before .before .before .before .drain .ensures .1 .1, c .drained .ensures .1 ∙ ap drainedOut e)))
+returns c = let e = c .before .before .before .before .before .before .drain .ensures .0 in (c .drained .ensures .0 ∙ ap drainedNumber e, (c .before .before .before .before .before .before .drain .ensures .1 .0, (c .before .before .before .before .before .before .drain .ensures .1 .1 .0, c .drained .ensures .1 ∙ ap drainedOut e)))
 
 pub bench-drain-spec : {M : Type 1} → statement M
 bench-drain-spec =

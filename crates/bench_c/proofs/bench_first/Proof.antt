@@ -20,7 +20,7 @@ found-requires c κs = search needs
 
 -- src/lib.rt:76:1
 returns : tie.Need-returns
-returns c = let e = c .before .before .first .ensures in (c .found .ensures .0 ∙ ap foundNumber e, c .found .ensures .1 ∙ ap foundOut e)
+returns c = let e = c .before .before .first .ensures .0 in (c .found .ensures .0 ∙ ap foundNumber e, c .found .ensures .1 ∙ ap foundOut e)
 
 pub bench-first-spec : {M : Type 1} → statement M
 bench-first-spec = tie.close (tie.spec first-requires found-requires returns)

@@ -24,7 +24,7 @@ same-length c = search needs
 
 -- src/lib.rt:36:1
 returns : tie.Need-returns
-returns c = let e = c .before .before .before .before .move-packet .ensures .0 in (c .moved .ensures .0 ∙ ap movedNumber e, (c .before .before .before .before .move-packet .ensures .1, c .moved .ensures .1 ∙ ap movedOut e))
+returns c = let e = c .before .before .before .before .move-packet .ensures .0 in (c .moved .ensures .0 ∙ ap movedNumber e, (c .before .before .before .before .move-packet .ensures .1 .0, c .moved .ensures .1 ∙ ap movedOut e))
 
 pub bench-move-spec : {M : Type 1} → statement M
 bench-move-spec = tie.close (tie.spec move-packet-requires moved-requires same-length returns)

@@ -6,7 +6,11 @@ use Rattle.packet.specs.Geometry.{shapeOfSizes}
 use Rattle.packet.specs.GeometryLaws.{inRange-rings}
 use Rattle.calls.specs.Answers.{still-broken, sound, long-enough, credit-broken, credit-refused, credit-free, credit-place}
 use mathlib.Core.Path.{ap}
+use mathlib.Core.List.{List}
+use Prim.Native.Nat.{ℕ}
 use Rattle.network.specs.declared.Credit.{Credit}
+use Rattle.network.specs.Calls.{creditAnswer}
+use Rattle.network.specs.Answers.{CreditTells, credit-tells}
 use Rattle.calls.proofs.credit.Statement.{statement}
 use Rattle.calls.proofs.credit.Tie as tie
 use Rattle.calls.proofs.credit.Reads as reads
@@ -15,6 +19,9 @@ use Rattle.checker.proofs.network_refusal.Reads as network-refusal-reads
 use Rattle.checker.proofs.sizes_of.Reads as sizes-of-reads
 use Rattle.flow.proofs.free_slots.Reads as free-slots-reads
 use Rattle.rules.proofs.credit_rules.Reads as credit-rules-reads
+
+with-values : {w : List ℕ} {n o : ℕ} {said : Credit} → said ≡ creditAnswer w n o → (said ≡ creditAnswer w n o) × CreditTells w n o said
+with-values {w} {n} {o} e = (e, subst (λ (r : Credit). CreditTells w n o r) (sym e) (credit-tells w n o))
 
 -- src/lib.rt:88:9
 network-refusal-requires : tie.Need-network-refusal-requires
@@ -25,7 +32,7 @@ returns : tie.Need-returns
 returns c =
     let a = c .before .before .before in
     let r = c .before .network-refusal in
-    ap Credit.Refused (r .ensures) ∙ credit-broken (now (a .args .words)) (a .args .node) (a .args .output) (still-broken (now (a .args .words)) (r .result) (r .ensures) (c .if1 .taken))
+    with-values (ap Credit.Refused (r .ensures) ∙ credit-broken (now (a .args .words)) (a .args .node) (a .args .output) (still-broken (now (a .args .words)) (r .result) (r .ensures) (c .if1 .taken)))
 
 -- src/lib.rt:92:9
 sizes-of-requires : tie.Need-sizes-of-requires
@@ -49,7 +56,7 @@ returns-2 c =
     let r = c .before .before .before .before .network-refusal in
     let z = c .before .before .sizes-of in
     let o = c .before .credit-rules in
-    credit-refused (shapeOfSizes (z .result)) (now (a .args .words)) (a .args .node) (a .args .output) (o .result) (sym (r .ensures) ∙ c .before .before .before .if1 .left) (z .ensures) (sym (o .ensures)) (c .if2 .taken)
+    with-values (credit-refused (shapeOfSizes (z .result)) (now (a .args .words)) (a .args .node) (a .args .output) (o .result) (sym (r .ensures) ∙ c .before .before .before .if1 .left) (z .ensures) (sym (o .ensures)) (c .if2 .taken))
 
 -- src/lib.rt:97:18
 free-slots-requires : tie.Need-free-slots-requires
@@ -70,8 +77,8 @@ returns-3 c =
     let r = c .before .before .before .before .before .network-refusal in
     let z = c .before .before .before .sizes-of in
     let o = c .before .before .credit-rules in
-    credit-free (shapeOfSizes (z .result)) (now (a .args .words)) (a .args .node) (a .args .output) (c .free-slots .result) (sym (r .ensures) ∙ c .before .before .before .before .if1 .left) (z .ensures)
-    (sym (o .ensures) ∙ c .before .if2 .left) (c .free-slots .ensures)
+    with-values (credit-free (shapeOfSizes (z .result)) (now (a .args .words)) (a .args .node) (a .args .output) (c .free-slots .result) (sym (r .ensures) ∙ c .before .before .before .before .if1 .left) (z .ensures)
+    (sym (o .ensures) ∙ c .before .if2 .left) (c .free-slots .ensures))
 
 pub credit-spec : {M : Type 1} → statement M
 credit-spec =

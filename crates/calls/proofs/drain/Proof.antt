@@ -4,7 +4,11 @@ use mathlib.Core.Path.{_≡_, sym, _∙_, subst}
 use denote.Ref.{now}
 use Rattle.packet.specs.Geometry.{shapeOfSizes}
 use mathlib.Core.Path.{ap}
+use mathlib.Core.List.{List}
+use Prim.Native.Nat.{ℕ}
 use Rattle.network.specs.declared.Drained.{Drained}
+use Rattle.network.specs.Calls.{drainAnswer}
+use Rattle.network.specs.Answers.{DrainTells, drain-tells}
 use Rattle.calls.specs.Answers.{still-broken, sound, long-enough, drain-broken, drain-done}
 use Rattle.calls.proofs.drain.Statement.{statement}
 use Rattle.calls.proofs.drain.Tie as tie
@@ -13,6 +17,9 @@ use Rattle.calls.proofs.drain.Lts as lts
 use Rattle.drains.proofs.drain_network.Reads as drain-network-reads
 use Rattle.checker.proofs.network_refusal.Reads as network-refusal-reads
 use Rattle.checker.proofs.sizes_of.Reads as sizes-of-reads
+
+told : (w : List ℕ) (budget room : ℕ) (said : Drained) → said ≡ drainAnswer w budget room → DrainTells w budget room said
+told w budget room said e = subst (λ (r : Drained). DrainTells w budget room r) (sym e) (drain-tells w budget room)
 
 -- src/lib.rt:144:9
 network-refusal-requires : tie.Need-network-refusal-requires
@@ -28,7 +35,7 @@ returns c =
     let a = c .before .before .before .before .before in
     let r = c .before .network-refusal in
     let x = drain-broken (now (a .args .words)) (a .args .budget) (now (a .args .ledger)) (still-broken (now (a .args .words)) (r .result) (r .ensures) (c .if1 .taken)) in
-    (ap Drained.Refused (r .ensures) ∙ x .says, (x .leaves, x .writes))
+    (ap Drained.Refused (r .ensures) ∙ x .says, (x .leaves, (x .writes, told _ _ _ _ (ap Drained.Refused (r .ensures) ∙ x .says))))
 
 -- src/lib.rt:148:9
 sizes-of-requires : tie.Need-sizes-of-requires
@@ -60,9 +67,9 @@ returns-2 c =
     let r = c .before .before .before .before .before .before .before .before .before .before .network-refusal in
     let z = c .before .before .before .before .before .before .before .sizes-of in
     let d = c .before .before .before .before .drain-network in
-    let x = drain-done (shapeOfSizes (z .result)) (now (a .args .words)) (a .args .budget) (now (a .args .ledger)) (d .last .0) (d .last .1 .1 .1 .0) (d .ensures .handed) (d .ensures .moves) (d .ensures .why)
+    let x = drain-done (shapeOfSizes (z .result)) (now (a .args .words)) (a .args .budget) (now (a .args .ledger)) (d .last .0) (d .last .1 .1 .1 .0) (d .ensures .made) (d .ensures .handed) (d .ensures .why)
     (sym (r .ensures) ∙ c .before .before .before .before .before .before .before .before .before .if1 .left) (z .ensures) (d .ensures .whole) (d .ensures .writes) in
-    (d .ensures .says ∙ x .says, (x .leaves, x .writes))
+    (d .ensures .says ∙ x .says, (x .leaves, (x .writes, told _ _ _ _ (d .ensures .says ∙ x .says))))
 
 pub drain-spec : {M : Type 1} → statement M
 drain-spec =

@@ -4,7 +4,11 @@ use mathlib.Core.Path.{_≡_, sym, _∙_, subst}
 use denote.Ref.{now}
 use Rattle.packet.specs.Geometry.{shapeOfSizes}
 use mathlib.Core.Path.{ap}
+use mathlib.Core.List.{List}
+use Prim.Native.Nat.{ℕ}
 use Rattle.network.specs.declared.Found.{Found}
+use Rattle.network.specs.Calls.{firstAnswer}
+use Rattle.network.specs.Answers.{FirstTells, first-tells}
 use Rattle.calls.specs.Answers.{still-broken, sound, long-enough, first-broken, first-found}
 use Rattle.calls.proofs.first.Statement.{statement}
 use Rattle.calls.proofs.first.Tie as tie
@@ -13,6 +17,9 @@ use Rattle.calls.proofs.first.Lts as lts
 use Rattle.checker.proofs.network_refusal.Reads as network-refusal-reads
 use Rattle.checker.proofs.sizes_of.Reads as sizes-of-reads
 use Rattle.first.proofs.first_move.Reads as first-move-reads
+
+with-values : {w : List ℕ} {said : Found} → said ≡ firstAnswer w → (said ≡ firstAnswer w) × FirstTells w said
+with-values {w} e = (e, subst (λ (r : Found). FirstTells w r) (sym e) (first-tells w))
 
 -- src/lib.rt:130:9
 network-refusal-requires : tie.Need-network-refusal-requires
@@ -23,7 +30,7 @@ returns : tie.Need-returns
 returns c =
     let a = c .before .before .before in
     let r = c .before .network-refusal in
-    ap Found.Refused (r .ensures) ∙ first-broken (now (a .args .words)) (still-broken (now (a .args .words)) (r .result) (r .ensures) (c .if1 .taken))
+    with-values (ap Found.Refused (r .ensures) ∙ first-broken (now (a .args .words)) (still-broken (now (a .args .words)) (r .result) (r .ensures) (c .if1 .taken)))
 
 -- src/lib.rt:134:37
 sizes-of-requires : tie.Need-sizes-of-requires
@@ -46,7 +53,7 @@ returns-2 c =
     let a = c .before .before .before .before .before in
     let r = c .before .before .before .network-refusal in
     let z = c .before .sizes-of in
-    first-found (shapeOfSizes (z .result)) (now (a .args .words)) (c .first-move .result) (sym (r .ensures) ∙ c .before .before .if1 .left) (z .ensures) (c .first-move .ensures)
+    with-values (first-found (shapeOfSizes (z .result)) (now (a .args .words)) (c .first-move .result) (sym (r .ensures) ∙ c .before .before .if1 .left) (z .ensures) (c .first-move .ensures))
 
 pub first-spec : {M : Type 1} → statement M
 first-spec =

@@ -1,6 +1,7 @@
 -- `calls::look` meets its contract. Assumes nothing.
 use borrow.Author.Needs.{needs}
-use mathlib.Core.Path.{_≡_, sym, _∙_, subst}
+use mathlib.Core.Path.{_≡_, sym, _∙_}
+use mathlib.Core.Logic.{_≢_}
 use denote.Ref.{now}
 use Rattle.packet.specs.Geometry.{shapeOfSizes}
 use Prim.Native.Nat.{ℕ, _+_, _≤_}
@@ -11,6 +12,8 @@ use Rattle.network.specs.Calls.{shapeOf}
 use Rattle.network.specs.SizesLaws.{range-of}
 use Rattle.packet.specs.GeometryLaws.{inRange-rings, rings-nodes}
 use Rattle.calls.specs.Answers.{look-refused, look-shown, Looking, looking, looking-long, held-part, held-end}
+use Rattle.calls.specs.Place.{place-refused, place-shown}
+use Rattle.network.specs.Refusals.{lookRefusal}
 use Rattle.calls.proofs.look.Statement.{statement}
 use Rattle.calls.proofs.look.Tie as tie
 use Rattle.calls.proofs.look.Reads as reads
@@ -41,7 +44,9 @@ returns : tie.Need-returns
 returns c =
     let a = c .before .before .before .before in
     let r = c .before .before .look-refusal in
-    look-refused (now (a .args .words)) (a .args .node) (a .args .queue) (λ z. c .before .if1 .taken (r .ensures ∙ z))
+    let ne : lookRefusal (now (a .args .words)) (a .args .node) (a .args .queue) ≢ 0 = λ z. c .before .if1 .taken (r .ensures ∙ z) in
+    let e = look-refused (now (a .args .words)) (a .args .node) (a .args .queue) ne in
+    (e, place-refused _ _ _ _ ne e)
 
 -- src/lib.rt:118:9
 sizes-of-requires : tie.Need-sizes-of-requires
@@ -91,20 +96,8 @@ add-to : tie.Need-add-to
 add-to c = let e = ends c in omega (arith, c .before .before .before .before .before .before .good .0)
 
 -- src/lib.rt:123:5
-mul-result : tie.Need-mul-result
-mul-result c = let e = ends c in omega (arith, c .before .before .before .before .before .before .good .0)
-
--- src/lib.rt:123:5
-sub-result-2 : tie.Need-sub-result-2
-sub-result-2 c = search needs
-
--- src/lib.rt:123:5
-part-result-start-2 : tie.Need-part-result-start-2
-part-result-start-2 c = search needs
-
--- src/lib.rt:123:5
-part-result-end-2 : tie.Need-part-result-end-2
-part-result-end-2 c = ends c
+between-requires : tie.Need-between-requires
+between-requires c κs = let e = ends c in (omega arith, omega arith)
 
 -- src/lib.rt:112:1
 returns-2 : tie.Need-returns-2
@@ -115,8 +108,9 @@ returns-2 c =
     let q = c .before .before .queue-start in
     let h = c .before .held-count in
     let k = looking (shapeOfSizes (z .result)) (now (a .args .words)) (a .args .node) (a .args .queue) (r .result) (r .ensures) (c .before .before .before .before .if1 .left) (z .ensures) in
-    look-shown (shapeOfSizes (z .result)) (now (a .args .words)) _ (a .args .node) (a .args .queue) (z .ensures) (sym (r .ensures) ∙ c .before .before .before .before .if1 .left)
-    (held-part (shapeOfSizes (z .result)) (now (a .args .words)) (a .args .node) (a .args .queue) (q .result) (h .result) k (q .ensures (z .result .x) (z .result .y)) (h .ensures))
+    let e = look-shown (shapeOfSizes (z .result)) (now (a .args .words)) _ (a .args .node) (a .args .queue) (z .ensures) (sym (r .ensures) ∙ c .before .before .before .before .if1 .left)
+    (c .between .ensures .1 ∙ held-part (shapeOfSizes (z .result)) (now (a .args .words)) (a .args .node) (a .args .queue) (q .result) (h .result) k (q .ensures (z .result .x) (z .result .y)) (h .ensures)) in
+    (e, place-shown (shapeOfSizes (z .result)) _ _ _ _ (q .result) (z .ensures) (q .ensures (z .result .x) (z .result .y)) (c .between .ensures .0) e)
 
 pub look-spec : {M : Type 1} → statement M
 look-spec =
@@ -132,8 +126,5 @@ look-spec =
     held-count-requires
     add-from
     add-to
-    mul-result
-    sub-result-2
-    part-result-start-2
-    part-result-end-2
+    between-requires
     returns-2)

@@ -3,7 +3,12 @@ use borrow.Author.Needs.{needs}
 use mathlib.Core.Path.{_≡_, sym, _∙_, subst}
 use denote.Ref.{now}
 use Rattle.packet.specs.Geometry.{shapeOfSizes}
+use mathlib.Core.List.{List}
+use Prim.Native.Nat.{ℕ}
+use Rattle.network.specs.declared.Moved.{Moved}
 use Rattle.network.specs.RefusalLaws.{permitted-of}
+use Rattle.network.specs.Calls.{moveAnswer}
+use Rattle.network.specs.Answers.{MoveTells, move-tells}
 use Rattle.calls.specs.Answers.{still-broken, sound, long-enough, move-refused, move-broken, move-rules, move-delivered, move-passed}
 use Rattle.calls.proofs.move_packet.Statement.{statement}
 use Rattle.calls.proofs.move_packet.Tie as tie
@@ -13,6 +18,9 @@ use Rattle.changes.proofs.make_move.Reads as make-move-reads
 use Rattle.checker.proofs.network_refusal.Reads as network-refusal-reads
 use Rattle.checker.proofs.sizes_of.Reads as sizes-of-reads
 use Rattle.rules.proofs.move_rules.Reads as move-rules-reads
+
+told : (w : List ℕ) (n q o : ℕ) (said : Moved) → said ≡ moveAnswer w n q o → MoveTells w n q o said
+told w n q o said e = subst (λ (r : Moved). MoveTells w n q o r) (sym e) (move-tells w n q o)
 
 -- src/lib.rt:68:9
 network-refusal-requires : tie.Need-network-refusal-requires
@@ -29,7 +37,7 @@ returns c =
     let r = c .before .network-refusal in
     let x = move-refused (now (a .args .words)) (a .args .node) (a .args .queue) (a .args .output) (r .result)
     (move-broken (now (a .args .words)) (a .args .node) (a .args .queue) (a .args .output) (still-broken (now (a .args .words)) (r .result) (r .ensures) (c .if1 .taken)) ∙ sym (r .ensures)) (c .if1 .taken) in
-    (x .says, x .leaves)
+    (x .says, (x .leaves, told _ _ _ _ _ (x .says)))
 
 -- src/lib.rt:72:9
 sizes-of-requires : tie.Need-sizes-of-requires
@@ -59,7 +67,7 @@ returns-2 c =
     let o = c .before .move-rules in
     let x = move-refused (now (a .args .words)) (a .args .node) (a .args .queue) (a .args .output) (o .result)
     (move-rules (shapeOfSizes (z .result)) (now (a .args .words)) (a .args .node) (a .args .queue) (a .args .output) (sym (r .ensures) ∙ c .before .before .before .before .before .if1 .left) (z .ensures) ∙ sym (o .ensures)) (c .if2 .taken) in
-    (x .says, x .leaves)
+    (x .says, (x .leaves, told _ _ _ _ _ (x .says)))
 
 -- src/lib.rt:77:9
 make-move-requires : tie.Need-make-move-requires
@@ -86,7 +94,7 @@ returns-3 c =
     let m = c .before .before .before .make-move in
     let x = move-delivered (shapeOfSizes (z .result)) (now (a .args .words)) (a .args .node) (a .args .queue) (a .args .output) (m .result) (sym (r .ensures) ∙ c .before .before .before .before .before .before .before .before .before .before .if1 .left) (z .ensures)
     (sym (o .ensures) ∙ c .before .before .before .before .before .if2 .left) (c .if3 .taken) (m .ensures .1) in
-    (x .says, m .ensures .0 ∙ x .leaves)
+    (x .says, (m .ensures .0 ∙ x .leaves, told _ _ _ _ _ (x .says)))
 
 -- src/lib.rt:64:1
 same-length-4 : tie.Need-same-length-4
@@ -102,7 +110,7 @@ returns-4 c =
     let m = c .before .before .before .make-move in
     let x = move-passed (shapeOfSizes (z .result)) (now (a .args .words)) (a .args .node) (a .args .queue) (a .args .output) (sym (r .ensures) ∙ c .before .before .before .before .before .before .before .before .before .before .if1 .left) (z .ensures)
     (sym (o .ensures) ∙ c .before .before .before .before .before .if2 .left) (c .if3 .left) in
-    (x .says, m .ensures .0 ∙ x .leaves)
+    (x .says, (m .ensures .0 ∙ x .leaves, told _ _ _ _ _ (x .says)))
 
 pub move-packet-spec : {M : Type 1} → statement M
 move-packet-spec =

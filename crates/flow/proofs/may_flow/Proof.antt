@@ -14,7 +14,7 @@ use lib.ListN.{length}
 use Rattle.network.specs.Sizes.{capacity, isEscape}
 use Rattle.network.specs.SizesLaws.{range-of, capacity-most}
 use Rattle.network.specs.Layout.{held}
-use Rattle.network.specs.Routes.{target, freeSlots, slotsNeeded}
+use Rattle.network.specs.Routes.{target, freeSlots, entersRing, slotsNeeded}
 use Rattle.network.specs.Refusals.{flowRules}
 use Rattle.network.specs.RefusalLaws.{flow-of, flow-by}
 use Rattle.packet.specs.Geometry.{shapeOfSizes}
@@ -48,7 +48,7 @@ room s w n q o there slots count needed k et es ec en some = go (decLe (count + 
 -- their sum is small
 small-sum : (s : Sizes) (w : List ℕ) (n q o there slots count needed : ℕ) → QueueOf s w n o → there ≡ target (shapeOfSizes s) n o
     → slots ≡ capacity (shapeOfSizes s) o → count ≡ length (held (shapeOfSizes s) w there o) → needed ≡ slotsNeeded q o → count + needed ≤ 10
-unfolding slotsNeeded
+unfolding entersRing slotsNeeded
 small-sum s w n q o there slots count needed k et es ec en = go (isEscape o && not (eqb q o)) en
   where
     few : count ≤ 8

@@ -5,13 +5,13 @@ use Prim.Native.Nat.{ℕ, _≤_}
 use borrow.Author.Tests.{eq-eqb, ne-eqb, lt-ltb, le-ltb}
 use lib.Dec.{eqb}
 use Rattle.network.specs.Sizes.{isEscape}
-use Rattle.network.specs.Routes.{slotsNeeded}
+use Rattle.network.specs.Routes.{entersRing, slotsNeeded}
 use Rattle.flow.proofs.slots_needed.Statement.{statement}
 use Rattle.flow.proofs.slots_needed.Tie as tie
 
 -- by what the two tests said
 needed : (q o : ℕ) (a b : Bool) → isEscape o ≡ a → eqb q o ≡ b → cond (a && not b) 2 1 ≡ slotsNeeded q o
-unfolding slotsNeeded
+unfolding entersRing slotsNeeded
 needed q o a b e f = sym (ap₂ (λ (x y : Bool). cond (x && not y) 2 1) e f)
 
 adaptive : (q o : ℕ) → o ≤ 4 → 1 ≡ slotsNeeded q o

@@ -7,7 +7,7 @@ use Rattle.network.specs.Calls.{drainedDelivered}
 use borrow.Author.Needs.{needs}
 use native.Mathlib.Omega.{arith}
 use Rattle.session.specs.Session.{perform}
-use Rattle.session.specs.Ledger.{delivered-within}
+use Rattle.network.specs.DrainLaws.{delivered-within}
 use Rattle.session.proofs.run_drain.Statement.{statement}
 use Rattle.session.proofs.run_drain.Tie as tie
 
@@ -27,7 +27,7 @@ put-drained-requires c κs =
     let a = c .before .before .before .before .before .before .before .before .before .before in
     let within : drainedDelivered (d .result) ≤ 64
     = rw (d .ensures .0) (delivered-within (now (a .args .store)) (a .args .budget) 64) in
-    let room : a .args .at + 1314 ≤ length (now (a .args .out)) = a .pre in
+    let room : 1314 ≤ length (now (a .args .out)) = a .pre in
     (rw k within, rw k (omega arith))
 
 same-length : tie.Need-same-length
@@ -41,7 +41,7 @@ unfolding perform
 returns c =
     let line = c .before .before .put-drained .ensures in
     let call = c .before .before .before .before .before .before .before .before .drain .ensures in
-    (call .1 .0, rw (sym (call .0), sym (call .1 .1)) line)
+    (call .1 .0, rw (sym (call .0), sym (call .1 .1 .0)) line)
 
 pub run-drain-spec : {M : Type 1} → statement M
 run-drain-spec =

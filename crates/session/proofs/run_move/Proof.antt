@@ -22,7 +22,7 @@ unfolding perform
 returns c =
     let line = c .before .before .put-moved .ensures in
     let call = c .before .before .before .before .before .before .move-packet .ensures in
-    (call .1, rw (sym (call .0)) line)
+    (call .1 .0, rw (sym (call .0)) line)
 
 pub run-move-spec : {M : Type 1} → statement M
 run-move-spec =

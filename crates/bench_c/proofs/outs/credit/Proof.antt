@@ -1,7 +1,7 @@
 -- `bench_c::outs::credit` meets its contract: each case of the answer by its definition. Assumes nothing.
 use borrow.Author.Needs.{needs}
 use mathlib.Core.Path.{_≡_, ap, sym, _∙_}
-use Rattle.network.specs.Calls.{creditNumber}
+use Rattle.network.specs.Calls.{creditNumber, creditSlots}
 use Rattle.bench_c.specs.Outs.{creditOut}
 use Rattle.bench_c.proofs.outs.credit.Statement.{statement}
 use Rattle.bench_c.proofs.outs.credit.Tie as tie
@@ -18,12 +18,12 @@ enum-known-c-2 c = search needs
 
 -- src/outs.rt:31:1
 returns : tie.Need-returns
-unfolding creditNumber creditOut
+unfolding creditNumber creditSlots creditOut
 returns c = let e = c .before .before .c .given .1 in (sym (ap creditNumber e), sym (ap creditOut e))
 
 -- src/outs.rt:31:1
 returns-2 : tie.Need-returns-2
-unfolding creditNumber creditOut
+unfolding creditNumber creditSlots creditOut
 returns-2 c = let e = c .before .before .c2 .given .1 in (sym (ap creditNumber e), sym (ap creditOut e))
 
 pub credit-spec : {M : Type 1} → statement M

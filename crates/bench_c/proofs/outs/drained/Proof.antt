@@ -1,7 +1,7 @@
 -- `bench_c::outs::drained` meets its contract: each case of the answer by its definition. Assumes nothing.
 use borrow.Author.Needs.{needs}
 use mathlib.Core.Path.{_≡_, ap, sym, _∙_}
-use Rattle.network.specs.Calls.{drainedNumber}
+use Rattle.network.specs.Calls.{drainedNumber, drainedMoves, drainedDelivered, drainedStop}
 use Rattle.bench_c.specs.Outs.{drainedOut}
 use Rattle.bench_c.specs.OutLaws.{drained-told}
 use Rattle.bench_c.proofs.outs.drained.Statement.{statement}
@@ -24,7 +24,7 @@ stop-number-requires c κs = search needs
 
 -- src/outs.rt:77:1
 returns : tie.Need-returns
-unfolding drainedNumber drainedOut
+unfolding drainedNumber drainedMoves drainedDelivered drainedStop drainedOut
 returns c = let e = c .before .before .d .given .1 in (sym (ap drainedNumber e), sym (ap drainedOut e))
 
 -- src/outs.rt:77:1

@@ -1,7 +1,7 @@
 -- `bench_c::outs::found` meets its contract: each case of the answer by its definition. Assumes nothing.
 use borrow.Author.Needs.{needs}
 use mathlib.Core.Path.{_≡_, ap, sym, _∙_}
-use Rattle.network.specs.Calls.{foundNumber}
+use Rattle.network.specs.Calls.{foundNumber, foundMove}
 use Rattle.bench_c.specs.Outs.{foundOut}
 use Rattle.bench_c.proofs.outs.found.Statement.{statement}
 use Rattle.bench_c.proofs.outs.found.Tie as tie
@@ -22,17 +22,17 @@ enum-known-f-2 c = search needs
 
 -- src/outs.rt:47:1
 returns : tie.Need-returns
-unfolding foundNumber foundOut
+unfolding foundNumber foundMove foundOut
 returns c = let e = c .before .before .f .given .1 in (sym (ap foundNumber e), sym (ap foundOut e))
 
 -- src/outs.rt:47:1
 returns-2 : tie.Need-returns-2
-unfolding foundNumber foundOut
+unfolding foundNumber foundMove foundOut
 returns-2 c = let e = c .before .enum-told .given .1 in (sym (ap foundNumber e), sym (ap foundOut e))
 
 -- src/outs.rt:47:1
 returns-3 : tie.Need-returns-3
-unfolding foundNumber foundOut
+unfolding foundNumber foundMove foundOut
 returns-3 c = let e = c .before .before .f2 .given .1 in (sym (ap foundNumber e), sym (ap foundOut e))
 
 pub found-spec : {M : Type 1} → statement M

@@ -1,7 +1,8 @@
 -- `bench_c::outs::moved` meets its contract: each case of the answer by its definition. Assumes nothing.
 use borrow.Author.Needs.{needs}
 use mathlib.Core.Path.{_≡_, ap, sym, _∙_}
-use Rattle.network.specs.Calls.{movedNumber}
+use Rattle.network.specs.Refusals.{head}
+use Rattle.network.specs.Calls.{movedNumber, movedPackets}
 use Rattle.bench_c.specs.Outs.{movedOut}
 use Rattle.bench_c.proofs.outs.moved.Statement.{statement}
 use Rattle.bench_c.proofs.outs.moved.Tie as tie
@@ -22,17 +23,17 @@ enum-known-m-2 c = search needs
 
 -- src/outs.rt:11:1
 returns : tie.Need-returns
-unfolding movedNumber movedOut
+unfolding movedNumber movedPackets movedOut head
 returns c = let e = c .before .before .m .given .1 in (sym (ap movedNumber e), sym (ap movedOut e))
 
 -- src/outs.rt:11:1
 returns-2 : tie.Need-returns-2
-unfolding movedNumber movedOut
+unfolding movedNumber movedPackets movedOut head
 returns-2 c = let e = c .before .enum-told .given .1 in (sym (ap movedNumber e), sym (ap movedOut e))
 
 -- src/outs.rt:11:1
 returns-3 : tie.Need-returns-3
-unfolding movedNumber movedOut
+unfolding movedNumber movedPackets movedOut head
 returns-3 c = let e = c .before .before .m2 .given .1 in (sym (ap movedNumber e), sym (ap movedOut e))
 
 pub moved-spec : {M : Type 1} → statement M

@@ -1,10 +1,10 @@
--- `bench::write_gathered` is safe: the part that is lent lies within the buffer. Assumes nothing.
+-- `bench::write_first` is safe: the part that is lent lies within the buffer. Assumes nothing.
 use mathlib.Core.Path.{sym}
 use denote.Ref.{now}
 use lib.Seq.{length-take-le}
 use borrow.Author.Needs.{needs}
-use Rattle.bench.proofs.write_gathered.Statement.{statement}
-use Rattle.bench.proofs.write_gathered.Tie as tie
+use Rattle.bench.proofs.write_first.Statement.{statement}
+use Rattle.bench.proofs.write_first.Tie as tie
 
 slice-aggregate-write-all : tie.Need-slice-aggregate-write-all
 slice-aggregate-write-all c =
@@ -17,5 +17,5 @@ write-all-requires c κs = search needs
 returns : tie.Need-returns
 returns c = search needs
 
-pub write-gathered-spec : {M : Type 1} → statement M
-write-gathered-spec = tie.close (tie.spec slice-aggregate-write-all write-all-requires returns)
+pub write-first-spec : {M : Type 1} → statement M
+write-first-spec = tie.close (tie.spec slice-aggregate-write-all write-all-requires returns)
