@@ -5,8 +5,10 @@ use libc::STDOUT_FILENO;
 use lines::HELD_BYTES;
 use session::COMMAND_ROOM;
 use session::STORE_WORDS;
-ghost use Prim.Native.Nat.{_≤_};
+ghost use mathlib.Core.List.{List};
+ghost use Prim.Native.Nat.{ℕ, _≤_};
 ghost use lib.ListN.{length};
+ghost use Rattle.session.specs.Reads.{sheet, Reached};
 
 // The bytes of a read at most.
 const PIECE: usize = 1024;
@@ -28,18 +30,20 @@ fn write_first(out: &[u8], at: usize) -> bool
 }
 
 // One read, its answer and one write. A read of no bytes is handed over too: it is the end of the input. After a read or a write that
-// failed nothing more is done.
+// failed nothing more is done. What was read no contract says, but whatever it was, the sheet is one that reads lead to.
 fn read_once(
     store: &mut [u64; STORE_WORDS],
     line: &mut [u8; HELD_BYTES],
     pending: usize,
     out: &mut [u8; OUT_ROOM],
-) -> Turn {
+) -> Turn
+    ensures { λ r. ⌜ ((buffer : List ℕ) → Reached buffer (sheet (now (store .entry)) (now (line .entry)) pending) → Reached buffer (sheet (now (store .exit)) (now (line .exit)) (r .pending))) ⌝ }
+{
     let mut piece = [0u8; PIECE];
     let got = libc::read(STDIN_FILENO, &mut piece);
     if got < 0 {
         return Turn {
-            pending: 0,
+            pending: pending,
             more: false,
         };
     }

@@ -115,16 +115,17 @@ reads-answered s ((b ∷ bs) ∷ reads) h =
     ap (printedBefore (carryOut (s .store) c .output)) (reads-answered (carryOut (s .store) c .sheet) reads (h .1))
     ∙ sym (carry-reads (s .store) c reads)
 
--- and one more read, here the end of the input
+-- and one read more
 read-last : (s : Sheet) (reads : List (List ℕ)) (last : List ℕ)
-    → answerReads s (reads ++ (last ∷ [])) .output ≡ answerReads s reads .output ++ answerRead (answerReads s reads .sheet) last .output
+    → answerReads s (reads ++ (last ∷ [])) ≡ printedBefore (answerReads s reads .output) (answerRead (answerReads s reads .sheet) last)
 unfolding answerReads
-read-last s [] last = append-nil (answerRead s last .output)
+read-last s [] last = ap (λ o. record { sheet = answerRead s last .sheet; output = o }) (append-nil (answerRead s last .output))
 read-last s (read ∷ reads) last =
-    ap (λ o. answerRead s read .output ++ o) (read-last (answerRead s read .sheet) reads last)
-    ∙ sym
+    ap (printedBefore (answerRead s read .output)) (read-last (answerRead s read .sheet) reads last)
+    ∙ ap (λ o. record { sheet = answerRead (answerReads (answerRead s read .sheet) reads .sheet) last .sheet; output = o })
+    (sym
     (append-assoc (answerRead s read .output) (answerReads (answerRead s read .sheet) reads .output)
-    (answerRead (answerReads (answerRead s read .sheet) reads .sheet) last .output))
+    (answerRead (answerReads (answerRead s read .sheet) reads .sheet) last .output)))
 
 end-answered : (store : List ℕ) (c : Cutting)
     → carryOut store c .output ++ answerRead (carryOut store c .sheet) [] .output ≡ performAll (map keptCommand (finishCutting c)) store .output
@@ -137,7 +138,7 @@ pub sheet-right : (buffer : List ℕ) → heldBytes ≤ length buffer → (reads
 unfolding sheetOutput startSheet startCutting cutter
 sheet-right buffer room reads some =
     let s : Sheet = startSheet buffer in
-    read-last s reads []
+    ap (λ a. a .output) (read-last s reads [])
     ∙ ap (λ a. a .output ++ answerRead (a .sheet) [] .output) (reads-answered s reads some)
     ∙ end-answered newStore (feedReads (cutter s) reads)
     ∙ ap (λ commands. performAll commands newStore .output) (commands-right buffer room reads)
@@ -151,3 +152,19 @@ lines-right buffer room reads some before rest e none =
     ap (λ a. a .output) (reads-answered (startSheet buffer) reads some)
     ∙ ap (λ ks. performAll (map keptCommand ks) newStore .output) (cut-so-far buffer room reads before rest e none)
     ∙ ap (λ commands. performAll commands newStore .output) (kept-commands (lines (before ++ (lf ∷ []))))
+
+-- a sheet that has come from its start to here by reads, for the program's loop
+pub record Reached (buffer : List ℕ) (s : Sheet) : Type 0 where
+  pub reads : List (List ℕ)
+  pub leaves : s ≡ answerReads (startSheet buffer) reads .sheet
+
+pub reached-start : (buffer : List ℕ) (s : Sheet) → s ≡ startSheet buffer → Reached buffer s
+unfolding answerReads
+reached-start buffer s e = record { reads = []; leaves = e }
+
+pub reached-more : (buffer : List ℕ) (s s′ : Sheet) (piece : List ℕ) → s′ ≡ answerRead s piece .sheet → Reached buffer s → Reached buffer s′
+reached-more buffer s s′ piece e r =
+    record {
+      reads = r .reads ++ (piece ∷ []);
+      leaves = e ∙ ap (λ t. answerRead t piece .sheet) (r .leaves) ∙ sym (ap (λ a. a .sheet) (read-last (startSheet buffer) (r .reads) piece));
+    }

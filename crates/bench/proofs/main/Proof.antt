@@ -1,10 +1,12 @@
--- `bench::main` is safe and ends. The measure is the turns left. Assumes nothing.
+-- `bench::main` is safe and ends. The loop's invariant: the sheet has come from its start to here by reads. The measure is the turns left. Assumes
+-- nothing.
 use borrow.Author.Needs.{needs}
+use Rattle.session.specs.Reads.{sheet, Reached, reached-start}
 use Rattle.bench.proofs.main.Statement.{statement}
 use Rattle.bench.proofs.main.Tie as tie
 
 abbrev Inv-loop : tie.InvT-loop
-Inv-loop store₀ line₀ out₀ pending₀ more₀ turns₀ store line out pending more turns = Unit
+Inv-loop store₀ line₀ out₀ pending₀ more₀ turns₀ store line out pending more turns = Reached line₀ (sheet store line pending)
 
 abbrev μ-loop : tie.MeasureT-loop
 μ-loop store₀ line₀ out₀ pending₀ more₀ turns₀ store line out pending more turns = turns
@@ -13,7 +15,7 @@ start-requires : tie.Need-start-requires Inv-loop μ-loop
 start-requires c κs = search needs
 
 loop-holds : tie.Need-loop-holds Inv-loop μ-loop
-loop-holds c = search needs
+loop-holds c = reached-start _ _ (c .start .ensures _)
 
 read-once-requires : tie.Need-read-once-requires Inv-loop μ-loop
 read-once-requires c κs = search needs
@@ -25,7 +27,7 @@ loop-less : tie.Need-loop-less Inv-loop μ-loop
 loop-less c = search needs
 
 loop-again : tie.Need-loop-again Inv-loop μ-loop
-loop-again c = search needs
+loop-again c = c .read-once .ensures _ (c .before .before .before .before .before .before .loop .inv)
 
 returns : tie.Need-returns Inv-loop μ-loop
 returns c = search needs

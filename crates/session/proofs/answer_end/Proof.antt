@@ -14,7 +14,7 @@ answer-fed-requires : tie.Need-answer-fed-requires
 answer-fed-requires c κs =
     let finish = c .before .before in
     let a = finish .before .before .before .before in
-    (a .pre .1, rw (finish .finish .ensures) (finished-within (now (a .args .line)) (a .args .pending) (a .pre .0)))
+    (a .pre .1, rw (finish .finish .ensures) (finished-within (now (a .args .line)) _ (a .pre .0)))
 
 same-length : tie.Need-same-length
 same-length c = search needs
