@@ -1,21 +1,65 @@
-/* A ring of four nodes, one packet from node 0 to node 2, drained to its end. */
+/*
+ * The library from C: a ring of four nodes and two packets. An offer and a move
+ * are refused, and the program goes on by what the refusal says. R12 is a
+ * clause of docs/RULES.md.
+ */
 #include <inttypes.h>
 #include <stdio.h>
 
 #include "bench.h"
 
+/* Prints what a call answered, and hands the number on. */
+static uint64_t told(const char *call, uint64_t refusal)
+{
+    if (refusal == 0)
+        printf("%s: done\n", call);
+    else
+        printf("%s: refused by %" PRIu64 "\n", call, refusal);
+    return refusal;
+}
+
 int main(void)
 {
-    uint64_t words[BENCH_WORDS(4, 1, 2, 1, 1)], ledger[8], out[BENCH_DRAIN_OUT];
+    /* All that is lent is initialised. */
+    uint64_t words[BENCH_WORDS(4, 1, 2, 1, 1)] = {0}, ledger[8] = {0};
     size_t len = sizeof words / sizeof words[0];
-    uint64_t made = bench_make(words, len, 4, 1, 2, 1, 1);
-    uint64_t offered = bench_offer(words, len, 0, 2, 7);
-    uint64_t again = bench_offer(words, len, 0, 1, 8);
-    uint64_t drained = bench_drain(words, len, 10, ledger, 8, out);
+    uint64_t moved[BENCH_MOVE_OUT] = {0}, credit[BENCH_CREDIT_OUT] = {0};
+    uint64_t look[BENCH_LOOK_OUT] = {0}, drain[BENCH_DRAIN_OUT] = {0};
 
-    printf("make %" PRIu64 ", offers %" PRIu64 " and %" PRIu64 ", drain %" PRIu64 "\n", made, offered, again, drained);
-    printf("%" PRIu64 " moves, %" PRIu64 " delivered, stop %" PRIu64 "\n", out[0], out[1], out[2]);
-    for (uint64_t i = 0; i < out[1]; i++)
-        printf("tag %" PRIu32 " at node %" PRIu32 "\n", BENCH_TAG(ledger[i]), BENCH_DESTINATION(ledger[i]));
+    if (told("make", bench_make(words, len, 4, 1, 2, 1, 1)) != 0)
+        return 1;
+    if (told("offer 7 at node 0 for node 2", bench_offer(words, len, 0, 2, 7)) != 0)
+        return 1;
+
+    /* Node 0 has one slot for new packets. When it is full, move the head on and offer again. */
+    if (told("offer 8 at node 0 for node 1", bench_offer(words, len, 0, 1, 8)) == BENCH_GATE_FULL) {
+        told("move from queue 0 of node 0 to output 5", bench_move(words, len, 0, 0, 5, moved));
+        told("offer 8 again", bench_offer(words, len, 0, 1, 8));
+    }
+
+    /* Where the first packet stands now: in the escape queue x+ of node 1. */
+    if (bench_look(words, len, 1, 5, look) == 0)
+        for (uint64_t i = 0; i < look[1]; i++) {
+            uint64_t packet = words[look[0] + i];
+            printf("queue 5 of node 1 holds tag %" PRIu32 ", destination %" PRIu32 ", hops left %d and %d\n", BENCH_TAG(packet),
+                   BENCH_DESTINATION(packet), BENCH_DX(packet), BENCH_DY(packet));
+        }
+
+    /* One slot is free there. Who enters the ring needs two (R152): refused by 12, no fault. The adaptive queue is free. */
+    if (bench_credit(words, len, 0, 5, credit) == 0)
+        printf("output 5 of node 0: %" PRIu64 " free\n", credit[0]);
+    if (told("move from queue 0 of node 0 to output 5", bench_move(words, len, 0, 0, 5, moved)) == BENCH_NO_BUBBLE)
+        told("move from queue 0 of node 0 to output 1", bench_move(words, len, 0, 0, 1, moved));
+
+    /* At its destination a packet is delivered by output 0, and its word handed out. */
+    if (told("move from queue 1 of node 1 to output 0", bench_move(words, len, 1, 1, 0, moved)) == 0 && moved[0] == 1)
+        printf("handed out: tag %" PRIu32 " at node %" PRIu32 "\n", BENCH_TAG(moved[1]), BENCH_DESTINATION(moved[1]));
+
+    if (told("drain", bench_drain(words, len, 10, ledger, 8, drain)) != 0)
+        return 1;
+    printf("%" PRIu64 " moves, %" PRIu64 " delivered, %s\n", drain[0], drain[1],
+           drain[2] == BENCH_EMPTIED ? "emptied" : drain[2] == BENCH_SPENT ? "spent" : "full");
+    for (uint64_t i = 0; i < drain[1]; i++)
+        printf("handed out: tag %" PRIu32 " at node %" PRIu32 "\n", BENCH_TAG(ledger[i]), BENCH_DESTINATION(ledger[i]));
     return 0;
 }

@@ -19,10 +19,14 @@
  * queue's direction (R106, R107).
  *
  * Memory, for every call:
+ *   - a pointer with a length is valid for that many 64-bit words: `words` for
+ *     `len`, `ledger` for `ledger_len`. Lengths count words, not bytes;
+ *   - words that are lent are initialised, all of them, those of `out` too: a
+ *     local array without an initialiser or memory fresh from malloc is not.
+ *     What they contain does not matter, any words may be lent;
  *   - a pointer must not be NULL and must be aligned for uint64_t, even if the
  *     length behind it is 0;
  *   - the arrays of one call (words, ledger, out) must not overlap;
- *   - lengths count 64-bit words, not bytes;
  *   - `out` must have the number of words given for the call (BENCH_MOVE_OUT
  *     and so on). Those words are written on every call, refused or not, and
  *     no later ones.
@@ -33,7 +37,13 @@
  *
  * Two threads may use the library at once if they lend different memory.
  *
- *     uint64_t words[BENCH_WORDS(4, 1, 2, 1, 1)], out[BENCH_DRAIN_OUT], ledger[8];
+ * The archive, libbench_c.a, is for x86-64 Linux (ELF, the System V calling
+ * convention). `rt staticlib bench_c` builds it in target/staticlib; link it
+ * behind your own objects, as tests/c-example does. It calls nothing but memmove
+ * and memset of the C library.
+ *
+ *     uint64_t words[BENCH_WORDS(4, 1, 2, 1, 1)] = {0}, ledger[8] = {0};
+ *     uint64_t out[BENCH_DRAIN_OUT] = {0};
  *     size_t len = sizeof words / sizeof words[0];
  *     bench_make(words, len, 4, 1, 2, 1, 1);
  *     bench_offer(words, len, 0, 2, 7);
@@ -49,6 +59,14 @@
 #ifdef __cplusplus
 extern "C" {
 #endif
+
+/*
+ * The version of this interface: of the calls' parameters and answers, the
+ * numbers of the refusals and the meaning of the words. It is raised by one with
+ * each change after which a program written for the older one could be wrong.
+ * Header and archive must be of one commit: the archive does not carry it.
+ */
+#define BENCH_VERSION 1
 
 /* The words that a network of these sizes needs. */
 #define BENCH_WORDS(x, y, e, a, j) \
@@ -92,28 +110,37 @@ enum {
 };
 
 /*
- * Writes an empty network with all counts 0 (R91, R92). Tests 2, 1 (R180).
+ * Writes an empty network with all counts 0 into the first BENCH_WORDS words
+ * (R91, R92). Refused, tested in this order (R180): a size out of range (2); a
+ * store shorter than the sizes ask for (1).
  */
 uint64_t bench_make(uint64_t *words, size_t len, uint64_t x, uint64_t y, uint64_t e,
                     uint64_t a, uint64_t j);
 
 /*
- * Whether the words are a network (R70 to R85): 0, or 1, 2, 3. Every call
- * below tests this first, so it is safe to lend any words to any of them.
+ * Whether the words are a network (R70 to R85). Refused, tested in this order
+ * (R181): less than 8 words (1); a size out of range (2); a store shorter than
+ * the sizes ask for (1); anything else that is not as in a network (3). Every
+ * call below begins with these four tests, so it is safe to lend any words to
+ * any of them; "further" tests below are those that follow.
  */
 uint64_t bench_check(const uint64_t *words, size_t len);
 
 /*
  * Puts a packet behind the others in queue 0 of the node (R100 to R102). It
  * will take the shorter way in each dimension, half-way round the plus way
- * (R64, R65). Then tests 4, 8, 7.
+ * (R64, R65). Refused further, tested in this order (R183): node or destination
+ * is no node (4); 2^32 - 1 packets were accepted (8); queue 0 is full (7).
  */
 uint64_t bench_offer(uint64_t *words, size_t len, uint64_t node, uint64_t destination,
                      uint32_t tag);
 
 /*
- * Moves the head of a queue to an output (R105 to R112). Then tests 4, 5, 6, 9,
- * 10, 11, 12.
+ * Moves the head of a queue to an output (R105 to R112). Refused further, tested
+ * in this order (R184): no such node (4); no such queue (5); no such output (6);
+ * the queue is empty (9); the output is no route of its head (10); the target
+ * has no free slot (11); the head would enter an escape ring, which takes two
+ * free slots in the target, and one is free (12).
  * out[0]: packets handed out, 1 for a delivery (output 0) and else 0.
  * out[1]: the packet word that was handed out, or 0.
  */
@@ -121,8 +148,9 @@ uint64_t bench_move(uint64_t *words, size_t len, uint64_t node, uint64_t queue,
                     uint64_t output, uint64_t out[2]);
 
 /*
- * The free slots of the queue that an output from 1 to 8 leads to (R115,
- * R116). Then tests 4, 6.
+ * The free slots of the queue that an output from 1 to 8 leads to (R115, R116).
+ * Refused further, tested in this order (R185): no such node (4); output 0 or
+ * above 8 (6).
  * out[0]: the number of free slots.
  */
 uint64_t bench_credit(const uint64_t *words, size_t len, uint64_t node, uint64_t output,
@@ -130,7 +158,8 @@ uint64_t bench_credit(const uint64_t *words, size_t len, uint64_t node, uint64_t
 
 /*
  * The packets held in a queue, oldest first, where they stand in the words you
- * lent (R118 to R121). Then tests 4, 5.
+ * lent (R118 to R121). Refused further, tested in this order (R186): no such
+ * node (4); no such queue (5).
  * out[0]: the index in `words` of the first held word; if the queue is empty,
  *         the index where its first packet would stand.
  * out[1]: the number held, so that the packets are words[out[0]] to
@@ -141,7 +170,7 @@ uint64_t bench_look(const uint64_t *words, size_t len, uint64_t node, uint64_t q
 
 /*
  * The first permitted move: by node, then by queue, then by the order of the
- * head's routes (R123).
+ * head's routes (R123). No further test (R182).
  * out[0]: 1 if there is one, which is so whenever a packet is held; else 0.
  * out[1], out[2], out[3]: its node, queue and output; all 0 if there is none.
  */
@@ -151,7 +180,7 @@ uint64_t bench_first(const uint64_t *words, size_t len, uint64_t out[4]);
  * Makes the move that bench_first names, again and again, at most `budget`
  * times, and puts the word of each delivered packet into the ledger, from its
  * first word on. Ledger words that are not needed stay as they were (R126 to
- * R134).
+ * R134). No further test (R182).
  * out[0]: the number of moves made.
  * out[1]: the number delivered.
  * out[2]: why it stopped, BENCH_EMPTIED, BENCH_SPENT or BENCH_FULL.

@@ -1,5 +1,6 @@
 // The bench program: a sheet from standard input, its answers to standard output. What a read of the sheet does and prints, and what all reads
 // print together, is proved in the crate `session`; here is read, handed over and written, and nothing else.
+use libc::STDERR_FILENO;
 use libc::STDIN_FILENO;
 use libc::STDOUT_FILENO;
 use lines::HELD_BYTES;
@@ -22,11 +23,30 @@ struct Turn {
     more: bool,
 }
 
+// Says on standard error that input or output is lost. A program has no exit status: ./bench makes one of whether anything was said.
+fn tell_unread() {
+    io::write_all(
+        STDERR_FILENO,
+        b"bench: the input could not be read: the sheet may go on\n",
+    );
+}
+
+fn tell_unwritten() {
+    io::write_all(
+        STDERR_FILENO,
+        b"bench: the output could not be written: answers are lost\n",
+    );
+}
+
 // Writes the first bytes, and says whether it could.
 fn write_first(out: &[u8], at: usize) -> bool
     requires { ⌜ at ≤ length (now out) ⌝ }
 {
-    io::write_all(STDOUT_FILENO, &out[..at])
+    let written = io::write_all(STDOUT_FILENO, &out[..at]);
+    if !written {
+        tell_unwritten();
+    }
+    written
 }
 
 // One read, its answer and one write. A read of no bytes is handed over too: it is the end of the input. After a read or a write that
@@ -42,6 +62,7 @@ fn read_once(
     let mut piece = [0u8; PIECE];
     let got = libc::read(STDIN_FILENO, &mut piece);
     if got < 0 {
+        tell_unread();
         return Turn {
             pending: pending,
             more: false,

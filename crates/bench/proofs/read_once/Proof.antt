@@ -10,6 +10,9 @@ slice-aggregate-read c = search needs
 read-requires : tie.Need-read-requires
 read-requires c κs = search needs
 
+tell-unread-requires : tie.Need-tell-unread-requires
+tell-unread-requires c κs = search needs
+
 returns : tie.Need-returns
 returns c = search needs
 
@@ -43,6 +46,7 @@ read-once-spec =
     (tie.spec
     slice-aggregate-read
     read-requires
+    tell-unread-requires
     returns
     slice-aggregate-count
     count-requires
