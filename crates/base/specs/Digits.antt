@@ -3,9 +3,9 @@
 -- Assumes nothing.
 use mathlib.Core.Path.{_≡_, refl, ap, ap₂, sym, _∙_}
 use mathlib.Core.List.{List, [], _∷_}
-use mathlib.Core.Logic.{_⊎_, inl, inr, _≢_}
+use mathlib.Core.Logic.{_≢_}
 use Prim.Native.Nat.{ℕ, zero, suc, _+_, _*_, _/_, _%_, _-_, _<_, _≤_}
-use native.Mathlib.Nat.{le-of-suc-le-suc, not-suc-le-zero, mod-lt, mod-eq-of-lt, mod-add-div, add-mul-div-left, add-mul-mod-self-left, div-eq-of-lt, zero-add, add-zero, mul-comm, mod-add-mod, add-mod-mod, add-mod-right, add-assoc, mod-mod, mod-self, div-lt-iff-lt-mul, mul-le-mul-left, mul-pos, div-zero, mod-zero, zero-mul, add-mul-mod-self-right, add-comm}
+use native.Mathlib.Nat.{le-of-suc-le-suc, not-suc-le-zero, mod-lt, mod-eq-of-lt, mod-add-div, add-mul-div-left, add-mul-mod-self-left, div-eq-of-lt, zero-add, mul-comm, mod-add-mod, add-assoc, div-lt-iff-lt-mul, mul-le-mul-left, mul-pos, add-mul-mod-self-right, add-comm}
 use native.Mathlib.Omega.{arith}
 use lib.ListN.{length, getD}
 

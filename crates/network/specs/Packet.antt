@@ -1,6 +1,6 @@
 -- R60 to R66, R84, R110 and R228: the packet word. Order: signed bytes; the fields of a word; hops left; a hop; the label; the word of an
 -- offer. Assumes nothing.
-use mathlib.Core.Bool.{Bool, true, false, cond}
+use mathlib.Core.Bool.{cond}
 use Prim.Native.Nat.{ℕ, zero, suc, _+_, _*_, _-_, _/_, _%_, _^_}
 use lib.Dec.{leb, ltb, eqb}
 use lib.IntN.{ℤ, pos, negsuc, natAbs}

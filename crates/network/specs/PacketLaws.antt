@@ -10,7 +10,7 @@ use native.Mathlib.Decide.{ℕ-discrete, decLt, decLe}
 use lib.Dec.{leb, ltb, eqb}
 use lib.IntN.{ℤ, pos, negsuc, natAbs}
 use borrow.Author.Tests.{lt-ltb, le-ltb, le-leb, lt-leb, eq-eqb, ne-eqb}
-use Rattle.base.specs.Sums.{sumBelow, sum-same, sum-change, term-le}
+use Rattle.base.specs.Sums.{sumBelow, sum-change, term-le}
 use Rattle.network.specs.Sizes.{dimensions, directions, dimensionOf, isPlus, plus, minus}
 use Rattle.network.specs.Packet.{signed, byte, place, packetWord, tag, destination, offset, withOffset, distance, forward, backward, hops, heading, hopsLeft, work, shrunk, hop, label, shorterWay}
 
@@ -146,10 +146,6 @@ tag-hop i p h = tag-with i (shrunk (offset i p)) p h (hop-range i p)
 pub label-hop : (i p : ℕ) → i < dimensions → label (hop i p) ≡ label p
 unfolding hop
 label-hop i p h = label-with i (shrunk (offset i p)) p h (hop-range i p)
-
-pub hop-lt : (i p : ℕ) → i < dimensions → p < 2 ^ 64 → hop i p < 2 ^ 64
-unfolding hop
-hop-lt i p h l = with-lt i (shrunk (offset i p)) p h (hop-range i p) l
 
 pub offset-hop-same : (i p : ℕ) → i < dimensions → offset i (hop i p) ≡ shrunk (offset i p)
 unfolding hop
@@ -311,10 +307,6 @@ distance-most i p = let r = offset-range i p in go (one-sign (offset i p)) (r .m
 pub hopsLeft-most : (p : ℕ) → hopsLeft p ≤ 128 * dimensions
 unfolding hopsLeft sumBelow
 hopsLeft-most p = let x = distance-most 0 p in let y = distance-most 1 p in omega arith
-
-pub hopsLeft-zero : (p : ℕ) → ((i : ℕ) → i < dimensions → distance i p ≡ 0) → hopsLeft p ≡ 0
-unfolding hopsLeft sumBelow
-hopsLeft-zero p h = sum-same dimensions (λ i. distance i p) (λ i. 0) h
 
 -- The label ---------------------------------------------------------------------------------------------------------------------------
 
