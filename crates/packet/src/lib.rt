@@ -8,7 +8,7 @@ ghost use mathlib.Core.Path.{_≡_};
 ghost use Prim.Native.Nat.{_<_, _≤_, _^_};
 ghost use lib.IntN.{natAbs};
 ghost use Rattle.network.specs.Sizes.{dimensions, directions};
-ghost use Rattle.network.specs.Packet.{signed, byte, offset, withOffset, distance, forward, backward, hops, heading, shrunk, hop, hopsLeft, work, destination, label, tag, shorterWay};
+ghost use Rattle.network.specs.Packet.{signed, byte, offset, withOffset, distance, forward, backward, hops, heading, shrunk, hop, hopsLeft, work, destination, shorterWay};
 ghost use Rattle.network.specs.PacketLaws.{ByteRange};
 
 // Signed bytes --------------------------------------------------------------------------------------------------------------
@@ -68,22 +68,10 @@ pub fn shrunk(z: i64) -> i64
 
 // The fields of a word ------------------------------------------------------------------------------------------------------
 
-pub fn tag(p: u64) -> u64
-    ensures { λ r. ⌜ r ≡ tag p ⌝ }
-{
-    p / 4294967296
-}
-
 pub fn destination(p: u64) -> u64
     ensures { λ r. ⌜ r ≡ destination p ⌝ }
 {
     p / 65536 % 65536
-}
-
-pub fn label(p: u64) -> u64
-    ensures { λ r. ⌜ r ≡ label p ⌝ }
-{
-    p / 65536 * 65536
 }
 
 // The byte of dimension i is divided out by a literal in each arm, so that no division by a variable is left.
