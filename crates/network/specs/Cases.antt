@@ -23,7 +23,7 @@ use Rattle.network.specs.declared.Drained.{Drained}
 use Rattle.network.specs.declared.Sizes.{Sizes}
 use Rattle.network.specs.Sizes.{Shape, shapeOf, sized, size, within, sizesInRange, nodes, queues, directions, dimensions, dimensionOf, isPlus, adaptiveQueue, escapeQueue, capacity}
 use Rattle.network.specs.SizesLaws.{escape-capacity}
-use Rattle.network.specs.Packet.{signed, byte, place, packetWord, tag, destination, offset, withOffset, distance, forward, backward, hops, heading, hopsLeft, work, shrunk, hop, shorterWay}
+use Rattle.network.specs.Packet.{signed, byte, packetWord, tag, destination, offset, withOffset, withOffsets, distance, forward, backward, hops, heading, hopsLeft, work, shrunk, hop, shorterWay}
 use Rattle.network.specs.Torus.{coordinate, stride, along, neighbour, movedBelow, movedBy}
 use Rattle.network.specs.Layout.{headerWords, shape, accepted, delivered, movesMade, raised, acceptedAt, queueLength, nodeWords, queueStart, queueEnd, need, queueWords, queuePart, countOf, packetsOf, unusedOf, held, putQueue, total}
 use Rattle.network.specs.Check.{rightPlace, isQueueOf, reach, nearEnough, opposite, rightSign, lowerDone, packetFits, queueFits, queuesFit, hasRoom, ringHasRoom, ringsHaveRoom, packetsHeld, workLeft, countersFit, isNetwork}
@@ -426,7 +426,7 @@ module _ (w : List ℕ) (d : ℕ) (r : RingsOfTwo w d) where
       ring e n he hn (no ne) = others e n he hn ne
 
 pub keptCases : KeptCases
-unfolding next oneHop chosen outside sources inEach crossing allBelow someBelow allOf elem sumBelow sumOf product digit putDigit turn size within sizesInRange nodes capacity signed byte place packetWord tag destination offset withOffset distance forward backward hops heading hopsLeft work shrunk hop shorterWay coordinate stride along neighbour movedBelow movedBy shape accepted delivered movesMade raised queueLength nodeWords queueStart queueEnd need queueWords queuePart countOf packetsOf unusedOf held putQueue total rightPlace isQueueOf reach nearEnough opposite rightSign lowerDone packetFits queueFits queuesFit hasRoom ringHasRoom ringsHaveRoom packetsHeld workLeft countersFit isNetwork inOrder without incoming incomingFirst headings routes target freeSlots entersRing slotsNeeded networkRefusal makeRefusal offerRules offerRefusal head flowRules moveRules moveRefusal shapeOf emptyNetwork makeWords offered afterOffer offerWords headLeaves packetArrives afterMove firstOutput firstInQueue orElse search firstInNode firstMove firstAnswer stopped oneMore deliverNext moveNext drainFrom drained drainAnswer
+unfolding next oneHop chosen outside sources inEach crossing allBelow someBelow allOf elem sumBelow sumOf product digit putDigit turn size within sizesInRange nodes capacity signed byte packetWord tag destination offset withOffset withOffsets distance forward backward hops heading hopsLeft work shrunk hop shorterWay coordinate stride along neighbour movedBelow movedBy shape accepted delivered movesMade raised queueLength nodeWords queueStart queueEnd need queueWords queuePart countOf packetsOf unusedOf held putQueue total rightPlace isQueueOf reach nearEnough opposite rightSign lowerDone packetFits queueFits queuesFit hasRoom ringHasRoom ringsHaveRoom packetsHeld workLeft countersFit isNetwork inOrder without incoming incomingFirst headings routes target freeSlots entersRing slotsNeeded networkRefusal makeRefusal offerRules offerRefusal head flowRules moveRules moveRefusal shapeOf emptyNetwork makeWords offered afterOffer offerWords headLeaves packetArrives afterMove firstOutput firstInQueue orElse search firstInNode firstMove firstAnswer stopped oneMore deliverNext moveNext drainFrom drained drainAnswer
 keptCases =
     record {
       k1 = refl;
