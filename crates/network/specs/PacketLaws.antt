@@ -149,17 +149,9 @@ with-with : (i : ℕ) (y z : ℤ) (p : ℕ) → i < dimensions → ByteRange y �
 unfolding withOffset
 with-with i y z p h r = put-put fields (offsetField i) (byte y) (byte z) p fields-positive (small i y h r)
 
--- a word is within 64 bits exactly if its tag is within 32
-within : (p : ℕ) → tag p < 2 ^ 32 → p < 2 ^ 64
-unfolding tag product
-within p h = omega arith
-
 pub tag-within : (p : ℕ) → p < 2 ^ 64 → tag p < 2 ^ 32
 unfolding tag product
 tag-within p h = omega arith
-
-pub with-lt : (i : ℕ) (z : ℤ) (p : ℕ) → i < dimensions → ByteRange z → p < 2 ^ 64 → withOffset i z p < 2 ^ 64
-with-lt i z p h r l = within (withOffset i z p) (rw (tag-with i z p h r) (tag-within p l))
 
 -- the offsets of the first so many dimensions replaced
 abbrev pub InRange : ℕ → (ℕ → ℤ) → Type 0
@@ -448,9 +440,6 @@ destination-packet t dest offs h r =
 pub offset-packet : (i t dest : ℕ) (offs : ℕ → ℤ) → i < dimensions → dest < 2 ^ 16 → InRange dimensions offs → offset i (packetWord t dest offs) ≡ offs i
 unfolding packetWord
 offset-packet i t dest offs k h r = offset-withs offs dimensions i (putDigit fields destinationField dest (t * product fields)) (omega arith) k r
-
-pub packet-lt : (t dest : ℕ) (offs : ℕ → ℤ) → t < 2 ^ 32 → dest < 2 ^ 16 → InRange dimensions offs → packetWord t dest offs < 2 ^ 64
-packet-lt t dest offs l h r = within (packetWord t dest offs) (rw (tag-packet t dest offs h r) l)
 
 -- The shorter way round ---------------------------------------------------------------------------------------------------------------
 
