@@ -3,9 +3,9 @@
 -- Assumes nothing.
 use mathlib.Core.Path.{_≡_, refl, ap, ap₂, sym, _∙_}
 use mathlib.Core.List.{List, [], _∷_}
-use mathlib.Core.Logic.{_⊎_, inl, inr, _≢_}
+use mathlib.Core.Logic.{_≢_}
 use Prim.Native.Nat.{ℕ, zero, suc, _+_, _*_, _/_, _%_, _-_, _<_, _≤_}
-use native.Mathlib.Nat.{le-of-suc-le-suc, not-suc-le-zero, mod-lt, mod-eq-of-lt, mod-add-div, add-mul-div-left, add-mul-mod-self-left, div-eq-of-lt, zero-add, add-zero, mul-comm, mod-add-mod, add-mod-mod, add-mod-right, add-assoc, mod-mod, mod-self, div-lt-iff-lt-mul, mul-le-mul-left, mul-pos, div-zero, mod-zero, zero-mul, add-mul-mod-self-right, add-comm}
+use native.Mathlib.Nat.{le-of-suc-le-suc, not-suc-le-zero, mod-lt, mod-eq-of-lt, mod-add-div, add-mul-div-left, add-mul-mod-self-left, div-eq-of-lt, zero-add, mul-comm, mod-add-mod, add-assoc, div-lt-iff-lt-mul, mul-le-mul-left, mul-pos, add-mul-mod-self-right, add-comm, div-div-eq-div-mul}
 use native.Mathlib.Omega.{arith}
 use lib.ListN.{length, getD}
 
@@ -116,6 +116,18 @@ put-lt (k ∷ ks) zero c n p hc h = below-product c k (n / k) (product ks) hc (d
 put-lt (k ∷ ks) (suc i) c n p hc h =
     below-product (n % k) k (putDigit ks i c (n / k)) (product ks) (mod-lt n (p .0))
     (put-lt ks i c (n / k) (p .1) hc (div-lt-iff-lt-mul (p .0) .1 (rw mul-comm at h)))
+
+-- what stands above the digits stays
+pub above-put : (ks : List ℕ) (i c n : ℕ) → Positive ks → c < getD ks i 0 → putDigit ks i c n / product ks ≡ n / product ks
+unfolding putDigit product Positive
+above-put [] i c n p hc = refl
+above-put (k ∷ ks) zero c n p hc =
+    sym (div-div-eq-div-mul (c + k * (n / k)) k (product ks)) ∙ ap (λ (x : ℕ). x / product ks) (high c k (n / k) hc) ∙ div-div-eq-div-mul n k (product ks)
+above-put (k ∷ ks) (suc i) c n p hc =
+    sym (div-div-eq-div-mul (n % k + k * putDigit ks i c (n / k)) k (product ks))
+    ∙ ap (λ (x : ℕ). x / product ks) (high (n % k) k (putDigit ks i c (n / k)) (mod-lt n (p .0)))
+    ∙ above-put ks i c (n / k) (p .1) hc
+    ∙ div-div-eq-div-mul n k (product ks)
 
 -- numbers below the product with the same digits are the same
 pub digits-eq : (ks : List ℕ) (n m : ℕ) → Positive ks → n < product ks → m < product ks

@@ -1,15 +1,14 @@
 -- A part of a list of words, from place a up to place e, and the list with that part replaced.
 -- Order: the two definitions; their lengths; what is read at a place; the part itself, and what lies outside it; a part put back, a word set, a part put in twice.
 -- Assumes nothing.
-use mathlib.Core.Path.{_≡_, refl, ap, ap₂, sym, _∙_}
-use mathlib.Core.List.{List, [], _∷_, _++_}
-use mathlib.Core.Logic.{_⊎_, inl, inr, _≢_}
-use Prim.Native.Nat.{ℕ, zero, suc, _+_, _-_, _<_, _≤_}
-use native.Mathlib.Nat.{add-zero}
-use native.Mathlib.Decide.{decLt, decLe}
+use mathlib.Core.Path.{_≡_, ap, ap₂, sym, _∙_}
+use mathlib.Core.List.{List, _++_}
+use mathlib.Core.Logic.{_⊎_, inl, inr}
+use Prim.Native.Nat.{ℕ, _+_, _-_, _<_, _≤_}
+use native.Mathlib.Decide.{decLt}
 use native.Mathlib.Omega.{arith}
-use lib.ListN.{length, getD, take, drop, set, length-append, length-take, length-drop, length-set, List·getD-append}
-use lib.Seq.{length-take-le, getD-take, getD-drop, getD-append-add, ext-getD, getD-set-other, getD-set-same, drop-set-lt, take-set-le, take-at, drop-at}
+use lib.ListN.{length, getD, take, drop, set, length-append, length-drop, List·getD-append}
+use lib.Seq.{length-take-le, getD-take, getD-drop, getD-append-add, ext-getD, drop-set-lt, take-at, drop-at}
 
 abbrev pub span : List ℕ → ℕ → ℕ → List ℕ
 span w a e = take (e - a) (drop a w)

@@ -1,7 +1,6 @@
 -- Sums of a number for each number below n, and of a number for each element of a list. Order: the two definitions; equal sums; a change at one
 -- place; a term, and fewer terms, against the sum; a term that is not 0. Assumes nothing.
-use mathlib.Core.Path.{_≡_, refl, ap, sym, _∙_}
-use mathlib.Core.Bool.{Bool, true, false, cond}
+use mathlib.Core.Path.{_≡_, refl, ap, _∙_}
 use mathlib.Core.List.{List, [], _∷_, _++_}
 use mathlib.Core.Logic.{_⊎_, inl, inr, _≢_}
 use Prim.Native.Nat.{ℕ, zero, suc, _+_, _<_, _≤_}

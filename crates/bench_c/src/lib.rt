@@ -3,18 +3,27 @@
 // caller but what bench.h says of the memory.
 pub mod outs;
 
+use network::Sizes;
 ghost use mathlib.Core.Path.{_≡_};
 ghost use lib.ListN.{length};
+ghost use Rattle.network.specs.Sizes.{shapeOf, sized};
 ghost use Rattle.network.specs.Refusals.{networkRefusal, makeRefusal, offerRefusal, lookRefusal};
-ghost use Rattle.network.specs.Calls.{shapeOf, makeWords, offerWords, moveWords, moveAnswer, movedNumber, creditAnswer, creditNumber, firstAnswer, foundNumber, drainWords, drainLedger, drainAnswer, drainedNumber};
+ghost use Rattle.network.specs.Calls.{makeWords, offerWords, moveWords, moveAnswer, movedNumber, creditAnswer, creditNumber, firstAnswer, foundNumber, drainWords, drainLedger, drainAnswer, drainedNumber};
 ghost use Rattle.bench_c.specs.Outs.{movedOut, creditOut, lookOut, foundOut, drainedOut};
 
 #[no_mangle]
 pub extern "C" fn bench_make(words: &mut [u64], x: u64, y: u64, e: u64, a: u64, j: u64) -> u64
-    ensures answer { λ r. ⌜ r ≡ makeRefusal (shapeOf x y e a j) (now (words .entry)) ⌝ }
-    ensures words { λ _. ⌜ now (words .exit) ≡ makeWords (shapeOf x y e a j) (now (words .entry)) ⌝ }
+    ensures answer { λ r. ⌜ r ≡ makeRefusal (shapeOf (sized x y e a j)) (now (words .entry)) ⌝ }
+    ensures words { λ _. ⌜ now (words .exit) ≡ makeWords (shapeOf (sized x y e a j)) (now (words .entry)) ⌝ }
 {
-    calls::make(words, x, y, e, a, j)
+    let s = Sizes {
+        x: x,
+        y: y,
+        escape: e,
+        adaptive: a,
+        injection: j,
+    };
+    calls::make(words, s)
 }
 
 #[no_mangle]
@@ -71,7 +80,7 @@ pub extern "C" fn bench_look(words: &[u64], node: u64, queue: u64, out: &mut [u6
         return refusal;
     }
     let s = checker::sizes_of(words);
-    let start = queue::queue_start(s.escape, s.adaptive, s.injection, node, queue);
+    let start = queue::queue_start(s, node, queue);
     let count = flow::held_count(words, s, node, queue);
     let from = (start + 1) as u64;
     *out = [from, count];

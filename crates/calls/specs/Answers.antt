@@ -2,7 +2,7 @@
 -- has read from the words. Order: Make; Offer; Move; Credit; Look; First; Drain. Assumes nothing.
 use mathlib.Core.Path.{_≡_, refl, ap, ap₂, sym, _∙_, subst}
 use mathlib.Core.Logic.{_≢_}
-use mathlib.Core.Bool.{Bool, true, false, cond, not, _||_}
+use mathlib.Core.Bool.{Bool, true, false, _||_}
 use mathlib.Core.List.{List, [], _∷_, _++_, map}
 use Prim.Native.Nat.{ℕ, zero, suc, _+_, _*_, _-_, _<_, _≤_}
 use native.Mathlib.Omega.{arith}
@@ -22,7 +22,7 @@ use Rattle.network.specs.CheckLaws.{Network, QueueFits}
 use Rattle.network.specs.Routes.{deliver, freeSlots}
 use Rattle.network.specs.Refusals.{networkRefusal, makeRefusal, offerRules, offerRefusal, moveRules, moveRefusal, creditRules, creditRefusal, lookRules, lookRefusal, head, elseBy}
 use Rattle.network.specs.RefusalLaws.{elseBy-zero, elseBy-first, neither, not-refused, network-passed}
-use Rattle.network.specs.Calls.{NamedMove, Delivery, Progress, emptyNetwork, makeWords, afterOffer, offerWords, afterMove, moveWords, moveAnswer, creditAnswer, lookPart, firstMove, firstAnswer, drainFrom, drained, drainWords, drainLedger, drainAnswer}
+use Rattle.network.specs.Calls.{NamedMove, Delivery, emptyNetwork, makeWords, afterOffer, offerWords, afterMove, moveWords, moveAnswer, creditAnswer, lookPart, firstMove, firstAnswer, drainFrom, drained, drainWords, drainLedger, drainAnswer}
 
 -- an answer, and the words that are left
 pub record Answers {A : Type 0} (answer said : A) (words left : List ℕ) : Type 0 where

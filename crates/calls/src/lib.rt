@@ -7,32 +7,28 @@ use network::Credit;
 use network::Drained;
 use network::Found;
 use network::Moved;
-use packet::torus::Sizes;
+use network::SHORT_STORE;
+use network::Sizes;
+use network::WRONG_SIZE;
 ghost use mathlib.Core.Path.{_≡_};
 ghost use Prim.Native.Nat.{_≤_, _-_};
 ghost use lib.ListN.{length, take, drop};
+ghost use Rattle.network.specs.Sizes.{shapeOf};
 ghost use Rattle.network.specs.Refusals.{networkRefusal, makeRefusal, offerRefusal, lookRefusal};
 ghost use Rattle.network.specs.Answers.{MoveTells, CreditTells, FirstTells, DrainTells};
-ghost use Rattle.network.specs.Calls.{shapeOf, makeWords, offerWords, moveWords, moveAnswer, creditAnswer, lookPart, firstAnswer, drainWords, drainLedger, drainAnswer};
+ghost use Rattle.network.specs.Calls.{makeWords, offerWords, moveWords, moveAnswer, creditAnswer, lookPart, firstAnswer, drainWords, drainLedger, drainAnswer};
 ghost use Rattle.calls.specs.Place.{wordAt, LookPlace};
 
 // Make (R91, R92): an empty network of these sizes.
-pub fn make(words: &mut [u64], x: u64, y: u64, e: u64, a: u64, j: u64) -> u64
-    ensures answer { λ r. ⌜ r ≡ makeRefusal (shapeOf x y e a j) (now (words .entry)) ⌝ }
-    ensures words { λ _. ⌜ now (words .exit) ≡ makeWords (shapeOf x y e a j) (now (words .entry)) ⌝ }
+pub fn make(words: &mut [u64], s: Sizes) -> u64
+    ensures answer { λ r. ⌜ r ≡ makeRefusal (shapeOf s) (now (words .entry)) ⌝ }
+    ensures words { λ _. ⌜ now (words .exit) ≡ makeWords (shapeOf s) (now (words .entry)) ⌝ }
 {
-    let s = Sizes {
-        x: x,
-        y: y,
-        escape: e,
-        adaptive: a,
-        injection: j,
-    };
     if !checker::in_range(s) {
-        return 2;
+        return WRONG_SIZE;
     }
-    if words.len() < queue::need(x, y, e, a, j) {
-        return 1;
+    if words.len() < queue::need(s) {
+        return SHORT_STORE;
     }
     changes::write_empty(words, s);
     0
@@ -123,7 +119,7 @@ pub fn look(words: &[u64], node: u64, queue: u64) -> &[u64]
         return &words[0..0];
     }
     let s = checker::sizes_of(words);
-    let start = queue::queue_start(s.escape, s.adaptive, s.injection, node, queue);
+    let start = queue::queue_start(s, node, queue);
     let count = flow::held_count(words, s, node, queue);
     let from = start + 1;
     let to = from + count as usize;

@@ -7,7 +7,7 @@ use Prim.Native.Nat.{ℕ, _+_, _*_, _-_, _^_, _<_, _≤_}
 use native.Mathlib.Omega.{arith}
 use borrow.Author.Tests.{eq-eqb, ne-eqb}
 use lib.ListN.{length, getD, set, drop, replicate, length-append, replicate-append-replicate}
-use Rattle.network.specs.Sizes.{Shape, nodes, queues, capacity, injectionQueue, directionOf, dimensionOf}
+use Rattle.network.specs.Sizes.{Shape, shapeOf, nodes, queues, capacity, injectionQueue, directionOf, dimensionOf}
 use Rattle.network.specs.Packet.{hop}
 use Rattle.network.specs.Torus.{neighbour}
 use Rattle.network.specs.TorusLaws.{Torus}
@@ -18,26 +18,28 @@ use Rattle.network.specs.CheckLaws.{Network, network-by}
 use Rattle.network.specs.Routes.{deliver, target}
 use Rattle.network.specs.Refusals.{head}
 use Rattle.network.specs.RefusalLaws.{Permitted}
-use Rattle.network.specs.Calls.{shapeOf, emptyNetwork, offered, afterOffer, headLeaves, packetArrives, afterMove}
+use Rattle.network.specs.Calls.{emptyNetwork, offered, afterOffer, headLeaves, packetArrives, afterMove}
 use Rattle.run.specs.Queues.{held-few, length-rest}
 use Rattle.run.specs.Step.{Ahead, ahead}
 use Rattle.queue.specs.Queue.{Checked}
+use Rattle.network.specs.declared.Sizes.{Sizes}
 use Rattle.queue.specs.QueueLaws.{checked, checked-put, checked-fits}
 
 -- The header of an empty network ---------------------------------------------------------------------------------------------------------
 
 -- the five sizes written over cleared words
-pub empty-words : (x y e a j n : ℕ) (w v : List ℕ) → n ≡ need (shapeOf x y e a j) → v ≡ replicate n 0 ++ drop n w
-    → set (set (set (set (set v 0 x) 1 y) 2 e) 3 a) 4 j ≡ emptyNetwork (shapeOf x y e a j) ++ drop (need (shapeOf x y e a j)) w
+pub empty-words : (s : Sizes) (n : ℕ) (w v : List ℕ) → n ≡ need (shapeOf s) → v ≡ replicate n 0 ++ drop n w
+    → set (set (set (set (set v 0 (s .x)) 1 (s .y)) 2 (s .escape)) 3 (s .adaptive)) 4 (s .injection)
+    ≡ emptyNetwork (shapeOf s) ++ drop (need (shapeOf s)) w
 unfolding emptyNetwork need shapeOf
-empty-words x y e a j n w v en ev =
-    ap (λ (l : List ℕ). set (set (set (set (set l 0 x) 1 y) 2 e) 3 a) 4 j)
+empty-words s n w v en ev =
+    ap (λ (l : List ℕ). set (set (set (set (set l 0 (s .x)) 1 (s .y)) 2 (s .escape)) 3 (s .adaptive)) 4 (s .injection))
     (ev
     ∙ ap (λ (k : ℕ). replicate k 0 ++ drop k w) en
     ∙ ap (λ (l : List ℕ). l ++ drop (headerWords + rest) w) (sym (replicate-append-replicate headerWords rest 0)))
   where
     rest : ℕ
-    rest = nodes (shapeOf x y e a j) * nodeWords (shapeOf x y e a j)
+    rest = nodes (shapeOf s) * nodeWords (shapeOf s)
 
 pub need-header : (S : Shape) → headerWords ≤ need S
 unfolding need

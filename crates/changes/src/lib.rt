@@ -1,18 +1,21 @@
 // The changes that Make, Offer and Move make to the lent words once no rule refuses them. None of them can fail: what each
 // asks is what the tests before it have shown. Every function leaves exactly the words of the definition that it names.
-use packet::torus::Sizes;
+use network::ACCEPTED_AT;
+use network::DELIVERED_AT;
+use network::DIRECTIONS;
+use network::MOVES_AT;
+use network::Sizes;
 ghost use mathlib.Core.Path.{_≡_};
 ghost use mathlib.Core.List.{_++_};
 ghost use Prim.Native.Nat.{_<_, _≤_};
 ghost use lib.Dec.{T};
 ghost use lib.ListN.{length, drop};
-ghost use Rattle.network.specs.Sizes.{sizesInRange, nodes, capacity, injectionQueue};
+ghost use Rattle.network.specs.Sizes.{shapeOf, sizesInRange, nodes, capacity, injectionQueue};
 ghost use Rattle.network.specs.Layout.{need, held};
 ghost use Rattle.network.specs.CheckLaws.{Network};
 ghost use Rattle.network.specs.Refusals.{head};
 ghost use Rattle.network.specs.RefusalLaws.{Permitted};
 ghost use Rattle.network.specs.Calls.{emptyNetwork, afterOffer, afterMove};
-ghost use Rattle.packet.specs.Geometry.{shapeOfSizes};
 
 // Writes zeros to the first n words.
 fn clear(words: &mut [u64], n: usize)
@@ -28,11 +31,11 @@ fn clear(words: &mut [u64], n: usize)
 
 // Make: an empty network of these sizes, all counts 0; the words behind it stay as they are.
 pub fn write_empty(words: &mut [u64], s: Sizes)
-    requires { ⌜ T (sizesInRange (shapeOfSizes s)) ⌝ }
-    requires { ⌜ need (shapeOfSizes s) ≤ length (now words) ⌝ }
-    ensures { λ _. ⌜ now (words .exit) ≡ emptyNetwork (shapeOfSizes s) ++ drop (need (shapeOfSizes s)) (now (words .entry)) ⌝ }
+    requires { ⌜ T (sizesInRange (shapeOf s)) ⌝ }
+    requires { ⌜ need (shapeOf s) ≤ length (now words) ⌝ }
+    ensures { λ _. ⌜ now (words .exit) ≡ emptyNetwork (shapeOf s) ++ drop (need (shapeOf s)) (now (words .entry)) ⌝ }
 {
-    let n = queue::need(s.x, s.y, s.escape, s.adaptive, s.injection);
+    let n = queue::need(s);
     clear(words, n);
     words[0] = s.x;
     words[1] = s.y;
@@ -43,45 +46,35 @@ pub fn write_empty(words: &mut [u64], s: Sizes)
 
 // Offer: the packet becomes the newest of the node's injection queue, which has a free slot, and accepted rises by one.
 pub fn accept(words: &mut [u64], s: Sizes, n: u64, destination: u64, tag: u32)
-    requires { ⌜ Network (shapeOfSizes s) (now words) ⌝ }
-    requires { ⌜ n < nodes (shapeOfSizes s) ⌝ }
-    requires { ⌜ destination < nodes (shapeOfSizes s) ⌝ }
-    requires { ⌜ length (held (shapeOfSizes s) (now words) n injectionQueue) < capacity (shapeOfSizes s) injectionQueue ⌝ }
-    ensures { λ _. ⌜ now (words .exit) ≡ afterOffer (shapeOfSizes s) (now (words .entry)) n destination tag ⌝ }
+    requires { ⌜ Network (shapeOf s) (now words) ⌝ }
+    requires { ⌜ n < nodes (shapeOf s) ⌝ }
+    requires { ⌜ destination < nodes (shapeOf s) ⌝ }
+    requires { ⌜ length (held (shapeOf s) (now words) n injectionQueue) < capacity (shapeOf s) injectionQueue ⌝ }
+    ensures { λ _. ⌜ now (words .exit) ≡ afterOffer (shapeOf s) (now (words .entry)) n destination tag ⌝ }
 {
     let p = packet::torus::offered(s, n, destination, tag);
-    queue::push(words, s.x, s.y, s.escape, s.adaptive, s.injection, n, 0, p);
-    queue::raise(words, queue::ACCEPTED_AT);
+    queue::push(words, s, n, 0, p);
+    queue::raise(words, ACCEPTED_AT);
 }
 
 // Move: the head of queue q of node n leaves. It is handed out, or becomes the newest packet of its target after a hop.
 // Moves made rises by one, and delivered where it was handed out. The packet word is that of the head before its hop.
 pub fn make_move(words: &mut [u64], s: Sizes, n: u64, q: u64, o: u64) -> u64
-    requires { ⌜ Network (shapeOfSizes s) (now words) ⌝ }
-    requires { ⌜ Permitted (shapeOfSizes s) (now words) n q o ⌝ }
-    ensures words { λ _. ⌜ now (words .exit) ≡ afterMove (shapeOfSizes s) (now (words .entry)) n q o ⌝ }
-    ensures head { λ r. ⌜ r ≡ head (held (shapeOfSizes s) (now (words .entry)) n q) ⌝ }
+    requires { ⌜ Network (shapeOf s) (now words) ⌝ }
+    requires { ⌜ Permitted (shapeOf s) (now words) n q o ⌝ }
+    ensures words { λ _. ⌜ now (words .exit) ≡ afterMove (shapeOf s) (now (words .entry)) n q o ⌝ }
+    ensures head { λ r. ⌜ r ≡ head (held (shapeOf s) (now (words .entry)) n q) ⌝ }
 {
-    let p = queue::pop(words, s.x, s.y, s.escape, s.adaptive, s.injection, n, q);
+    let p = queue::pop(words, s, n, q);
     if o == 0 {
-        queue::raise(words, queue::DELIVERED_AT);
-        queue::raise(words, queue::MOVES_AT);
+        queue::raise(words, DELIVERED_AT);
+        queue::raise(words, MOVES_AT);
         return p;
     }
-    let d = (o - 1) % 4;
+    let d = (o - 1) % DIRECTIONS;
     let there = packet::torus::neighbour(s, d, n);
     let hopped = packet::hop(d / 2, p);
-    queue::push(
-        words,
-        s.x,
-        s.y,
-        s.escape,
-        s.adaptive,
-        s.injection,
-        there,
-        o,
-        hopped,
-    );
-    queue::raise(words, queue::MOVES_AT);
+    queue::push(words, s, there, o, hopped);
+    queue::raise(words, MOVES_AT);
     p
 }

@@ -1,43 +1,54 @@
 // The call Check: are these words a network, and if not, which test refuses them. Every other call but Make makes these tests first.
 // Order: the refusal; the sizes; the clauses of the check; the counters. The queues' clauses are in the crate `queue_check`,
 // a packet's in `packet_check`, the rings' in `ring_check`.
-use packet::torus::Sizes;
+use network::ACCEPTED_AT;
+use network::DELIVERED_AT;
+use network::FEWEST_ESCAPE;
+use network::HEADER_WORDS;
+use network::LARGEST_CAPACITY;
+use network::LARGEST_RING;
+use network::MOST_ACCEPTED;
+use network::MOST_WORK;
+use network::MOVES_AT;
+use network::NO_NETWORK;
+use network::SHORT_STORE;
+use network::Sizes;
+use network::WRONG_SIZE;
 use queue_check::queues_fit;
 use ring_check::rings_have_room;
 ghost use mathlib.Core.Path.{_≡_};
 ghost use Prim.Native.Nat.{_≤_};
 ghost use lib.ListN.{length};
-ghost use Rattle.network.specs.Sizes.{Shape, within, sizesInRange};
-ghost use Rattle.network.specs.Layout.{shape};
+ghost use Rattle.network.specs.Sizes.{Shape, shapeOf, within, sizesInRange};
+ghost use Rattle.network.specs.Layout.{shape, headerWords};
 ghost use Rattle.network.specs.Check.{packetsHeld, workLeft, countersFit, isNetwork};
 ghost use Rattle.network.specs.Refusals.{networkRefusal};
-ghost use Rattle.packet.specs.Geometry.{shapeOfSizes};
 ghost use Rattle.queue.specs.Queue.{Enough};
 
 // The number of the first test that refuses the words, 0 if they are a network.
 pub fn network_refusal(words: &[u64]) -> u64
     ensures { λ r. ⌜ r ≡ networkRefusal (now (words .entry)) ⌝ }
 {
-    if words.len() < queue::HEADER_WORDS {
-        return 1;
+    if words.len() < HEADER_WORDS {
+        return SHORT_STORE;
     }
     let s = sizes_of(words);
     if !in_range(s) {
-        return 2;
+        return WRONG_SIZE;
     }
-    if words.len() < queue::need(s.x, s.y, s.escape, s.adaptive, s.injection) {
-        return 1;
+    if words.len() < queue::need(s) {
+        return SHORT_STORE;
     }
     if !is_network(words, s) {
-        return 3;
+        return NO_NETWORK;
     }
     0
 }
 
 // The sizes that the words begin with.
 pub fn sizes_of(words: &[u64]) -> Sizes
-    requires { ⌜ 8 ≤ length (now words) ⌝ }
-    ensures { λ r. ⌜ shapeOfSizes r ≡ shape (now (words .entry)) ⌝ }
+    requires { ⌜ headerWords ≤ length (now words) ⌝ }
+    ensures { λ r. ⌜ shapeOf r ≡ shape (now (words .entry)) ⌝ }
 {
     Sizes {
         x: words[0],
@@ -49,21 +60,21 @@ pub fn sizes_of(words: &[u64]) -> Sizes
 }
 
 pub fn in_range(s: Sizes) -> bool
-    ensures { λ r. ⌜ r ≡ sizesInRange (shapeOfSizes s) ⌝ }
+    ensures { λ r. ⌜ r ≡ sizesInRange (shapeOf s) ⌝ }
 {
-    if !within(1, 16, s.x) {
+    if !within(1, LARGEST_RING, s.x) {
         return false;
     }
-    if !within(1, 16, s.y) {
+    if !within(1, LARGEST_RING, s.y) {
         return false;
     }
-    if !within(2, 8, s.escape) {
+    if !within(FEWEST_ESCAPE, LARGEST_CAPACITY, s.escape) {
         return false;
     }
-    if !within(1, 8, s.adaptive) {
+    if !within(1, LARGEST_CAPACITY, s.adaptive) {
         return false;
     }
-    within(1, 8, s.injection)
+    within(1, LARGEST_CAPACITY, s.injection)
 }
 
 fn within(least: u64, most: u64, n: u64) -> bool
@@ -77,8 +88,8 @@ fn within(least: u64, most: u64, n: u64) -> bool
 
 // The clauses of the check, for sizes in range and as many words as they need.
 pub fn is_network(words: &[u64], s: Sizes) -> bool
-    requires { ⌜ Enough (shapeOfSizes s) (now words) ⌝ }
-    ensures { λ r. ⌜ r ≡ isNetwork (shapeOfSizes s) (now (words .entry)) ⌝ }
+    requires { ⌜ Enough (shapeOf s) (now words) ⌝ }
+    ensures { λ r. ⌜ r ≡ isNetwork (shapeOf s) (now (words .entry)) ⌝ }
 {
     let t = queues_fit(words, s);
     if !t.ok {
@@ -93,14 +104,14 @@ pub fn is_network(words: &[u64], s: Sizes) -> bool
 // The counters' clauses, where so many packets are held and so much work is left. A header word may be as large as a word can be, so sums are
 // compared by differences, each after the test that keeps it from wrapping.
 fn counters_fit(words: &[u64], held: u64, work: u64) -> bool
-    requires { ⌜ 8 ≤ length (now words) ⌝ }
+    requires { ⌜ headerWords ≤ length (now words) ⌝ }
     ensures { λ r. ⌜ ((S : Shape) → held ≡ packetsHeld S (now (words .entry)) → work ≡ workLeft S (now (words .entry))
         → r ≡ countersFit S (now (words .entry))) ⌝ }
 {
-    let accepted = words[queue::ACCEPTED_AT];
-    let delivered = words[queue::DELIVERED_AT];
-    let moves = words[queue::MOVES_AT];
-    if 4294967295 < accepted {
+    let accepted = words[ACCEPTED_AT];
+    let delivered = words[DELIVERED_AT];
+    let moves = words[MOVES_AT];
+    if MOST_ACCEPTED < accepted {
         return false;
     }
     if accepted < delivered {
@@ -109,7 +120,7 @@ fn counters_fit(words: &[u64], held: u64, work: u64) -> bool
     if accepted - delivered != held {
         return false;
     }
-    let most = 17 * accepted;
+    let most = MOST_WORK * accepted;
     if most < moves {
         return false;
     }

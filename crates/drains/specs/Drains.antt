@@ -1,23 +1,19 @@
 -- A Drain in the middle of its loop: what its turns so far have come to, and how each further turn changes that. Order: where it stands; at the start;
 -- after a turn that passed a packet on, that delivered one, that stopped; what the whole Drain then is. Assumes nothing.
 use mathlib.Core.Path.{_≡_, refl, ap, ap₂, sym, _∙_, subst}
-use mathlib.Core.Logic.{_⊎_, inl, inr, _≢_}
-use mathlib.Core.Bool.{Bool, true, false, cond}
 use mathlib.Core.List.{List, [], _∷_, _++_, map, append-assoc, append-nil}
-use Prim.Native.Nat.{ℕ, zero, suc, _+_, _-_, _<_, _≤_}
-use native.Mathlib.Nat.{add-zero, sub-zero}
+use Prim.Native.Nat.{ℕ, suc, _+_, _-_, _<_, _≤_}
+use native.Mathlib.Nat.{sub-zero}
 use native.Mathlib.Numerals.{add-one}
 use native.Mathlib.Omega.{arith}
-use borrow.Author.Tests.{eq-eqb}
-use lib.Dec.{eqb}
-use lib.ListN.{length, drop, set, length-append, length-map, length-set}
+use lib.ListN.{length, drop, set, length-append, length-map}
 use lib.Seq.{drop-cons, set-at}
 use Rattle.network.specs.declared.Stop.{Stop}
 use Rattle.network.specs.declared.Drained.{Drained}
 use Rattle.network.specs.Sizes.{Shape}
 use Rattle.network.specs.TorusLaws.{Torus}
 use Rattle.network.specs.CheckLaws.{Network}
-use Rattle.network.specs.Calls.{NamedMove, Delivery, Progress, stopped, oneMore, drainFrom}
+use Rattle.network.specs.Calls.{NamedMove, Delivery, stopped, oneMore, drainFrom}
 use Rattle.turns.specs.declared.Turn.{Turn}
 use Rattle.turns.specs.Turns.{turnAnswer, turnWords, afterTurns, after-none, after-more, ByTurn, stops, passes, delivers, by-turn, stopped-words}
 

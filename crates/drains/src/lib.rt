@@ -1,11 +1,15 @@
 // A Drain of a network: turn after turn until one stops, with the set of heads and the table of neighbours that the turns use.
+use headset::SET_WORDS;
+use network::ACCEPTED_AT;
+use network::DELIVERED_AT;
 use network::Drained;
+use network::Sizes;
 use network::Stop;
-use packet::torus::Sizes;
+use packet::near::TABLE_BYTES;
 use turns::Turn;
 use turns::take_turn;
+ghost use Rattle.network.specs.Sizes.{shapeOf};
 ghost use Rattle.network.specs.CheckLaws.{Network};
-ghost use Rattle.packet.specs.Geometry.{shapeOfSizes};
 ghost use Rattle.packet.specs.Near.{Near};
 ghost use Rattle.ready.specs.Ready.{Covered};
 ghost use Rattle.drains.specs.Drains.{DrainedTo};
@@ -19,10 +23,10 @@ fn take_turns(
     budget: u32,
     ledger: &mut [u64],
 ) -> Drained
-    requires { ⌜ Network (shapeOfSizes s) (now words) ⌝ }
-    requires { ⌜ Near (shapeOfSizes s) (now near) ⌝ }
-    requires { ⌜ Covered (shapeOfSizes s) (now words) (now ready) ⌝ }
-    ensures { λ r. ⌜ DrainedTo (shapeOfSizes s) (now (words .entry)) budget (now (ledger .entry)) r (now (words .exit)) (now (ledger .exit)) ⌝ }
+    requires { ⌜ Network (shapeOf s) (now words) ⌝ }
+    requires { ⌜ Near (shapeOf s) (now near) ⌝ }
+    requires { ⌜ Covered (shapeOf s) (now words) (now ready) ⌝ }
+    ensures { λ r. ⌜ DrainedTo (shapeOf s) (now (words .entry)) budget (now (ledger .entry)) r (now (words .exit)) (now (ledger .exit)) ⌝ }
 {
     let limit = budget as u64;
     let total = ledger.len();
@@ -52,11 +56,11 @@ fn take_turns(
 // A Drain of a network. The set of heads that may have a permitted move starts with all of them. Where nothing is held neither it nor the
 // table is needed.
 pub fn drain_network(words: &mut [u64], s: Sizes, budget: u32, ledger: &mut [u64]) -> Drained
-    requires { ⌜ Network (shapeOfSizes s) (now words) ⌝ }
-    ensures { λ r. ⌜ DrainedTo (shapeOfSizes s) (now (words .entry)) budget (now (ledger .entry)) r (now (words .exit)) (now (ledger .exit)) ⌝ }
+    requires { ⌜ Network (shapeOf s) (now words) ⌝ }
+    ensures { λ r. ⌜ DrainedTo (shapeOf s) (now (words .entry)) budget (now (ledger .entry)) r (now (words .exit)) (now (ledger .exit)) ⌝ }
 {
-    let accepted = words[queue::ACCEPTED_AT];
-    let delivered = words[queue::DELIVERED_AT];
+    let accepted = words[ACCEPTED_AT];
+    let delivered = words[DELIVERED_AT];
     if accepted == delivered {
         return Drained::Stopped {
             moves: 0,
@@ -64,9 +68,9 @@ pub fn drain_network(words: &mut [u64], s: Sizes, budget: u32, ledger: &mut [u64
             stop: Stop::Emptied,
         };
     }
-    let mut near = [0u8; 1024];
+    let mut near = [0u8; TABLE_BYTES];
     packet::near::fill(&mut near, s);
-    let mut ready = [0u64; 65];
+    let mut ready = [0u64; SET_WORDS];
     headset::fill(&mut ready, packet::torus::nodes(s));
     take_turns(words, s, &near, &mut ready, budget, ledger)
 }

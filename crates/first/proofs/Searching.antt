@@ -16,7 +16,7 @@ use lib.Seq.{drop-cons, drop-length}
 use Rattle.base.specs.Sums.{sumBelow}
 use Rattle.base.specs.Tests.{elem, or-l, or-r}
 use Rattle.network.specs.declared.Found.{Found}
-use Rattle.network.specs.Sizes.{Shape, nodes, queues, adaptiveQueue, escapeQueue, capacity}
+use Rattle.network.specs.Sizes.{Shape, shapeOf, nodes, queues, adaptiveQueue, escapeQueue, capacity}
 use Rattle.network.specs.Layout.{nodeWords, queueStart, queueEnd, queueLength, held, total, accepted, delivered}
 use Rattle.network.specs.LayoutLaws.{end-next, end-length, node-words, total-zero}
 use Rattle.network.specs.Check.{packetsHeld}
@@ -29,8 +29,7 @@ use Rattle.network.specs.Refusals.{head, flowRules, moveRules}
 use Rattle.network.specs.RefusalLaws.{Permitted, permitted-of, permitted-by, flow-of, flow-by}
 use Rattle.network.specs.Calls.{firstOutput, firstInQueue, orElse, search, firstInNode, firstMove}
 use Rattle.network.specs.FirstLaws.{Finds, nothing, named, first-finds}
-use Rattle.packet.specs.Geometry.{shapeOfSizes}
-use Rattle.packet.specs.declared.torus.Sizes.{Sizes}
+use Rattle.network.specs.declared.Sizes.{Sizes}
 use Rattle.queue.specs.QueueLaws.{checked-fits}
 use Rattle.routes.specs.declared.HeadRoutes.{HeadRoutes}
 use Rattle.routes.specs.AreRoutes.{AreRoutes}
@@ -129,28 +128,28 @@ module _ (S : Shape) (w : List ℕ) (n q : ℕ) where
 -- its words start at `start`, its number held is not 0, and r are the routes of the word behind that
 pub record Reading (s : Sizes) (w : List ℕ) (n q start : ℕ) (r : HeadRoutes) : Type 0 where
   pub queue : QueueOf s w n q
-  pub at : start ≡ queueStart (shapeOfSizes s) n q
+  pub at : start ≡ queueStart (shapeOf s) n q
   pub some : getD w start 0 ≢ 0
   pub are : AreRoutes q (getD w (start + 1) 0) r
 
 -- the routes of its head, and what First finds by those from the j-th on
 abbrev pub headRoutes : Sizes → List ℕ → ℕ → ℕ → List ℕ
-headRoutes s w n q = routes q (head (held (shapeOfSizes s) w n q))
+headRoutes s w n q = routes q (head (held (shapeOf s) w n q))
 
 abbrev pub FoundFrom : Sizes → List ℕ → ℕ → ℕ → ℕ → Type 0
-FoundFrom s w n q j = firstOutput (shapeOfSizes s) w n q (drop j (headRoutes s w n q)) ≡ firstInQueue (shapeOfSizes s) w n q
+FoundFrom s w n q j = firstOutput (shapeOf s) w n q (drop j (headRoutes s w n q)) ≡ firstInQueue (shapeOf s) w n q
 
 pub found-from-first : (s : Sizes) (w : List ℕ) (n q : ℕ) → FoundFrom s w n q 0
 unfolding firstInQueue
 found-from-first s w n q = refl
 
 module _ {s : Sizes} {w : List ℕ} {n q start : ℕ} {r : HeadRoutes} (k : Reading s w n q start r) where
-  holds : length (held (shapeOfSizes s) w n q) ≢ 0
+  holds : length (held (shapeOf s) w n q) ≢ 0
   holds z = k .some (count-at s w n q (k .queue) start (k .at) ∙ z)
 
-  routes-are : AreRoutes q (head (held (shapeOfSizes s) w n q)) r
+  routes-are : AreRoutes q (head (held (shapeOf s) w n q)) r
   routes-are =
-      let some : 0 < length (held (shapeOfSizes s) w n q) = pos-of-ne-zero holds in
+      let some : 0 < length (held (shapeOf s) w n q) = pos-of-ne-zero holds in
       subst (λ (p : ℕ). AreRoutes q p r) (head-at s w n q (k .queue) start (k .at) some) (k .are)
 
   listed : (j : ℕ) → j < r .count → j < length (headRoutes s w n q)
@@ -162,43 +161,43 @@ module _ {s : Sizes} {w : List ℕ} {n q start : ℕ} {r : HeadRoutes} (k : Read
   pub output-lt : (j : ℕ) → j < r .count → getD (r .outputs) j 0 < queues
   output-lt j h =
       let e = route-at routes-are j h in
-      let l = route-lt q (head (held (shapeOfSizes s) w n q)) (getD (headRoutes s w n q) j 0) (is-route j h) in
+      let l = route-lt q (head (held (shapeOf s) w n q)) (getD (headRoutes s w n q) j 0) (is-route j h) in
       omega arith
 
   -- the next route, where the flow rule refuses this one; the move, where it lets it pass; and nothing, where no route is left
-  pub route-on : (j : ℕ) → j < r .count → flowRules (shapeOfSizes s) w n q (getD (r .outputs) j 0) ≢ 0 → FoundFrom s w n q j → FoundFrom s w n q (j + 1)
+  pub route-on : (j : ℕ) → j < r .count → flowRules (shapeOf s) w n q (getD (r .outputs) j 0) ≢ 0 → FoundFrom s w n q j → FoundFrom s w n q (j + 1)
   route-on j h ne inv =
-      output-on (shapeOfSizes s) w n q (headRoutes s w n q) j (listed j h)
-      (flow-refuses (shapeOfSizes s) w n q (getD (headRoutes s w n q) j 0)
-      (λ z. ne (ap (flowRules (shapeOfSizes s) w n q) (route-at routes-are j h) ∙ z)))
+      output-on (shapeOf s) w n q (headRoutes s w n q) j (listed j h)
+      (flow-refuses (shapeOf s) w n q (getD (headRoutes s w n q) j 0)
+      (λ z. ne (ap (flowRules (shapeOf s) w n q) (route-at routes-are j h) ∙ z)))
       ∙ inv
 
-  pub route-found : (j : ℕ) → j < r .count → flowRules (shapeOfSizes s) w n q (getD (r .outputs) j 0) ≡ 0 → FoundFrom s w n q j
-      → firstInQueue (shapeOfSizes s) w n q ≡ Found.Move n q (getD (r .outputs) j 0)
+  pub route-found : (j : ℕ) → j < r .count → flowRules (shapeOf s) w n q (getD (r .outputs) j 0) ≡ 0 → FoundFrom s w n q j
+      → firstInQueue (shapeOf s) w n q ≡ Found.Move n q (getD (r .outputs) j 0)
   route-found j h e inv =
       sym inv
-      ∙ output-found (shapeOfSizes s) w n q (headRoutes s w n q) j (listed j h)
-      (flow-passes (shapeOfSizes s) w n q (getD (headRoutes s w n q) j 0) (k .queue .node) (k .queue .queue) holds (is-route j h)
-      (ap (flowRules (shapeOfSizes s) w n q) (sym (route-at routes-are j h)) ∙ e))
+      ∙ output-found (shapeOf s) w n q (headRoutes s w n q) j (listed j h)
+      (flow-passes (shapeOf s) w n q (getD (headRoutes s w n q) j 0) (k .queue .node) (k .queue .queue) holds (is-route j h)
+      (ap (flowRules (shapeOf s) w n q) (sym (route-at routes-are j h)) ∙ e))
       ∙ ap (Found.Move n q) (sym (route-at routes-are j h))
 
-  pub route-none : (j : ℕ) → j ≤ r .count → r .count ≤ j → FoundFrom s w n q j → firstInQueue (shapeOfSizes s) w n q ≡ Found.Nothing
+  pub route-none : (j : ℕ) → j ≤ r .count → r .count ≤ j → FoundFrom s w n q j → firstInQueue (shapeOf s) w n q ≡ Found.Nothing
   route-none j h l inv =
-      sym inv ∙ output-end (shapeOfSizes s) w n q (headRoutes s w n q) j (let e = routes-count routes-are in omega arith)
+      sym inv ∙ output-end (shapeOf s) w n q (headRoutes s w n q) j (let e = routes-count routes-are in omega arith)
 
 -- a queue's words end among those lent
-pub end-at : (s : Sizes) (w : List ℕ) (n q : ℕ) → QueueOf s w n q → (start slots : ℕ) → start ≡ queueStart (shapeOfSizes s) n q → slots ≡ capacity (shapeOfSizes s) q
+pub end-at : (s : Sizes) (w : List ℕ) (n q : ℕ) → QueueOf s w n q → (start slots : ℕ) → start ≡ queueStart (shapeOf s) n q → slots ≡ capacity (shapeOf s) q
     → start + (1 + slots) ≤ length w
 unfolding queueEnd queueLength
 end-at s w n q k start slots e f =
-    let l : queueStart (shapeOfSizes s) n q + (1 + capacity (shapeOfSizes s) q) ≤ length w =
-    end-length (shapeOfSizes s) w n q (checked-fits (shapeOfSizes s) w n q (queue-checked s w n q k)) in
+    let l : queueStart (shapeOf s) n q + (1 + capacity (shapeOf s) q) ≤ length w =
+    end-length (shapeOf s) w n q (checked-fits (shapeOf s) w n q (queue-checked s w n q k)) in
     omega arith
 
 -- a queue that holds none
-pub queue-none : (s : Sizes) (w : List ℕ) (n q start : ℕ) → QueueOf s w n q → start ≡ queueStart (shapeOfSizes s) n q → getD w start 0 ≡ 0
-    → firstInQueue (shapeOfSizes s) w n q ≡ Found.Nothing
-queue-none s w n q start k at z = empty (shapeOfSizes s) w n q (sym (count-at s w n q k start at) ∙ z)
+pub queue-none : (s : Sizes) (w : List ℕ) (n q start : ℕ) → QueueOf s w n q → start ≡ queueStart (shapeOf s) n q → getD w start 0 ≡ 0
+    → firstInQueue (shapeOf s) w n q ≡ Found.Nothing
+queue-none s w n q start k at z = empty (shapeOf s) w n q (sym (count-at s w n q k start at) ∙ z)
 
 -- The invariants ----------------------------------------------------------------------------------------------------------------------
 
@@ -211,40 +210,40 @@ pub record AtRoute (s : Sizes) (w : List ℕ) (n q count j : ℕ) : Type 0 where
 pub record AtQueue (s : Sizes) (w : List ℕ) (n : ℕ) (found : Bool) (start q : ℕ) : Type 0 where
   pub nothing : found ≡ false
   pub within : q ≤ queues
-  pub place : start ≡ queueStart (shapeOfSizes s) n q
-  pub left : search (λ r. firstInQueue (shapeOfSizes s) w n r) q (queues - q) ≡ firstInNode (shapeOfSizes s) w n
+  pub place : start ≡ queueStart (shapeOf s) n q
+  pub left : search (λ r. firstInQueue (shapeOf s) w n r) q (queues - q) ≡ firstInNode (shapeOf s) w n
 
 pub record AtNode (s : Sizes) (w : List ℕ) (found : Bool) (start n : ℕ) : Type 0 where
   pub nothing : found ≡ false
-  pub within : n ≤ nodes (shapeOfSizes s)
-  pub place : start ≡ queueStart (shapeOfSizes s) n 0
-  pub left : search (λ m. firstInNode (shapeOfSizes s) w m) n (nodes (shapeOfSizes s) - n) ≡ firstMove (shapeOfSizes s) w
+  pub within : n ≤ nodes (shapeOf s)
+  pub place : start ≡ queueStart (shapeOf s) n 0
+  pub left : search (λ m. firstInNode (shapeOf s) w m) n (nodes (shapeOf s) - n) ≡ firstMove (shapeOf s) w
 
 module _ {s : Sizes} {w : List ℕ} {n : ℕ} where
-  pub queues-begin : {found : Bool} {start : ℕ} → found ≡ false → start ≡ queueStart (shapeOfSizes s) n 0 → AtQueue s w n found start 0
+  pub queues-begin : {found : Bool} {start : ℕ} → found ≡ false → start ≡ queueStart (shapeOf s) n 0 → AtQueue s w n found start 0
   unfolding firstInNode
   queues-begin f e = record { nothing = f; within = omega arith; place = e; left = refl }
 
-  pub queue-next : {found later : Bool} {start q slots : ℕ} → AtQueue s w n found start q → later ≡ false → q < queues → slots ≡ capacity (shapeOfSizes s) q
-      → firstInQueue (shapeOfSizes s) w n q ≡ Found.Nothing → AtQueue s w n later (start + (1 + slots)) (q + 1)
+  pub queue-next : {found later : Bool} {start q slots : ℕ} → AtQueue s w n found start q → later ≡ false → q < queues → slots ≡ capacity (shapeOf s) q
+      → firstInQueue (shapeOf s) w n q ≡ Found.Nothing → AtQueue s w n later (start + (1 + slots)) (q + 1)
   unfolding queueEnd queueLength
   queue-next {start = start} {q = q} {slots = slots} i f h c e =
-      let next : queueStart (shapeOfSizes s) n q + (1 + capacity (shapeOfSizes s) q) ≡ queueStart (shapeOfSizes s) n (suc q) = end-next (shapeOfSizes s) n q in
-      let at : start ≡ queueStart (shapeOfSizes s) n q = i .place in
-      let one : queueStart (shapeOfSizes s) n (suc q) ≡ queueStart (shapeOfSizes s) n (q + 1) = ap (queueStart (shapeOfSizes s) n) (sym (add-one q)) in
+      let next : queueStart (shapeOf s) n q + (1 + capacity (shapeOf s) q) ≡ queueStart (shapeOf s) n (suc q) = end-next (shapeOf s) n q in
+      let at : start ≡ queueStart (shapeOf s) n q = i .place in
+      let one : queueStart (shapeOf s) n (suc q) ≡ queueStart (shapeOf s) n (q + 1) = ap (queueStart (shapeOf s) n) (sym (add-one q)) in
       record {
         nothing = f;
         within = omega arith;
         place = omega arith;
-        left = search-on (λ r. firstInQueue (shapeOfSizes s) w n r) q queues h e ∙ i .left;
+        left = search-on (λ r. firstInQueue (shapeOf s) w n r) q queues h e ∙ i .left;
       }
 
-  pub queue-found : {found : Bool} {start q o : ℕ} → AtQueue s w n found start q → q < queues → firstInQueue (shapeOfSizes s) w n q ≡ Found.Move n q o
-      → firstInNode (shapeOfSizes s) w n ≡ Found.Move n q o
-  queue-found {q = q} {o = o} i h e = sym (i .left) ∙ search-found (λ r. firstInQueue (shapeOfSizes s) w n r) q queues n q o h e
+  pub queue-found : {found : Bool} {start q o : ℕ} → AtQueue s w n found start q → q < queues → firstInQueue (shapeOf s) w n q ≡ Found.Move n q o
+      → firstInNode (shapeOf s) w n ≡ Found.Move n q o
+  queue-found {q = q} {o = o} i h e = sym (i .left) ∙ search-found (λ r. firstInQueue (shapeOf s) w n r) q queues n q o h e
 
-  queues-none : {found : Bool} {start q : ℕ} → AtQueue s w n found start q → queues ≤ q → firstInNode (shapeOfSizes s) w n ≡ Found.Nothing
-  queues-none {q = q} i h = sym (i .left) ∙ search-end (λ r. firstInQueue (shapeOfSizes s) w n r) q queues h
+  queues-none : {found : Bool} {start q : ℕ} → AtQueue s w n found start q → queues ≤ q → firstInNode (shapeOf s) w n ≡ Found.Nothing
+  queues-none {q = q} i h = sym (i .left) ∙ search-end (λ r. firstInQueue (shapeOf s) w n r) q queues h
 
 -- the words of a node end where the next node's begin
 after-node : (S : Shape) (n : ℕ) → queueStart S n queues ≡ queueStart S (n + 1) 0
@@ -262,29 +261,29 @@ before-nodes S = let z = zero-mul (nodeWords S) in omega arith
 module _ {s : Sizes} {w : List ℕ} where
   pub nodes-begin : AtNode s w false 8 0
   unfolding firstMove
-  nodes-begin = record { nothing = refl; within = omega arith; place = before-nodes (shapeOfSizes s); left = ap (search (λ m. firstInNode (shapeOfSizes s) w m) 0) (omega arith) }
+  nodes-begin = record { nothing = refl; within = omega arith; place = before-nodes (shapeOf s); left = ap (search (λ m. firstInNode (shapeOf s) w m) 0) (omega arith) }
 
-  pub node-next : {found : Bool} {start start′ n q : ℕ} {found′ : Bool} → AtNode s w found start n → n < nodes (shapeOfSizes s) → AtQueue s w n found′ start′ q → queues ≤ q
+  pub node-next : {found : Bool} {start start′ n q : ℕ} {found′ : Bool} → AtNode s w found start n → n < nodes (shapeOf s) → AtQueue s w n found′ start′ q → queues ≤ q
       → AtNode s w found′ start′ (n + 1)
   node-next {start′ = start′} {n = n} {q = q} i h j l =
-      let at : start′ ≡ queueStart (shapeOfSizes s) n q = j .place in
+      let at : start′ ≡ queueStart (shapeOf s) n q = j .place in
       let b : q ≤ queues = j .within in
       let last : q ≡ queues = omega arith in
-      let same : queueStart (shapeOfSizes s) n q ≡ queueStart (shapeOfSizes s) n queues = ap (queueStart (shapeOfSizes s) n) last in
-      let next = after-node (shapeOfSizes s) n in
+      let same : queueStart (shapeOf s) n q ≡ queueStart (shapeOf s) n queues = ap (queueStart (shapeOf s) n) last in
+      let next = after-node (shapeOf s) n in
       record {
         nothing = j .nothing;
         within = omega arith;
         place = omega arith;
-        left = search-on (λ m. firstInNode (shapeOfSizes s) w m) n (nodes (shapeOfSizes s)) h (queues-none j l) ∙ i .left;
+        left = search-on (λ m. firstInNode (shapeOf s) w m) n (nodes (shapeOf s)) h (queues-none j l) ∙ i .left;
       }
 
-  pub node-found : {found : Bool} {start n q o : ℕ} → AtNode s w found start n → n < nodes (shapeOfSizes s) → firstInNode (shapeOfSizes s) w n ≡ Found.Move n q o
-      → firstMove (shapeOfSizes s) w ≡ Found.Move n q o
-  node-found {n = n} {q = q} {o = o} i h e = sym (i .left) ∙ search-found (λ m. firstInNode (shapeOfSizes s) w m) n (nodes (shapeOfSizes s)) n q o h e
+  pub node-found : {found : Bool} {start n q o : ℕ} → AtNode s w found start n → n < nodes (shapeOf s) → firstInNode (shapeOf s) w n ≡ Found.Move n q o
+      → firstMove (shapeOf s) w ≡ Found.Move n q o
+  node-found {n = n} {q = q} {o = o} i h e = sym (i .left) ∙ search-found (λ m. firstInNode (shapeOf s) w m) n (nodes (shapeOf s)) n q o h e
 
-  pub nodes-none : {found : Bool} {start n : ℕ} → AtNode s w found start n → nodes (shapeOfSizes s) ≤ n → firstMove (shapeOfSizes s) w ≡ Found.Nothing
-  nodes-none {n = n} i h = sym (i .left) ∙ search-end (λ m. firstInNode (shapeOfSizes s) w m) n (nodes (shapeOfSizes s)) h
+  pub nodes-none : {found : Bool} {start n : ℕ} → AtNode s w found start n → nodes (shapeOf s) ≤ n → firstMove (shapeOf s) w ≡ Found.Nothing
+  nodes-none {n = n} i h = sym (i .left) ∙ search-end (λ m. firstInNode (shapeOf s) w m) n (nodes (shapeOf s)) h
 
 -- A network that holds nothing --------------------------------------------------------------------------------------------------------
 

@@ -2,34 +2,37 @@
 // function equals the definition of its name in the crate `network` (specs/Calls.antt).
 use flow::flow_rules;
 use flow::may_flow;
+use network::ACCEPTED_AT;
+use network::DELIVERED_AT;
 use network::Found;
-use packet::torus::Sizes;
+use network::HEADER_WORDS;
+use network::QUEUES;
+use network::Sizes;
 use packet::torus::nodes;
 use queue::capacity;
 use queue::queue_start;
-use routes::QUEUES;
 use routes::routes;
 ghost use mathlib.Core.Path.{_≡_};
+ghost use Rattle.network.specs.Sizes.{shapeOf};
 ghost use Rattle.network.specs.CheckLaws.{Network};
 ghost use Rattle.network.specs.Calls.{firstInQueue, firstMove};
-ghost use Rattle.packet.specs.Geometry.{shapeOfSizes};
 ghost use Rattle.packet.specs.Near.{Near};
 ghost use Rattle.flow.specs.QueueOf.{QueueOf};
 
 // The first permitted move of the network. Where as many packets were delivered as accepted, none is held. The place of the words
 // goes on from queue to queue, and an empty queue costs no more than its count word.
 pub fn first_move(words: &[u64], s: Sizes) -> Found
-    requires { ⌜ Network (shapeOfSizes s) (now words) ⌝ }
-    ensures { λ r. ⌜ r ≡ firstMove (shapeOfSizes s) (now (words .entry)) ⌝ }
+    requires { ⌜ Network (shapeOf s) (now words) ⌝ }
+    ensures { λ r. ⌜ r ≡ firstMove (shapeOf s) (now (words .entry)) ⌝ }
 {
-    if words[queue::ACCEPTED_AT] == words[queue::DELIVERED_AT] {
+    if words[ACCEPTED_AT] == words[DELIVERED_AT] {
         return Found::Nothing;
     }
     let mut found = false;
     let mut node: u64 = 0;
     let mut queue: u64 = 0;
     let mut output: u64 = 0;
-    let mut start: usize = queue::HEADER_WORDS;
+    let mut start: usize = HEADER_WORDS;
     let total = nodes(s);
     'search: for n in 0..total {
         for q in 0..QUEUES {
@@ -48,7 +51,7 @@ pub fn first_move(words: &[u64], s: Sizes) -> Found
                     }
                 }
             }
-            let slots = capacity(s.escape, s.adaptive, s.injection, q);
+            let slots = capacity(s, q);
             start += 1 + slots as usize;
         }
     }
@@ -66,10 +69,10 @@ pub fn first_move(words: &[u64], s: Sizes) -> Found
 // The first permitted move of the head of queue q of node n, if it has one.
 pub fn first_in_queue(words: &[u64], s: Sizes, near: &[u8], n: u64, q: u64) -> Found
     requires { ⌜ QueueOf s (now words) n q ⌝ }
-    requires { ⌜ Near (shapeOfSizes s) (now near) ⌝ }
-    ensures { λ r. ⌜ r ≡ firstInQueue (shapeOfSizes s) (now (words .entry)) n q ⌝ }
+    requires { ⌜ Near (shapeOf s) (now near) ⌝ }
+    ensures { λ r. ⌜ r ≡ firstInQueue (shapeOf s) (now (words .entry)) n q ⌝ }
 {
-    let start = queue_start(s.escape, s.adaptive, s.injection, n, q);
+    let start = queue_start(s, n, q);
     if words[start] == 0 {
         return Found::Nothing;
     }

@@ -5,29 +5,28 @@ use mathlib.Core.List.{List}
 use Prim.Native.Nat.{ℕ, _-_, _≤_}
 use native.Mathlib.Omega.{arith}
 use lib.ListN.{length}
-use Rattle.network.specs.Sizes.{directionOf, capacity}
+use Rattle.network.specs.Sizes.{shapeOf, directionOf, capacity}
 use Rattle.network.specs.Layout.{held}
 use Rattle.network.specs.TorusLaws.{neighbour-lt}
 use Rattle.network.specs.Routes.{target, freeSlots}
-use Rattle.packet.specs.Geometry.{shapeOfSizes}
 use Rattle.packet.specs.GeometryLaws.{inRange-rings, rings-torus}
-use Rattle.packet.specs.declared.torus.Sizes.{Sizes}
+use Rattle.network.specs.declared.Sizes.{Sizes}
 use Rattle.flow.specs.QueueOf.{QueueOf}
 use Rattle.flow.specs.Places.{held-few}
 
-module _ (s : Sizes) (w : List ℕ) (n o there : ℕ) (k : QueueOf s w n o) (e : there ≡ target (shapeOfSizes s) n o) where
+module _ (s : Sizes) (w : List ℕ) (n o there : ℕ) (k : QueueOf s w n o) (e : there ≡ target (shapeOf s) n o) where
   -- it is one of the network's
   pub at-target : QueueOf s w there o
   unfolding target
   at-target =
-      let l = neighbour-lt (shapeOfSizes s) (directionOf o) n (rings-torus s (inRange-rings s (k .network .in-range))) (omega arith) (k .node) in
+      let l = neighbour-lt (shapeOf s) (directionOf o) n (rings-torus s (inRange-rings s (k .network .in-range))) (omega arith) (k .node) in
       record { network = k .network; node = omega arith; queue = k .queue }
 
   -- it holds no more than its slots, and the others are free
-  pub target-few : (slots count : ℕ) → slots ≡ capacity (shapeOfSizes s) o → count ≡ length (held (shapeOfSizes s) w there o) → count ≤ slots
+  pub target-few : (slots count : ℕ) → slots ≡ capacity (shapeOf s) o → count ≡ length (held (shapeOf s) w there o) → count ≤ slots
   target-few slots count f g = let l = held-few s w there o at-target in omega arith
 
-  pub target-free : (slots count : ℕ) → slots ≡ capacity (shapeOfSizes s) o → count ≡ length (held (shapeOfSizes s) w there o)
-      → slots - count ≡ freeSlots (shapeOfSizes s) w n o
+  pub target-free : (slots count : ℕ) → slots ≡ capacity (shapeOf s) o → count ≡ length (held (shapeOf s) w there o)
+      → slots - count ≡ freeSlots (shapeOf s) w n o
   unfolding freeSlots
-  target-free slots count f g = ap₂ (λ (a b : ℕ). a - b) f (g ∙ ap (λ (i : ℕ). length (held (shapeOfSizes s) w i o)) e)
+  target-free slots count f g = ap₂ (λ (a b : ℕ). a - b) f (g ∙ ap (λ (i : ℕ). length (held (shapeOf s) w i o)) e)

@@ -6,17 +6,17 @@ use mathlib.Core.List.{List}
 use Prim.Native.Nat.{ℕ, _+_, _-_, _<_, _≤_}
 use native.Mathlib.Nat.{add-zero}
 use native.Mathlib.Omega.{arith}
+use lib.Dec.{T}
 use lib.ListN.{length, getD, drop}
 use lib.Seq.{getD-take, getD-drop}
 use Rattle.base.specs.Parts.{getD-span}
-use Rattle.network.specs.Sizes.{Shape, nodes, queues, capacity}
+use Rattle.network.specs.Sizes.{Shape, shapeOf, sizesInRange, nodes, queues, capacity}
 use Rattle.network.specs.SizesLaws.{range-of, capacity-pos}
 use Rattle.network.specs.Layout.{need, queueStart, queueEnd, queueLength, queuePart, countOf, packetsOf, held}
 use Rattle.network.specs.LayoutLaws.{end-start, end-length}
 use Rattle.network.specs.CheckLaws.{Network}
 use Rattle.network.specs.Refusals.{head}
-use Rattle.packet.specs.Geometry.{shapeOfSizes}
-use Rattle.packet.specs.declared.torus.Sizes.{Sizes}
+use Rattle.network.specs.declared.Sizes.{Sizes}
 use Rattle.queue.specs.Queue.{Checked}
 use Rattle.queue.specs.QueueLaws.{checked-fits, checked-count, places}
 use Rattle.flow.specs.QueueOf.{QueueOf}
@@ -64,22 +64,22 @@ head-word S w n q k h =
 -- At the place that the code computes -------------------------------------------------------------------------------------------------
 
 module _ (s : Sizes) (w : List ℕ) (n q : ℕ) (k : QueueOf s w n q) where
-  pub queue-checked : Checked (shapeOfSizes s) w n q
-  queue-checked = checked-of (shapeOfSizes s) w n q (k .network) (k .node) (k .queue)
+  pub queue-checked : Checked (shapeOf s) w n q
+  queue-checked = checked-of (shapeOf s) w n q (k .network) (k .node) (k .queue)
 
   -- what the functions that compute places ask
-  pub asked : (s .escape ≤ 8) × (s .adaptive ≤ 8) × (s .injection ≤ 8) × (n < 256) × (q < queues)
-  asked = places (s .x) (s .y) (s .escape) (s .adaptive) (s .injection) queue-checked
+  pub asked : T (sizesInRange (shapeOf s)) × (n < nodes (shapeOf s)) × (q < queues)
+  asked = places queue-checked
 
-  pub inside-at : (start : ℕ) → start ≡ queueStart (shapeOfSizes s) n q → start + 1 < length w
-  inside-at start e = let i = inside (shapeOfSizes s) w n q queue-checked in omega arith
+  pub inside-at : (start : ℕ) → start ≡ queueStart (shapeOf s) n q → start + 1 < length w
+  inside-at start e = let i = inside (shapeOf s) w n q queue-checked in omega arith
 
-  pub count-at : (start : ℕ) → start ≡ queueStart (shapeOfSizes s) n q → getD w start 0 ≡ length (held (shapeOfSizes s) w n q)
-  count-at start e = ap (λ (i : ℕ). getD w i 0) e ∙ count-word (shapeOfSizes s) w n q queue-checked
+  pub count-at : (start : ℕ) → start ≡ queueStart (shapeOf s) n q → getD w start 0 ≡ length (held (shapeOf s) w n q)
+  count-at start e = ap (λ (i : ℕ). getD w i 0) e ∙ count-word (shapeOf s) w n q queue-checked
 
-  pub head-at : (start : ℕ) → start ≡ queueStart (shapeOfSizes s) n q → 0 < length (held (shapeOfSizes s) w n q)
-      → getD w (start + 1) 0 ≡ head (held (shapeOfSizes s) w n q)
-  head-at start e h = ap (λ (i : ℕ). getD w (i + 1) 0) e ∙ head-word (shapeOfSizes s) w n q queue-checked h
+  pub head-at : (start : ℕ) → start ≡ queueStart (shapeOf s) n q → 0 < length (held (shapeOf s) w n q)
+      → getD w (start + 1) 0 ≡ head (held (shapeOf s) w n q)
+  head-at start e h = ap (λ (i : ℕ). getD w (i + 1) 0) e ∙ head-word (shapeOf s) w n q queue-checked h
 
-  pub held-few : length (held (shapeOfSizes s) w n q) ≤ capacity (shapeOfSizes s) q
-  held-few = let e = checked-count (shapeOfSizes s) w n q queue-checked in let f = queue-checked .count in omega arith
+  pub held-few : length (held (shapeOf s) w n q) ≤ capacity (shapeOf s) q
+  held-few = let e = checked-count (shapeOf s) w n q queue-checked in let f = queue-checked .count in omega arith

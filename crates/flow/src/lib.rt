@@ -1,11 +1,13 @@
 // The flow rule (R150 to R152), on words that have passed the check: what a queue holds, the target of an output, its free slots, and how
 // many a move needs. The contracts say each answer by the definitions of the crate `network` (specs/Layout.antt, Routes.antt, Refusals.antt).
+use network::DIRECTIONS;
+use network::NO_BUBBLE;
+use network::NO_SLOT;
+use network::Sizes;
 use packet::near::look_up;
-use packet::torus::Sizes;
 use packet::torus::neighbour;
 use queue::capacity;
 use queue::queue_start;
-use routes::DIRECTIONS;
 ghost use mathlib.Core.Path.{_≡_};
 ghost use Prim.Native.Nat.{_<_};
 ghost use lib.Dec.{eqb};
@@ -13,39 +15,34 @@ ghost use lib.ListN.{length};
 ghost use Rattle.network.specs.Layout.{held};
 ghost use Rattle.network.specs.Routes.{target, freeSlots, slotsNeeded};
 ghost use Rattle.network.specs.Refusals.{head, flowRules};
-ghost use Rattle.packet.specs.Geometry.{shapeOfSizes, RingsFit};
+ghost use Rattle.packet.specs.Geometry.{RingsFit};
 ghost use Rattle.packet.specs.Near.{Near};
-ghost use Rattle.network.specs.Sizes.{nodes, queues};
+ghost use Rattle.network.specs.Sizes.{shapeOf, nodes, queues};
 ghost use Rattle.flow.specs.QueueOf.{QueueOf};
-
-// R171, R172: the numbers by which the flow rule refuses.
-pub const NO_SLOT: u64 = 11;
-
-pub const NO_BUBBLE: u64 = 12;
 
 // The number of packets that queue q of node n holds: its count word.
 pub fn held_count(words: &[u64], s: Sizes, n: u64, q: u64) -> u64
     requires { ⌜ QueueOf s (now words) n q ⌝ }
-    ensures { λ r. ⌜ r ≡ length (held (shapeOfSizes s) (now (words .entry)) n q) ⌝ }
+    ensures { λ r. ⌜ r ≡ length (held (shapeOf s) (now (words .entry)) n q) ⌝ }
 {
-    let start = queue_start(s.escape, s.adaptive, s.injection, n, q);
+    let start = queue_start(s, n, q);
     words[start]
 }
 
 // The oldest packet of queue q of node n, which holds one.
 pub fn head(words: &[u64], s: Sizes, n: u64, q: u64) -> u64
     requires { ⌜ QueueOf s (now words) n q ⌝ }
-    requires { ⌜ 0 < length (held (shapeOfSizes s) (now words) n q) ⌝ }
-    ensures { λ r. ⌜ r ≡ head (held (shapeOfSizes s) (now (words .entry)) n q) ⌝ }
+    requires { ⌜ 0 < length (held (shapeOf s) (now words) n q) ⌝ }
+    ensures { λ r. ⌜ r ≡ head (held (shapeOf s) (now (words .entry)) n q) ⌝ }
 {
-    let start = queue_start(s.escape, s.adaptive, s.injection, n, q);
+    let start = queue_start(s, n, q);
     words[start + 1]
 }
 
 // The node in the direction of output o, which is no delivery.
 pub fn target(s: Sizes, n: u64, o: u64) -> u64
-    requires { ⌜ RingsFit s × (n < nodes (shapeOfSizes s)) × (0 < o) × (o < queues) ⌝ }
-    ensures { λ r. ⌜ r ≡ target (shapeOfSizes s) n o ⌝ }
+    requires { ⌜ RingsFit s × (n < nodes (shapeOf s)) × (0 < o) × (o < queues) ⌝ }
+    ensures { λ r. ⌜ r ≡ target (shapeOf s) n o ⌝ }
 {
     neighbour(s, (o - 1) % DIRECTIONS, n)
 }
@@ -54,9 +51,9 @@ pub fn target(s: Sizes, n: u64, o: u64) -> u64
 pub fn free_slots(words: &[u64], s: Sizes, n: u64, o: u64) -> u64
     requires { ⌜ QueueOf s (now words) n o ⌝ }
     requires { ⌜ 0 < o ⌝ }
-    ensures { λ r. ⌜ r ≡ freeSlots (shapeOfSizes s) (now (words .entry)) n o ⌝ }
+    ensures { λ r. ⌜ r ≡ freeSlots (shapeOf s) (now (words .entry)) n o ⌝ }
 {
-    let slots = capacity(s.escape, s.adaptive, s.injection, o);
+    let slots = capacity(s, o);
     let m = target(s, n, o);
     slots - held_count(words, s, m, o)
 }
@@ -78,7 +75,7 @@ pub fn slots_needed(q: u64, o: u64) -> u64
 // The refusal of a head of queue q whose route is output o, by the slots of its target.
 pub fn flow_rules(words: &[u64], s: Sizes, n: u64, q: u64, o: u64) -> u64
     requires { ⌜ QueueOf s (now words) n o ⌝ }
-    ensures { λ r. ⌜ r ≡ flowRules (shapeOfSizes s) (now (words .entry)) n q o ⌝ }
+    ensures { λ r. ⌜ r ≡ flowRules (shapeOf s) (now (words .entry)) n q o ⌝ }
 {
     if o == 0 {
         return 0;
@@ -97,14 +94,14 @@ pub fn flow_rules(words: &[u64], s: Sizes, n: u64, q: u64, o: u64) -> u64
 // of a table.
 pub fn may_flow(words: &[u64], s: Sizes, near: &[u8], n: u64, q: u64, o: u64) -> bool
     requires { ⌜ QueueOf s (now words) n o ⌝ }
-    requires { ⌜ Near (shapeOfSizes s) (now near) ⌝ }
-    ensures { λ r. ⌜ r ≡ eqb (flowRules (shapeOfSizes s) (now (words .entry)) n q o) 0 ⌝ }
+    requires { ⌜ Near (shapeOf s) (now near) ⌝ }
+    ensures { λ r. ⌜ r ≡ eqb (flowRules (shapeOf s) (now (words .entry)) n q o) 0 ⌝ }
 {
     if o == 0 {
         return true;
     }
     let there = look_up(near, (o - 1) % DIRECTIONS, n);
-    let slots = capacity(s.escape, s.adaptive, s.injection, o);
+    let slots = capacity(s, o);
     let held = held_count(words, s, there, o);
     held + slots_needed(q, o) <= slots
 }

@@ -1,12 +1,23 @@
--- A set of heads of queues, numbers below 4096, as the bits of 65 words: head h is bit h % 64 of word 1 + h / 64. The head of queue q of node n
--- is number 16 * n + q, and a node has 9 queues. Order: the members; what the functions of the crate leave or find. The statements are over
--- every number m: from 4096 on there is no member (SetLaws.antt). Assumes nothing.
+-- A set of heads of queues as the bits of 65 words: head h is bit h % 64 of word 1 + h / 64. The head of queue q of node n
+-- is number 16 * n + q. Order: the members; what the functions of the crate leave or find. The statements are over
+-- every number m: from `heads` on there is no member (SetLaws.antt). Assumes nothing.
 use mathlib.Core.Path.{_≡_}
 use mathlib.Core.Bool.{Bool, true, false, not, _&&_, _||_}
 use mathlib.Core.List.{List}
-use Prim.Native.Nat.{ℕ, _+_, _/_, _%_, _^_, _<_, _≤_}
+use Prim.Native.Nat.{ℕ, _+_, _*_, _/_, _%_, _^_, _<_, _≤_}
 use lib.Dec.{eqb, ltb}
 use lib.ListN.{length, getD}
+use Rattle.network.specs.Sizes.{queues, mostNodes}
+
+-- the numbers of a node's heads, and of the heads of all nodes
+abbrev pub nodeHeads : ℕ
+nodeHeads = 16
+
+abbrev pub heads : ℕ
+heads = nodeHeads * mostNodes
+
+abbrev pub setWords : ℕ
+setWords = 1 + heads / 64
 
 -- bit j of the word is set
 unfoldable pub bit : ℕ → ℕ → Bool
@@ -17,13 +28,13 @@ member set h = bit (getD set (1 + h / 64) 0) (h % 64)
 
 -- bit i of word 0 says whether word 1 + i holds a member
 pub record IsSet (set : List ℕ) : Type 0 where
-  pub words : length set ≡ 65
+  pub words : length set ≡ setWords
   pub top : (i : ℕ) → i < 64 → bit (getD set 0 0) i ≡ not (eqb (getD set (1 + i) 0) 0)
 
 -- the set of the heads of the nodes below count
 pub record Filled (after : List ℕ) (count : ℕ) : Type 0 where
   pub set : IsSet after
-  pub members : (m : ℕ) → member after m ≡ (ltb (m / 16) count && ltb (m % 16) 9)
+  pub members : (m : ℕ) → member after m ≡ (ltb (m / nodeHeads) count && ltb (m % nodeHeads) queues)
 
 -- the set before, with head h
 pub record Inserted (before after : List ℕ) (h : ℕ) : Type 0 where
@@ -33,7 +44,7 @@ pub record Inserted (before after : List ℕ) (h : ℕ) : Type 0 where
 -- the set before, with the heads of node n
 pub record NodeInserted (before after : List ℕ) (n : ℕ) : Type 0 where
   pub set : IsSet after
-  pub members : (m : ℕ) → member after m ≡ ((eqb (m / 16) n && ltb (m % 16) 9) || member before m)
+  pub members : (m : ℕ) → member after m ≡ ((eqb (m / nodeHeads) n && ltb (m % nodeHeads) queues) || member before m)
 
 -- the set before, with the heads of word 1 + i whose bits are given
 pub record United (before after : List ℕ) (i bits : ℕ) : Type 0 where
@@ -45,11 +56,11 @@ pub record Removed (before after : List ℕ) (h : ℕ) : Type 0 where
   pub set : IsSet after
   pub members : (m : ℕ) → member after m ≡ (not (eqb m h) && member before m)
 
--- r is the lowest member, or 4096 where there is none
+-- r is the lowest member, or `heads` where there is none
 pub record Lowest (set : List ℕ) (r : ℕ) : Type 0 where
-  pub most : r ≤ 4096
+  pub most : r ≤ heads
   pub below : (m : ℕ) → m < r → member set m ≡ false
-  pub found : r < 4096 → member set r ≡ true
+  pub found : r < heads → member set r ≡ true
 
 -- the same of one word: r is its lowest bit that is set, or 64 where none is
 pub record LowestBit (word r : ℕ) : Type 0 where

@@ -1,13 +1,13 @@
 -- Laws of Set.antt for a caller. Order: no member from 4096 on; what the lowest member says of any other. Assumes nothing.
-use mathlib.Core.Path.{_≡_, ap, sym, _∙_}
-use mathlib.Core.Bool.{true, false, false≢true}
+use mathlib.Core.Path.{_≡_, ap, _∙_}
+use mathlib.Core.Bool.{false}
 use mathlib.Core.List.{List}
 use Prim.Native.Nat.{ℕ, _/_, _%_, _^_, _<_, _≤_}
 use native.Mathlib.Nat.{zero-div}
 use native.Mathlib.Decide.{decLt}
 use native.Mathlib.Omega.{arith}
 use lib.Dec.{eqb}
-use lib.ListN.{length, getD, List·getD-eq-default}
+use lib.ListN.{List·getD-eq-default}
 use Rattle.headset.specs.Set.{bit, member, IsSet, Lowest}
 
 pub none-beyond : (set : List ℕ) → IsSet set → (m : ℕ) → 4096 ≤ m → member set m ≡ false
@@ -16,14 +16,6 @@ none-beyond set k m h =
     let l = k .words in
     ap (λ (w : ℕ). eqb (w / 2 ^ (m % 64) % 2) 1) (List·getD-eq-default set 0 (omega arith))
     ∙ ap (λ (x : ℕ). eqb (x % 2) 1) (zero-div (2 ^ (m % 64)))
-
--- no member is lower
-pub lowest-le : (set : List ℕ) (r m : ℕ) → Lowest set r → member set m ≡ true → r ≤ m
-lowest-le set r m l e = go (decLt m r)
-  where
-    go : Dec (m < r) → r ≤ m
-    go (yes h) = absurd (false≢true (sym (l .below m h) ∙ e))
-    go (no h) = omega arith
 
 -- 4096: the set is empty
 pub lowest-none : (set : List ℕ) → IsSet set → Lowest set 4096 → (m : ℕ) → member set m ≡ false

@@ -1,15 +1,25 @@
-// A set of heads of queues as the bits of 65 lent words. The head of queue q, 0 to 8, of node n, below 256, is number 16 * n + q.
+// A set of heads of queues as the bits of SET_WORDS lent words. The head of queue q of node n is number NODE_HEADS * n + q.
 // Head h is bit h % 64 of word 1 + h / 64, and bit i of word 0 says that word 1 + i is not 0, so the lowest head is found with two counts of
 // trailing zeros. Order: all heads of the nodes below a number; one head in, the heads of one node in, one head out; the lowest head.
+use network::MOST_NODES;
 ghost use mathlib.Core.Path.{_≡_};
 ghost use Prim.Native.Nat.{_<_, _≤_};
 ghost use lib.ListN.{replicate};
-ghost use Rattle.headset.specs.Set.{IsSet, Filled, United, Inserted, NodeInserted, Removed, LowestBit, Lowest};
+ghost use Rattle.network.specs.Sizes.{mostNodes};
+ghost use Rattle.headset.specs.Set.{heads, setWords, IsSet, Filled, United, Inserted, NodeInserted, Removed, LowestBit, Lowest};
+
+// The numbers that a node has for the heads of its queues, and the numbers of the heads of all nodes.
+pub const NODE_HEADS: u64 = 16;
+
+pub const HEADS: u64 = NODE_HEADS * MOST_NODES;
+
+// A word for each 64 heads, and the word that says which of them are not 0.
+pub const SET_WORDS: usize = 65;
 
 // From words that are all 0: the members become the heads of the nodes below count.
 pub fn fill(set: &mut [u64], count: u64)
-    requires { ⌜ now set ≡ replicate 65 0 ⌝ }
-    requires { ⌜ count ≤ 256 ⌝ }
+    requires { ⌜ now set ≡ replicate setWords 0 ⌝ }
+    requires { ⌜ count ≤ mostNodes ⌝ }
     ensures { λ _. ⌜ Filled (now (set .exit)) count ⌝ }
 {
     let mut n = 0;
@@ -22,7 +32,7 @@ pub fn fill(set: &mut [u64], count: u64)
 // Head h becomes a member.
 pub fn insert(set: &mut [u64], h: u64)
     requires { ⌜ IsSet (now set) ⌝ }
-    requires { ⌜ h < 4096 ⌝ }
+    requires { ⌜ h < heads ⌝ }
     ensures { λ _. ⌜ Inserted (now (set .entry)) (now (set .exit)) h ⌝ }
 {
     let head: u64 = 1 << (h % 64);
@@ -32,7 +42,7 @@ pub fn insert(set: &mut [u64], h: u64)
 // The nine heads of node n become members.
 pub fn insert_node(set: &mut [u64], n: u64)
     requires { ⌜ IsSet (now set) ⌝ }
-    requires { ⌜ n < 256 ⌝ }
+    requires { ⌜ n < mostNodes ⌝ }
     ensures { λ _. ⌜ NodeInserted (now (set .entry)) (now (set .exit)) n ⌝ }
 {
     let heads: u64 = 511 << (n % 4 * 16);
@@ -57,7 +67,7 @@ fn unite(set: &mut [u64], i: u64, bits: u64)
 // Head h is a member no longer.
 pub fn remove(set: &mut [u64], h: u64)
     requires { ⌜ IsSet (now set) ⌝ }
-    requires { ⌜ h < 4096 ⌝ }
+    requires { ⌜ h < heads ⌝ }
     ensures { λ _. ⌜ Removed (now (set .entry)) (now (set .exit)) h ⌝ }
 {
     let i = h / 64;
@@ -73,14 +83,14 @@ pub fn remove(set: &mut [u64], h: u64)
     }
 }
 
-// The lowest member, or 4096 where there is none.
+// The lowest member, or HEADS where there is none.
 pub fn lowest(set: &[u64]) -> u64
     requires { ⌜ IsSet (now set) ⌝ }
     ensures { λ r. ⌜ Lowest (now (set .entry)) r ⌝ }
 {
     let top = set[0];
     if top == 0 {
-        return 4096;
+        return HEADS;
     }
     let i = lowest_bit(top);
     64 * i + lowest_bit(set[(1 + i) as usize])

@@ -1,10 +1,9 @@
 -- The calls (RULES R90 to R134): what each answers and what it leaves in the lent words, refused or not. `w` is the words at the call.
 -- Order: Make, Check, Offer, Move, Credit, Look, First, Drain; then the number and the values of each case of an answer. Assumes nothing.
-use mathlib.Core.Bool.{Bool, true, false, cond, _&&_}
+use mathlib.Core.Bool.{cond}
 use mathlib.Core.List.{List, [], _∷_, _++_, map}
 use Prim.Native.Nat.{ℕ, zero, suc, _+_, _*_}
 use lib.Dec.{eqb}
-use lib.IntN.{ℤ}
 use lib.ListN.{length, drop, replicate}
 use Rattle.network.specs.declared.Moved.{Moved}
 use Rattle.network.specs.declared.Credit.{Credit}
@@ -24,9 +23,6 @@ abbrev pub unlessRefused : {A : Type 0} → ℕ → A → A → A
 unlessRefused refusal after before = cond (eqb refusal 0) after before
 
 -- Make --------------------------------------------------------------------------------------------------------------------------------
-
-unfoldable pub shapeOf : ℕ → ℕ → ℕ → ℕ → ℕ → Shape
-shapeOf x y e a j = record { sizes = x ∷ y ∷ []; escape = e; adaptive = a; injection = j }
 
 -- R91, R92: no packet in any queue, the three counters 0
 unfoldable pub emptyNetwork : Shape → List ℕ

@@ -20,15 +20,16 @@ use Rattle.base.specs.Digits.{product, digit, putDigit, turn}
 use Rattle.network.specs.declared.Found.{Found}
 use Rattle.network.specs.declared.Stop.{Stop}
 use Rattle.network.specs.declared.Drained.{Drained}
-use Rattle.network.specs.Sizes.{Shape, size, within, sizesInRange, nodes, queues, directions, dimensions, dimensionOf, isPlus, adaptiveQueue, escapeQueue, capacity}
+use Rattle.network.specs.declared.Sizes.{Sizes}
+use Rattle.network.specs.Sizes.{Shape, shapeOf, sized, size, within, sizesInRange, nodes, queues, directions, dimensions, dimensionOf, isPlus, adaptiveQueue, escapeQueue, capacity}
 use Rattle.network.specs.SizesLaws.{escape-capacity}
-use Rattle.network.specs.Packet.{signed, byte, place, packetWord, tag, destination, offset, withOffset, distance, forward, backward, hops, heading, hopsLeft, work, shrunk, hop, shorterWay}
+use Rattle.network.specs.Packet.{signed, byte, packetWord, tag, destination, offset, withOffset, withOffsets, distance, forward, backward, hops, heading, hopsLeft, work, shrunk, hop, shorterWay}
 use Rattle.network.specs.Torus.{coordinate, stride, along, neighbour, movedBelow, movedBy}
 use Rattle.network.specs.Layout.{headerWords, shape, accepted, delivered, movesMade, raised, acceptedAt, queueLength, nodeWords, queueStart, queueEnd, need, queueWords, queuePart, countOf, packetsOf, unusedOf, held, putQueue, total}
 use Rattle.network.specs.Check.{rightPlace, isQueueOf, reach, nearEnough, opposite, rightSign, lowerDone, packetFits, queueFits, queuesFit, hasRoom, ringHasRoom, ringsHaveRoom, packetsHeld, workLeft, countersFit, isNetwork}
 use Rattle.network.specs.Routes.{deliver, inOrder, without, incoming, incomingFirst, headings, routes, target, freeSlots, entersRing, slotsNeeded}
 use Rattle.network.specs.Refusals.{refuse, noRoute, noSlot, noBubble, networkRefusal, makeRefusal, offerRules, offerRefusal, head, flowRules, moveRules, moveRefusal}
-use Rattle.network.specs.Calls.{Progress, shapeOf, emptyNetwork, makeWords, offered, afterOffer, offerWords, headLeaves, packetArrives, afterMove, firstOutput, firstInQueue, orElse, search, firstInNode, firstMove, firstAnswer, stopped, oneMore, deliverNext, moveNext, drainFrom, drained, drainAnswer}
+use Rattle.network.specs.Calls.{Progress, emptyNetwork, makeWords, offered, afterOffer, offerWords, headLeaves, packetArrives, afterMove, firstOutput, firstInQueue, orElse, search, firstInNode, firstMove, firstAnswer, stopped, oneMore, deliverNext, moveNext, drainFrom, drained, drainAnswer}
 use Rattle.network.specs.TorusLaws.{along-lt, inRange-torus}
 use Rattle.network.specs.CheckLaws.{Network, network-of}
 use Rattle.network.specs.RoutesLaws.{Onward, route-of}
@@ -48,7 +49,7 @@ here n = packet n (pos 0) (pos 0)
 
 -- an empty network of these sizes
 abbrev empty : ℕ → ℕ → ℕ → ℕ → ℕ → List ℕ
-empty x y e a j = makeWords (shapeOf x y e a j) (replicate (need (shapeOf x y e a j)) 0)
+empty x y e a j = makeWords (shapeOf (sized x y e a j)) (replicate (need (shapeOf (sized x y e a j))) 0)
 
 -- the words with these packets in a queue and as many packets more accepted
 abbrev holding : List ℕ → ℕ → ℕ → List ℕ → List ℕ
@@ -56,15 +57,15 @@ holding w n q ps = set (putQueue (shape w) w n q ps) acceptedAt (accepted w + le
 
 -- K1, K3, K4: 4 by 3, E 2, A 1, J 1
 abbrev four-by-three : Shape
-four-by-three = shapeOf 4 3 2 1 1
+four-by-three = shapeOf (sized 4 3 2 1 1)
 
 -- K2: the largest sizes
 abbrev largest : Shape
-largest = shapeOf 16 16 8 8 8
+largest = shapeOf (sized 16 16 8 8 8)
 
 -- K5 to K7, K9, K10: 4 by 4, E 2, A 1, J 1; the neighbour of node 0 in direction d, which lies round the edge for the minus directions
 abbrev four-by-four : Shape
-four-by-four = shapeOf 4 4 2 1 1
+four-by-four = shapeOf (sized 4 4 2 1 1)
 
 unfoldable pub next : ℕ → ℕ
 next d = neighbour four-by-four d 0
@@ -182,8 +183,8 @@ pub record KeptCases : Type 0 where
   pub k7-every : (w : List ℕ) (n q d : ℕ) → Entering w n q d → ahead w n d ≡ 0 → moveRefusal w n q (escapeQueue d) ≡ 0
   -- one of these three sizes is enough, whatever the others are and the words hold: for Make in a store of any length, for Check in one that has
   -- a header
-  pub k8 : (x y e a j : ℕ) (w : List ℕ) → (e ≡ 1) ⊎ ((x ≡ 0) ⊎ (x ≡ 17))
-      → (makeRefusal (shapeOf x y e a j) w ≡ 2) × (8 ≤ length w → shape w ≡ shapeOf x y e a j → networkRefusal w ≡ 2)
+  pub k8 : (s : Sizes) (w : List ℕ) → (s .escape ≡ 1) ⊎ ((s .x ≡ 0) ⊎ (s .x ≡ 17))
+      → (makeRefusal (shapeOf s) w ≡ 2) × (8 ≤ length w → shape w ≡ shapeOf s → networkRefusal w ≡ 2)
   -- a packet with a hop left in x+ is not delivered, and one that has arrived does not go on in the ring
   pub k9 : (moveRefusal (crossing 0 1) 0 0 0 ≡ 10) × (moveRefusal (crossing 0 1) 1 5 5 ≡ 10)
   pub k9-every : (w : List ℕ) (n q : ℕ) → Standing w n q
@@ -275,15 +276,15 @@ module _ (w : List ℕ) (n q d : ℕ) (s : Entering w n q d) where
       go false = refl
 
 -- K8: sizes out of range are found by Make first, by Check once there is a header
-out-of-range : (x y e a j : ℕ) → (e ≡ 1) ⊎ ((x ≡ 0) ⊎ (x ≡ 17)) → sizesInRange (shapeOf x y e a j) ≡ false
+out-of-range : (s : Sizes) → (s .escape ≡ 1) ⊎ ((s .x ≡ 0) ⊎ (s .x ≡ 17)) → sizesInRange (shapeOf s) ≡ false
 unfolding sizesInRange allOf within shapeOf
-out-of-range x y e a j (inl z) = rw z (neither (within 1 16 x && (within 1 16 y && true)))
+out-of-range s (inl z) = rw z (neither (within 1 16 (s .x) && (within 1 16 (s .y) && true)))
   where
     neither : (b : Bool) → (b && false) ≡ false
     neither true = refl
     neither false = refl
-out-of-range x y e a j (inr (inl z)) = rw z
-out-of-range x y e a j (inr (inr z)) = rw z
+out-of-range s (inr (inl z)) = rw z
+out-of-range s (inr (inr z)) = rw z
 
 wrong-size : (S : Shape) (w : List ℕ) → sizesInRange S ≡ false → (makeRefusal S w ≡ 2) × (8 ≤ length w → shape w ≡ S → networkRefusal w ≡ 2)
 unfolding makeRefusal networkRefusal
@@ -425,7 +426,7 @@ module _ (w : List ℕ) (d : ℕ) (r : RingsOfTwo w d) where
       ring e n he hn (no ne) = others e n he hn ne
 
 pub keptCases : KeptCases
-unfolding next oneHop chosen outside sources inEach crossing allBelow someBelow allOf elem sumBelow sumOf product digit putDigit turn size within sizesInRange nodes capacity signed byte place packetWord tag destination offset withOffset distance forward backward hops heading hopsLeft work shrunk hop shorterWay coordinate stride along neighbour movedBelow movedBy shape accepted delivered movesMade raised queueLength nodeWords queueStart queueEnd need queueWords queuePart countOf packetsOf unusedOf held putQueue total rightPlace isQueueOf reach nearEnough opposite rightSign lowerDone packetFits queueFits queuesFit hasRoom ringHasRoom ringsHaveRoom packetsHeld workLeft countersFit isNetwork inOrder without incoming incomingFirst headings routes target freeSlots entersRing slotsNeeded networkRefusal makeRefusal offerRules offerRefusal head flowRules moveRules moveRefusal shapeOf emptyNetwork makeWords offered afterOffer offerWords headLeaves packetArrives afterMove firstOutput firstInQueue orElse search firstInNode firstMove firstAnswer stopped oneMore deliverNext moveNext drainFrom drained drainAnswer
+unfolding next oneHop chosen outside sources inEach crossing allBelow someBelow allOf elem sumBelow sumOf product digit putDigit turn size within sizesInRange nodes capacity signed byte packetWord tag destination offset withOffset withOffsets distance forward backward hops heading hopsLeft work shrunk hop shorterWay coordinate stride along neighbour movedBelow movedBy shape accepted delivered movesMade raised queueLength nodeWords queueStart queueEnd need queueWords queuePart countOf packetsOf unusedOf held putQueue total rightPlace isQueueOf reach nearEnough opposite rightSign lowerDone packetFits queueFits queuesFit hasRoom ringHasRoom ringsHaveRoom packetsHeld workLeft countersFit isNetwork inOrder without incoming incomingFirst headings routes target freeSlots entersRing slotsNeeded networkRefusal makeRefusal offerRules offerRefusal head flowRules moveRules moveRefusal shapeOf emptyNetwork makeWords offered afterOffer offerWords headLeaves packetArrives afterMove firstOutput firstInQueue orElse search firstInNode firstMove firstAnswer stopped oneMore deliverNext moveNext drainFrom drained drainAnswer
 keptCases =
     record {
       k1 = refl;
@@ -439,7 +440,7 @@ keptCases =
       k6-every = λ w n q d s e. entered w n q d s 2 e;
       k7 = (entries 0 0 _ refl refl, entries 1 0 _ refl refl, entries 2 0 _ refl refl, entries 3 0 _ refl refl);
       k7-every = none-ahead;
-      k8 = λ x y e a j w z. wrong-size (shapeOf x y e a j) w (out-of-range x y e a j z);
+      k8 = λ s w z. wrong-size (shapeOf s) w (out-of-range s z);
       k9 = (by-rules (crossing 0 1) 0 0 0 10 refl refl, by-rules (crossing 0 1) 1 5 5 10 refl refl);
       k9-every =
           λ w n q s. (

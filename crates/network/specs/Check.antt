@@ -10,7 +10,7 @@ use Rattle.base.specs.Sums.{sumOf}
 use Rattle.network.specs.Sizes.{Shape, size, sizesInRange, nodes, queues, directions, dimensions, dimensionOf, directionOf, isEscape, isPlus, plus, minus, injectionQueue, escapeQueue, capacity}
 use Rattle.network.specs.Packet.{destination, distance, hops, work}
 use Rattle.network.specs.Torus.{along, movedBy}
-use Rattle.network.specs.Layout.{held, queuePart, countOf, unusedOf, packetsOf, total, need, accepted, delivered, movesMade}
+use Rattle.network.specs.Layout.{held, queuePart, countOf, unusedOf, total, need, accepted, delivered, movesMade}
 
 -- R74, R75: the destination is a node, and the one to which the offsets lead
 unfoldable pub rightPlace : Shape → ℕ → ℕ → Bool
@@ -20,12 +20,16 @@ rightPlace S n p = ltb (destination p) (nodes S) && eqb (movedBy S p n) (destina
 unfoldable pub isQueueOf : ℕ → ℕ → Bool
 isQueueOf i q = not (eqb q injectionQueue) && eqb (dimensionOf (directionOf q)) i
 
--- R76, R77: what must not be more than half of the size; in a queue of that dimension a hop has been made already
+-- R76: the longest lawful offset of a dimension, half of the size
+abbrev pub longest : Shape → ℕ → ℕ
+longest S i = size S i / 2
+
+-- R76, R77: what must not be more than the longest; in a queue of that dimension a hop has been made already
 unfoldable pub reach : ℕ → ℕ → ℕ → ℕ
 reach i q p = cond (isQueueOf i q) (distance i p + 1) (distance i p)
 
 unfoldable pub nearEnough : Shape → ℕ → ℕ → Bool
-nearEnough S q p = allBelow dimensions (λ i. leb (reach i q p) (size S i / 2))
+nearEnough S q p = allBelow dimensions (λ i. leb (reach i q p) (longest S i))
 
 -- R78: in a transit queue no hop is left against the queue's direction
 unfoldable pub opposite : ℕ → ℕ

@@ -2,9 +2,9 @@
 -- Order: a packet; a queue; the whole. Assumes nothing.
 use mathlib.Core.Path.{_≡_, refl, ap, sym, _∙_}
 use mathlib.Core.Logic.{_⊎_, inl, inr, _≢_}
-use mathlib.Core.Bool.{Bool, true, false, cond, not, _&&_, _||_}
-use mathlib.Core.List.{List, []}
-use Prim.Native.Nat.{ℕ, zero, suc, _+_, _*_, _-_, _/_, _%_, _<_, _≤_}
+use mathlib.Core.Bool.{Bool, true, false, cond, not, _&&_}
+use mathlib.Core.List.{List}
+use Prim.Native.Nat.{ℕ, _+_, _*_, _-_, _%_, _<_, _≤_}
 use native.Mathlib.Decide.{ℕ-discrete}
 use native.Mathlib.Omega.{arith}
 use borrow.Author.Tests.{eq-eqb, ne-eqb}
@@ -18,7 +18,7 @@ use Rattle.network.specs.PacketLaws.{one-way, distance-is}
 use Rattle.network.specs.Torus.{stride, along, neighbour, movedBy}
 use Rattle.network.specs.TorusLaws.{Torus}
 use Rattle.network.specs.Layout.{held, queuePart, countOf, unusedOf, need, accepted, delivered, movesMade}
-use Rattle.network.specs.Check.{rightPlace, isQueueOf, reach, nearEnough, opposite, rightSign, lowerDone, packetFits, queueFits, queuesFit, ringHasRoom, ringsHaveRoom, packetsHeld, workLeft, mostAccepted, mostWork, countersFit, isNetwork}
+use Rattle.network.specs.Check.{longest, rightPlace, isQueueOf, reach, nearEnough, opposite, rightSign, lowerDone, packetFits, queueFits, queuesFit, ringHasRoom, ringsHaveRoom, packetsHeld, workLeft, mostAccepted, mostWork, countersFit, isNetwork}
 
 -- the test of an equation, as a fact and back
 pub eq-T : (a b : ℕ) → a ≡ b → T (eqb a b)
@@ -145,7 +145,7 @@ both-zero d p a b = go (ℕ-discrete (d % 2) 0) b
 pub record PacketFits (S : Shape) (n q p : ℕ) : Type 0 where
   pub addressed : destination p < nodes S
   pub arrives : movedBy S p n ≡ destination p
-  pub near : (i : ℕ) → i < dimensions → reach i q p ≤ size S i / 2
+  pub near : (i : ℕ) → i < dimensions → reach i q p ≤ longest S i
   pub sign : q ≢ injectionQueue → hops (opposite (directionOf q)) p ≡ 0
   pub lower : T (isEscape q) → (i : ℕ) → i < dimensionOf (directionOf q) → distance i p ≡ 0
 
@@ -157,8 +157,8 @@ packet-of S n q p t =
       arrives = eqb→eq (movedBy S p n) (destination p) (and-r (ltb (destination p) (nodes S)) (eqb (movedBy S p n) (destination p)) place);
       near =
           λ i h.
-          leb→le (reach i q p) (size S i / 2)
-          (all-at dimensions (λ j. leb (reach j q p) (size S j / 2)) (and-l (nearEnough S q p) (rightSign q p && lowerDone q p) rest) i h);
+          leb→le (reach i q p) (longest S i)
+          (all-at dimensions (λ j. leb (reach j q p) (longest S j)) (and-l (nearEnough S q p) (rightSign q p && lowerDone q p) rest) i h);
       sign = λ ne. signed ne (or-e (eqb q injectionQueue) (eqb (hops (opposite (directionOf q)) p) 0) (and-l (rightSign q p) (lowerDone q p) last));
       lower =
           λ e i h.
@@ -191,8 +191,8 @@ packet-by S n q p f =
     (lt→ltb (destination p) (nodes S) (f .addressed))
     (eq-T (movedBy S p n) (destination p) (f .arrives)))
     (and-i (nearEnough S q p) (rightSign q p && lowerDone q p)
-    (all-by dimensions (λ j. leb (reach j q p) (size S j / 2))
-    (λ i h. le→leb (reach i q p) (size S i / 2) (f .near i h)))
+    (all-by dimensions (λ j. leb (reach j q p) (longest S j))
+    (λ i h. le→leb (reach i q p) (longest S i) (f .near i h)))
     (and-i (rightSign q p) (lowerDone q p) (signed (passed? (eqb q injectionQueue))) (low (passed? (isEscape q)))))
   where
     signed : T (eqb q injectionQueue) ⊎ T (not (eqb q injectionQueue)) → T (rightSign q p)

@@ -12,7 +12,7 @@ use lib.ListN.{length, getD, take, drop, replicate, length-append, length-drop, 
 use lib.Seq.{length-take-le, getD-set-same, getD-set-other, drop-set-lt, take-append-seam, drop-append-seam}
 use Rattle.base.specs.Tests.{allOf, allOf-head, allOf-tail}
 use Rattle.base.specs.Sums.{sumBelow, sum-same, sum-change, sum-fewer, term-le, some-term}
-use Rattle.base.specs.Parts.{splice, length-span, length-splice, getD-before, span-splice, span-apart, drop-splice, splice-span, splice-splice, span-set-before}
+use Rattle.base.specs.Parts.{length-span, length-splice, getD-before, span-splice, span-apart, drop-splice, splice-splice, span-set-before}
 use Rattle.network.specs.Sizes.{Shape, nodes, queues, capacity}
 use Rattle.network.specs.Layout.{headerWords, shape, acceptedAt, deliveredAt, movesAt, accepted, delivered, movesMade, raised, queueLength, nodeWords, queueStart, queueEnd, need, queueWords, queuePart, countOf, packetsOf, unusedOf, held, putQueue, total}
 
@@ -263,14 +263,6 @@ pub queueWords-held : (S : Shape) (w : List ℕ) (n q : ℕ) → Fits S w n q �
 unfolding held queueLength
 queueWords-held S w n q fits h t = queueWords-packetsOf (capacity S q) (queuePart S w n q) (length-queuePart S w n q fits) h t
 
--- a queue put back as it was
-pub put-held : (S : Shape) (w : List ℕ) (n q : ℕ) → Fits S w n q → countOf (queuePart S w n q) ≤ capacity S q
-    → T (allOf (eqb 0) (unusedOf (queuePart S w n q))) → putQueue S w n q (held S w n q) ≡ w
-unfolding putQueue queuePart
-put-held S w n q fits h t =
-    ap (λ (p : List ℕ). splice w (queueStart S n q) (queueEnd S n q) p) (queueWords-held S w n q fits h t)
-    ∙ splice-span w (queueStart S n q) (queueEnd S n q) (start-end S n q) (end-length S w n q fits)
-
 -- of two contents put into one queue the later stays
 pub put-put : (S : Shape) (w : List ℕ) (n q : ℕ) (ps qs : List ℕ) → Fits S w n q → length ps ≤ capacity S q
     → putQueue S (putQueue S w n q ps) n q qs ≡ putQueue S w n q qs
@@ -319,12 +311,6 @@ shape-raised at w h = shape-same (raised at w) w (λ i b. raised-other at w i (o
 pub rest-raised : (S : Shape) (at : ℕ) (w : List ℕ) → at < headerWords → drop (need S) (raised at w) ≡ drop (need S) w
 unfolding raised need
 rest-raised S at w h = drop-set-lt (headerWords + nodes S * nodeWords S) w at (getD w at 0 + 1) (omega arith)
-
-pub fits-raised : (S : Shape) (at : ℕ) (w : List ℕ) (n q : ℕ) → Fits S w n q → Fits S (raised at w) n q
-fits-raised S at w n q fits =
-    let l = length-raised at w in
-    let k = fits .long in
-    record { node = fits .node; queue = fits .queue; long = omega arith }
 
 -- Sums over all queues ------------------------------------------------------------------------------------------------------------------
 

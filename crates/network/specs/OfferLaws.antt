@@ -1,16 +1,16 @@
 -- Laws of the packet of an offer (`offered` of Calls.antt), between nodes of a torus whose sizes are at most 16. Order: its fields; how far it
 -- has to go; that its offsets lead from its node to its destination. Assumes nothing.
 use mathlib.Core.Path.{_≡_, ap, ap₂, _∙_}
-use Prim.Native.Nat.{ℕ, _+_, _*_, _-_, _/_, _%_, _^_, _<_, _≤_}
+use Prim.Native.Nat.{ℕ, _+_, _*_, _-_, _%_, _^_, _<_, _≤_}
 use native.Mathlib.Omega.{arith}
 use lib.IntN.{ℤ, natAbs}
 use Rattle.base.specs.Sums.{sumBelow}
 use Rattle.network.specs.Sizes.{Shape, size, nodes, dimensions}
 use Rattle.network.specs.Packet.{tag, destination, offset, distance, forward, backward, hopsLeft, work, shorterWay}
-use Rattle.network.specs.PacketLaws.{ByteRange, tag-packet, destination-packet, offset-packet, packet-lt, hops-plus, hops-minus, shorterWay-range, shorterWay-half, shorterWay-reaches}
+use Rattle.network.specs.PacketLaws.{ByteRange, tag-packet, destination-packet, offset-packet, hops-plus, hops-minus, shorterWay-range, shorterWay-half, shorterWay-reaches}
 use Rattle.network.specs.Torus.{coordinate, movedBy}
 use Rattle.network.specs.TorusLaws.{Torus, coordinate-lt, coordinates-eq, coordinate-movedBy, movedBy-lt}
-use Rattle.network.specs.Check.{mostWork}
+use Rattle.network.specs.Check.{longest, mostWork}
 use Rattle.network.specs.Calls.{offered}
 
 -- all sizes are at most 16
@@ -43,21 +43,17 @@ module _ (S : Shape) (n dest tag′ : ℕ) (t : Torus S) (h : n < nodes S) (hd :
   unfolding offered
   destination-offered = destination-packet tag′ dest (λ i. offeredWay S n dest i) small ranges
 
-  pub offered-lt : tag′ < 2 ^ 32 → offered S n dest tag′ < 2 ^ 64
-  unfolding offered
-  offered-lt l = packet-lt tag′ dest (λ i. offeredWay S n dest i) l small ranges
-
   pub offset-offered : (i : ℕ) → i < dimensions → offset i (offered S n dest tag′) ≡ offeredWay S n dest i
   unfolding offered
   offset-offered i k = offset-packet i tag′ dest (λ i. offeredWay S n dest i) k small ranges
 
   -- How far it has to go -------------------------------------------------------------------------------------------------------------
 
-  pub distance-offered : (i : ℕ) → i < dimensions → distance i (offered S n dest tag′) ≤ size S i / 2
+  pub distance-offered : (i : ℕ) → i < dimensions → distance i (offered S n dest tag′) ≤ longest S i
   unfolding distance
   distance-offered i k =
       let e : natAbs (offset i (offered S n dest tag′)) ≡ natAbs (offeredWay S n dest i) = ap natAbs (offset-offered i k) in
-      let l : natAbs (offeredWay S n dest i) ≤ size S i / 2 =
+      let l : natAbs (offeredWay S n dest i) ≤ longest S i =
       shorterWay-half (size S i) (coordinate S i n) (coordinate S i dest) (coordinate-lt S i n t k) (coordinate-lt S i dest t k) in
       omega arith
 

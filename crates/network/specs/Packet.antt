@@ -1,39 +1,56 @@
--- R60 to R66, R84, R110 and R228: the packet word. Order: signed bytes; the fields of a word; hops left; a hop; the label; the word of an
--- offer. Assumes nothing.
-use mathlib.Core.Bool.{Bool, true, false, cond}
-use Prim.Native.Nat.{ℕ, zero, suc, _+_, _*_, _-_, _/_, _%_, _^_}
+-- R60 to R66, R84, R110 and R228: the packet word. Order: the fields of a word; its offsets; the word of some fields; hops left; a hop; the label; the
+-- shorter way of an offer. Assumes nothing.
+use mathlib.Core.Bool.{cond}
+use Prim.Native.Nat.{ℕ, zero, suc, _+_, _*_, _-_, _/_, _%_}
 use lib.Dec.{leb, ltb, eqb}
 use lib.IntN.{ℤ, pos, negsuc, natAbs}
+use mathlib.Core.List.{List, [], _∷_}
 use Rattle.base.specs.Sums.{sumBelow}
+use Rattle.base.specs.Digits.{product, digit, putDigit}
 use Rattle.network.specs.Sizes.{dimensions, dimensionOf, isPlus, plus, minus}
 
--- R62, two's complement: the number that a byte stands for, and the byte of a number
+-- R60: the fields of a packet word below its tag, lowest first, by how many values each has: the offsets, that of the last dimension lowest, and the
+-- destination. They are the word's digits (base/specs/Digits.antt), and the tag is what stands above them
+abbrev pub offsetValues : ℕ
+offsetValues = 256
+
+abbrev pub fields : List ℕ
+fields = offsetValues ∷ offsetValues ∷ 65536 ∷ []
+
+abbrev pub offsetField : ℕ → ℕ
+offsetField i = dimensions - 1 - i
+
+abbrev pub destinationField : ℕ
+destinationField = dimensions
+
+unfoldable pub tag : ℕ → ℕ
+tag p = p / product fields
+
+unfoldable pub destination : ℕ → ℕ
+destination p = digit fields destinationField p
+
+-- R62, two's complement: the number that an offset's field stands for, and the field of a number
 unfoldable pub signed : ℕ → ℤ
-signed b = cond (ltb b 128) (pos b) (negsuc (255 - b))
+signed b = cond (ltb (2 * b) offsetValues) (pos b) (negsuc (offsetValues - 1 - b))
 
 unfoldable pub byte : ℤ → ℕ
 byte (pos n) = n
-byte (negsuc n) = 255 - n
-
--- R60: from the highest bits tag, destination, dx and dy; the byte of the offset of dimension i counts `place i` times
-unfoldable pub place : ℕ → ℕ
-place i = 256 ^ (dimensions - 1 - i)
-
-unfoldable pub packetWord : ℕ → ℕ → (ℕ → ℤ) → ℕ
-packetWord tag destination offsets = tag * 2 ^ 32 + destination * 2 ^ 16 + sumBelow dimensions (λ i. byte (offsets i) * place i)
-
-unfoldable pub tag : ℕ → ℕ
-tag p = p / 2 ^ 32
-
-unfoldable pub destination : ℕ → ℕ
-destination p = p / 2 ^ 16 % 2 ^ 16
+byte (negsuc n) = offsetValues - 1 - n
 
 unfoldable pub offset : ℕ → ℕ → ℤ
-offset i p = signed (p / place i % 256)
+offset i p = signed (digit fields (offsetField i) p)
 
--- the word with the offset of dimension i replaced
+-- the word with the offset of dimension i replaced, and with those of the first so many dimensions
 unfoldable pub withOffset : ℕ → ℤ → ℕ → ℕ
-withOffset i z p = p / (256 * place i) * (256 * place i) + byte z * place i + p % place i
+withOffset i z p = putDigit fields (offsetField i) (byte z) p
+
+unfoldable pub withOffsets : ℕ → (ℕ → ℤ) → ℕ → ℕ
+withOffsets zero offsets p = p
+withOffsets (suc i) offsets p = withOffset i (offsets i) (withOffsets i offsets p)
+
+-- R60: the word of these fields
+unfoldable pub packetWord : ℕ → ℕ → (ℕ → ℤ) → ℕ
+packetWord tag destination offsets = withOffsets dimensions offsets (putDigit fields destinationField destination (tag * product fields))
 
 -- |dx| and |dy|
 unfoldable pub distance : ℕ → ℕ → ℕ
@@ -73,7 +90,7 @@ hop i p = withOffset i (shrunk (offset i p)) p
 
 -- R228: tag and destination, which no hop changes
 unfoldable pub label : ℕ → ℕ
-label p = p / 2 ^ 16 * 2 ^ 16
+label p = withOffsets dimensions (λ i. pos 0) p
 
 -- R64 to R66: from one coordinate to another, round a dimension of that size, by the shorter way; half-way round goes plus
 unfoldable pub shorterWay : ℕ → ℕ → ℕ → ℤ

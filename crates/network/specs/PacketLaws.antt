@@ -10,9 +10,11 @@ use native.Mathlib.Decide.{ℕ-discrete, decLt, decLe}
 use lib.Dec.{leb, ltb, eqb}
 use lib.IntN.{ℤ, pos, negsuc, natAbs}
 use borrow.Author.Tests.{lt-ltb, le-ltb, le-leb, lt-leb, eq-eqb, ne-eqb}
-use Rattle.base.specs.Sums.{sumBelow, sum-same, sum-change, term-le}
+use lib.ListN.{length, getD}
+use Rattle.base.specs.Sums.{sumBelow, sum-change, term-le}
 use Rattle.network.specs.Sizes.{dimensions, directions, dimensionOf, isPlus, plus, minus}
-use Rattle.network.specs.Packet.{signed, byte, place, packetWord, tag, destination, offset, withOffset, distance, forward, backward, hops, heading, hopsLeft, work, shrunk, hop, label, shorterWay}
+use Rattle.base.specs.Digits.{product, digit, putDigit, Positive, digit-lt, digit-put-same, digit-put-other, put-put, put-comm, put-digit, above-put}
+use Rattle.network.specs.Packet.{offsetValues, fields, offsetField, destinationField, withOffsets, signed, byte, packetWord, tag, destination, offset, withOffset, distance, forward, backward, hops, heading, hopsLeft, work, shrunk, hop, label, shorterWay}
 
 -- a choice whose test is known
 chosen : {A : Type 0} (b : Bool) (x y : A) → b ≡ true → cond b x y ≡ x
@@ -30,11 +32,11 @@ pub record ByteRange (z : ℤ) : Type 0 where
 
 pub signed-small : (b : ℕ) → b < 128 → signed b ≡ pos b
 unfolding signed
-signed-small b h = chosen (ltb b 128) (pos b) (negsuc (255 - b)) (lt-ltb b 128 h)
+signed-small b h = chosen (ltb (2 * b) offsetValues) (pos b) (negsuc (255 - b)) (lt-ltb (2 * b) offsetValues (omega arith))
 
 pub signed-large : (b : ℕ) → 128 ≤ b → signed b ≡ negsuc (255 - b)
 unfolding signed
-signed-large b h = passed-over (ltb b 128) (pos b) (negsuc (255 - b)) (le-ltb b 128 h)
+signed-large b h = passed-over (ltb (2 * b) offsetValues) (pos b) (negsuc (255 - b)) (le-ltb (2 * b) offsetValues (omega arith))
 
 pub signed-byte : (b : ℕ) → b < 256 → byte (signed b) ≡ b
 unfolding byte
@@ -67,7 +69,7 @@ signed-range b = go (decLt b 128)
 
 pub offset-range : (i p : ℕ) → ByteRange (offset i p)
 unfolding offset
-offset-range i p = signed-range (p / place i % 256)
+offset-range i p = signed-range (digit fields (offsetField i) p)
 
 pub shrunk-range : (z : ℤ) → ByteRange z → ByteRange (shrunk z)
 unfolding shrunk forward backward
@@ -75,60 +77,146 @@ shrunk-range (pos n) r = let l : n < 128 = r .most in record { most = omega arit
 shrunk-range (negsuc zero) r = record { most = omega arith; least = omega arith }
 shrunk-range (negsuc (suc n)) r = let l : suc (suc n) ≤ 128 = r .least in record { most = omega arith; least = omega arith }
 
--- A word with the offset of one dimension replaced -------------------------------------------------------------------------------------
+-- The fields of a word ----------------------------------------------------------------------------------------------------------------
+-- Everything below rests on these three facts of the fields: a new layout proves them again, and nothing else.
 
-no-dimension : {A : Type 0} (i : ℕ) → suc (suc i) < dimensions → A
-no-dimension i h = absurd (no i h)
-  where
-    no : (i : ℕ) → suc (suc i) < dimensions → ⊥
-    no i h = omega arith
+fields-positive : Positive fields
+unfolding Positive
+fields-positive = (omega arith, (omega arith, (omega arith, tt)))
 
-byte-with-same : (i : ℕ) (z : ℤ) (p : ℕ) → i < dimensions → byte z < 256 → withOffset i z p / place i % 256 ≡ byte z
-unfolding withOffset place
-byte-with-same zero z p h b = omega arith
-byte-with-same (suc zero) z p h b = omega arith
-byte-with-same (suc (suc i)) z p h b = no-dimension i h
+offset-values : (i : ℕ) → i < dimensions → getD fields (offsetField i) 0 ≡ offsetValues
+offset-values zero h = refl
+offset-values (suc zero) h = refl
+offset-values (suc (suc i)) h = absurd (omega arith)
 
-byte-with-other : (i j : ℕ) (z : ℤ) (p : ℕ) → i < dimensions → j < dimensions → j ≢ i → byte z < 256
-    → withOffset i z p / place j % 256 ≡ p / place j % 256
-unfolding withOffset place
-byte-with-other zero zero z p h k ne b = absurd (ne refl)
-byte-with-other zero (suc zero) z p h k ne b = omega arith
-byte-with-other zero (suc (suc j)) z p h k ne b = no-dimension j k
-byte-with-other (suc zero) zero z p h k ne b = omega arith
-byte-with-other (suc zero) (suc zero) z p h k ne b = absurd (ne refl)
-byte-with-other (suc zero) (suc (suc j)) z p h k ne b = no-dimension j k
-byte-with-other (suc (suc i)) j z p h k ne b = no-dimension i h
+destination-values : getD fields destinationField 0 ≡ 2 ^ 16
+destination-values = refl
 
--- all that stands above the offsets is unchanged
-above-with : (i : ℕ) (z : ℤ) (p : ℕ) → i < dimensions → byte z < 256 → withOffset i z p / 2 ^ 16 ≡ p / 2 ^ 16
-unfolding withOffset place
-above-with zero z p h b = omega arith
-above-with (suc zero) z p h b = omega arith
-above-with (suc (suc i)) z p h b = no-dimension i h
+offset-field-lt : (i : ℕ) → i < dimensions → offsetField i < length fields
+offset-field-lt i h = omega arith
+
+-- fields of different dimensions, and that of the destination, stand apart
+offset-apart : (i j : ℕ) → i < dimensions → j < dimensions → j ≢ i → offsetField j ≢ offsetField i
+offset-apart i j h k ne e = ne (omega arith)
+
+destination-apart : (i : ℕ) → i < dimensions → destinationField ≢ offsetField i
+destination-apart i h e = omega arith
+
+small : (i : ℕ) (z : ℤ) → i < dimensions → ByteRange z → byte z < getD fields (offsetField i) 0
+small i z h r = rw (offset-values i h) (byte-lt r)
+
+-- as the code divides them out
+pub tag-is : (p : ℕ) → tag p ≡ p / 2 ^ 32
+unfolding tag product
+tag-is p = refl
+
+pub destination-is : (p : ℕ) → destination p ≡ p / 2 ^ 16 % 2 ^ 16
+unfolding destination digit
+destination-is p = ap (λ (x : ℕ). x % 2 ^ 16) (div-div-eq-div-mul p offsetValues offsetValues)
+
+pub destination-within : (p : ℕ) → destination p < 2 ^ 16
+unfolding destination
+destination-within p = digit-lt fields destinationField p fields-positive (omega arith)
+
+-- A word with offsets replaced --------------------------------------------------------------------------------------------------------
 
 pub offset-with-same : (i : ℕ) (z : ℤ) (p : ℕ) → i < dimensions → ByteRange z → offset i (withOffset i z p) ≡ z
-unfolding offset
-offset-with-same i z p h r = ap signed (byte-with-same i z p h (byte-lt r)) ∙ byte-signed z r
+unfolding offset withOffset
+offset-with-same i z p h r =
+    ap signed (digit-put-same fields (offsetField i) (byte z) p fields-positive (offset-field-lt i h) (small i z h r)) ∙ byte-signed z r
 
 pub offset-with-other : (i j : ℕ) (z : ℤ) (p : ℕ) → i < dimensions → j < dimensions → j ≢ i → ByteRange z → offset j (withOffset i z p) ≡ offset j p
-unfolding offset
-offset-with-other i j z p h k ne r = ap signed (byte-with-other i j z p h k ne (byte-lt r))
+unfolding offset withOffset
+offset-with-other i j z p h k ne r =
+    ap signed (digit-put-other fields (offsetField i) (offsetField j) (byte z) p fields-positive (offset-apart i j h k ne) (small i z h r))
 
 pub destination-with : (i : ℕ) (z : ℤ) (p : ℕ) → i < dimensions → ByteRange z → destination (withOffset i z p) ≡ destination p
-unfolding destination
-destination-with i z p h r = ap (λ (q : ℕ). q % 2 ^ 16) (above-with i z p h (byte-lt r))
+unfolding destination withOffset
+destination-with i z p h r =
+    digit-put-other fields (offsetField i) destinationField (byte z) p fields-positive (destination-apart i h) (small i z h r)
 
 pub tag-with : (i : ℕ) (z : ℤ) (p : ℕ) → i < dimensions → ByteRange z → tag (withOffset i z p) ≡ tag p
-unfolding tag
-tag-with i z p h r = let e = above-with i z p h (byte-lt r) in omega arith
+unfolding tag withOffset
+tag-with i z p h r = above-put fields (offsetField i) (byte z) p fields-positive (small i z h r)
+
+with-comm : (i j : ℕ) (y z : ℤ) (p : ℕ) → i < dimensions → j < dimensions → i ≢ j → ByteRange y → ByteRange z
+    → withOffset i y (withOffset j z p) ≡ withOffset j z (withOffset i y p)
+unfolding withOffset
+with-comm i j y z p h k ne r s =
+    put-comm fields (offsetField i) (offsetField j) (byte y) (byte z) p fields-positive (offset-apart j i k h ne) (small i y h r) (small j z k s)
+
+with-with : (i : ℕ) (y z : ℤ) (p : ℕ) → i < dimensions → ByteRange y → withOffset i z (withOffset i y p) ≡ withOffset i z p
+unfolding withOffset
+with-with i y z p h r = put-put fields (offsetField i) (byte y) (byte z) p fields-positive (small i y h r)
+
+pub tag-within : (p : ℕ) → p < 2 ^ 64 → tag p < 2 ^ 32
+unfolding tag product
+tag-within p h = omega arith
+
+-- the offsets of the first so many dimensions replaced
+abbrev pub InRange : ℕ → (ℕ → ℤ) → Type 0
+InRange m offs = (i : ℕ) → i < m → ByteRange (offs i)
+
+module _ (offs : ℕ → ℤ) where
+  tag-withs : (m : ℕ) (p : ℕ) → m ≤ dimensions → InRange m offs → tag (withOffsets m offs p) ≡ tag p
+  unfolding withOffsets
+  tag-withs zero p h r = refl
+  tag-withs (suc m) p h r = tag-with m (offs m) (withOffsets m offs p) (omega arith) (r m (omega arith)) ∙ tag-withs m p (omega arith) (λ i l. r i (omega arith))
+
+  destination-withs : (m : ℕ) (p : ℕ) → m ≤ dimensions → InRange m offs → destination (withOffsets m offs p) ≡ destination p
+  unfolding withOffsets
+  destination-withs zero p h r = refl
+  destination-withs (suc m) p h r =
+      destination-with m (offs m) (withOffsets m offs p) (omega arith) (r m (omega arith)) ∙ destination-withs m p (omega arith) (λ i l. r i (omega arith))
+
+  offset-withs : (m i : ℕ) (p : ℕ) → m ≤ dimensions → i < m → InRange m offs → offset i (withOffsets m offs p) ≡ offs i
+  unfolding withOffsets
+  offset-withs zero i p h l r = absurd (omega arith)
+  offset-withs (suc m) i p h l r = go (ℕ-discrete i m) (λ k. offset-withs m i p (omega arith) k (λ j q. r j (omega arith)))
+    where
+      go : Dec (i ≡ m) → (i < m → offset i (withOffsets m offs p) ≡ offs i) → offset i (withOffset m (offs m) (withOffsets m offs p)) ≡ offs i
+      go (yes e) later = rw e (offset-with-same m (offs m) (withOffsets m offs p) (omega arith) (r m (omega arith)))
+      go (no ne) later = offset-with-other m i (offs m) (withOffsets m offs p) (omega arith) (omega arith) ne (r m (omega arith)) ∙ later (omega arith)
+
+  -- another dimension's offset may be replaced before or after
+  withs-comm : (m i : ℕ) (z : ℤ) (p : ℕ) → m ≤ i → i < dimensions → ByteRange z → InRange m offs
+      → withOffsets m offs (withOffset i z p) ≡ withOffset i z (withOffsets m offs p)
+  unfolding withOffsets
+  withs-comm zero i z p h k s r = refl
+  withs-comm (suc m) i z p h k s r =
+      ap (withOffset m (offs m)) (withs-comm m i z p (omega arith) k s (λ j q. r j (omega arith)))
+      ∙ with-comm m i (offs m) z (withOffsets m offs p) (omega arith) k (λ e. omega arith) (r m (omega arith)) s
+
+  -- and one of their own is replaced anyway
+  withs-over : (m i : ℕ) (z : ℤ) (p : ℕ) → i < m → m ≤ dimensions → ByteRange z → InRange m offs → withOffsets m offs (withOffset i z p) ≡ withOffsets m offs p
+  unfolding withOffsets
+  withs-over zero i z p h k s r = absurd (omega arith)
+  withs-over (suc m) i z p h k s r = go (ℕ-discrete i m) (λ l. withs-over m i z p l (omega arith) s (λ j q. r j (omega arith)))
+    where
+      go : Dec (i ≡ m) → (i < m → withOffsets m offs (withOffset i z p) ≡ withOffsets m offs p)
+          → withOffset m (offs m) (withOffsets m offs (withOffset i z p)) ≡ withOffset m (offs m) (withOffsets m offs p)
+      go (yes e) later =
+          ap (withOffset m (offs m)) (withs-comm m i z p (omega arith) (omega arith) s (λ j q. r j (omega arith)))
+          ∙ ap (λ (j : ℕ). withOffset m (offs m) (withOffset j z (withOffsets m offs p))) e
+          ∙ with-with m z (offs m) (withOffsets m offs p) (omega arith) s
+      go (no ne) later = ap (withOffset m (offs m)) (later (omega arith))
+
+  -- an offset that is there already
+  withs-own : (m : ℕ) (p : ℕ) → m ≤ dimensions → ((i : ℕ) → i < m → byte (offs i) ≡ digit fields (offsetField i) p) → withOffsets m offs p ≡ p
+  unfolding withOffsets withOffset
+  withs-own zero p h e = refl
+  withs-own (suc m) p h e =
+      ap (putDigit fields (offsetField m) (byte (offs m))) (withs-own m p (omega arith) (λ i l. e i (omega arith)))
+      ∙ ap (λ (c : ℕ). putDigit fields (offsetField m) c p) (e m (omega arith))
+      ∙ put-digit fields (offsetField m) p
+
+zero-range : ByteRange (pos 0)
+unfolding forward backward
+zero-range = record { most = omega arith; least = omega arith }
 
 pub label-with : (i : ℕ) (z : ℤ) (p : ℕ) → i < dimensions → ByteRange z → label (withOffset i z p) ≡ label p
 unfolding label
-label-with i z p h r = ap (λ (q : ℕ). q * 2 ^ 16) (above-with i z p h (byte-lt r))
-
-pub with-lt : (i : ℕ) (z : ℤ) (p : ℕ) → i < dimensions → ByteRange z → p < 2 ^ 64 → withOffset i z p < 2 ^ 64
-with-lt i z p h r l = let e = above-with i z p h (byte-lt r) in omega arith
+label-with i z p h r = withs-over (λ j. pos 0) dimensions i z p h (omega arith) r (λ j q. zero-range)
 
 -- A hop -------------------------------------------------------------------------------------------------------------------------------
 
@@ -146,10 +234,6 @@ tag-hop i p h = tag-with i (shrunk (offset i p)) p h (hop-range i p)
 pub label-hop : (i p : ℕ) → i < dimensions → label (hop i p) ≡ label p
 unfolding hop
 label-hop i p h = label-with i (shrunk (offset i p)) p h (hop-range i p)
-
-pub hop-lt : (i p : ℕ) → i < dimensions → p < 2 ^ 64 → hop i p < 2 ^ 64
-unfolding hop
-hop-lt i p h l = with-lt i (shrunk (offset i p)) p h (hop-range i p) l
 
 pub offset-hop-same : (i p : ℕ) → i < dimensions → offset i (hop i p) ≡ shrunk (offset i p)
 unfolding hop
@@ -312,10 +396,6 @@ pub hopsLeft-most : (p : ℕ) → hopsLeft p ≤ 128 * dimensions
 unfolding hopsLeft sumBelow
 hopsLeft-most p = let x = distance-most 0 p in let y = distance-most 1 p in omega arith
 
-pub hopsLeft-zero : (p : ℕ) → ((i : ℕ) → i < dimensions → distance i p ≡ 0) → hopsLeft p ≡ 0
-unfolding hopsLeft sumBelow
-hopsLeft-zero p h = sum-same dimensions (λ i. distance i p) (λ i. 0) h
-
 -- The label ---------------------------------------------------------------------------------------------------------------------------
 
 signed-zero : (b : ℕ) → natAbs (signed b) ≡ 0 → b ≡ 0
@@ -326,62 +406,40 @@ signed-zero b e = go (decLt b 128)
     go (no g) = let f : suc (255 - b) ≡ 0 = ap natAbs (sym (signed-large b (omega arith))) ∙ e in omega arith
 
 pub arrived-label : (p : ℕ) → hopsLeft p ≡ 0 → label p ≡ p
-unfolding label distance offset place
-arrived-label p e =
-    let l0 : natAbs (signed (p / 256 % 256)) ≤ hopsLeft p = distance-le-hopsLeft 0 p (omega arith) in
-    let l1 : natAbs (signed (p / 1 % 256)) ≤ hopsLeft p = distance-le-hopsLeft 1 p (omega arith) in
-    let x : p / 256 % 256 ≡ 0 = signed-zero (p / 256 % 256) (omega arith) in
-    let y : p / 1 % 256 ≡ 0 = signed-zero (p / 1 % 256) (omega arith) in
-    let e : p / 256 / 256 ≡ p / 2 ^ 16 = div-div-eq-div-mul p 256 256 in
-    omega arith
+unfolding label byte distance offset
+arrived-label p e = withs-own (λ j. pos 0) dimensions p (omega arith) (λ i h. sym (none i h))
+  where
+    none : (i : ℕ) → i < dimensions → digit fields (offsetField i) p ≡ 0
+    none i h =
+        let l : natAbs (signed (digit fields (offsetField i) p)) ≤ hopsLeft p = distance-le-hopsLeft i p h in
+        signed-zero (digit fields (offsetField i) p) (omega arith)
 
 pub destination-label : (p : ℕ) → destination (label p) ≡ destination p
-unfolding destination label
-destination-label p = omega arith
+unfolding label
+destination-label p = destination-withs (λ j. pos 0) dimensions p (omega arith) (λ i h. zero-range)
 
 pub tag-label : (p : ℕ) → tag (label p) ≡ tag p
-unfolding tag label
-tag-label p = omega arith
+unfolding label
+tag-label p = tag-withs (λ j. pos 0) dimensions p (omega arith) (λ i h. zero-range)
 
 -- The word that fields make -----------------------------------------------------------------------------------------------------------
 
-pub tag-packet : (t dest : ℕ) (offs : ℕ → ℤ) → dest < 2 ^ 16 → ((i : ℕ) → i < dimensions → ByteRange (offs i)) → tag (packetWord t dest offs) ≡ t
-unfolding tag packetWord sumBelow place
+pub tag-packet : (t dest : ℕ) (offs : ℕ → ℤ) → dest < 2 ^ 16 → InRange dimensions offs → tag (packetWord t dest offs) ≡ t
+unfolding packetWord tag product
 tag-packet t dest offs h r =
-    let x = byte-lt (r 0 (omega arith)) in
-    let y = byte-lt (r 1 (omega arith)) in
-    omega arith
+    tag-withs offs dimensions (putDigit fields destinationField dest (t * product fields)) (omega arith) r
+    ∙ above-put fields destinationField dest (t * product fields) fields-positive h
+    ∙ omega arith
 
-pub destination-packet : (t dest : ℕ) (offs : ℕ → ℤ) → dest < 2 ^ 16 → ((i : ℕ) → i < dimensions → ByteRange (offs i))
-    → destination (packetWord t dest offs) ≡ dest
-unfolding destination packetWord sumBelow place
+pub destination-packet : (t dest : ℕ) (offs : ℕ → ℤ) → dest < 2 ^ 16 → InRange dimensions offs → destination (packetWord t dest offs) ≡ dest
+unfolding packetWord destination
 destination-packet t dest offs h r =
-    let x = byte-lt (r 0 (omega arith)) in
-    let y = byte-lt (r 1 (omega arith)) in
-    omega arith
+    destination-withs offs dimensions (putDigit fields destinationField dest (t * product fields)) (omega arith) r
+    ∙ digit-put-same fields destinationField dest (t * product fields) fields-positive (omega arith) h
 
-byte-packet : (i t dest : ℕ) (offs : ℕ → ℤ) → i < dimensions → dest < 2 ^ 16 → ((i : ℕ) → i < dimensions → ByteRange (offs i))
-    → packetWord t dest offs / place i % 256 ≡ byte (offs i)
-unfolding packetWord sumBelow place
-byte-packet zero t dest offs k h r =
-    let x = byte-lt (r 0 (omega arith)) in
-    let y = byte-lt (r 1 (omega arith)) in
-    omega arith
-byte-packet (suc zero) t dest offs k h r = let y = byte-lt (r 1 (omega arith)) in omega arith
-byte-packet (suc (suc i)) t dest offs k h r = no-dimension i k
-
-pub offset-packet : (i t dest : ℕ) (offs : ℕ → ℤ) → i < dimensions → dest < 2 ^ 16 → ((i : ℕ) → i < dimensions → ByteRange (offs i))
-    → offset i (packetWord t dest offs) ≡ offs i
-unfolding offset
-offset-packet i t dest offs k h r = ap signed (byte-packet i t dest offs k h r) ∙ byte-signed (offs i) (r i k)
-
-pub packet-lt : (t dest : ℕ) (offs : ℕ → ℤ) → t < 2 ^ 32 → dest < 2 ^ 16 → ((i : ℕ) → i < dimensions → ByteRange (offs i))
-    → packetWord t dest offs < 2 ^ 64
-unfolding packetWord sumBelow place
-packet-lt t dest offs l h r =
-    let x = byte-lt (r 0 (omega arith)) in
-    let y = byte-lt (r 1 (omega arith)) in
-    omega arith
+pub offset-packet : (i t dest : ℕ) (offs : ℕ → ℤ) → i < dimensions → dest < 2 ^ 16 → InRange dimensions offs → offset i (packetWord t dest offs) ≡ offs i
+unfolding packetWord
+offset-packet i t dest offs k h r = offset-withs offs dimensions i (putDigit fields destinationField dest (t * product fields)) (omega arith) k r
 
 -- The shorter way round ---------------------------------------------------------------------------------------------------------------
 

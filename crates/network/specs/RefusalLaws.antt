@@ -1,23 +1,23 @@
 -- Refusals as facts: a chain of tests gives 0 exactly when none of them applies. Order: one test and two chains; words that are a network;
 -- a permitted move. Assumes nothing.
-use mathlib.Core.Path.{_≡_, refl, ap, sym, _∙_}
-use mathlib.Core.Logic.{_⊎_, inl, inr, _≢_}
-use mathlib.Core.Bool.{Bool, true, false, cond, not, _&&_}
+use mathlib.Core.Path.{_≡_, refl, ap, _∙_}
+use mathlib.Core.Logic.{_≢_}
+use mathlib.Core.Bool.{Bool, true, false, cond, not}
 use mathlib.Core.List.{List}
-use Prim.Native.Nat.{ℕ, zero, suc, _+_, _-_, _*_, _<_, _≤_}
+use Prim.Native.Nat.{ℕ, suc, _-_, _<_, _≤_}
 use native.Mathlib.Nat.{le-trans, le-add-right}
-use native.Mathlib.Decide.{ℕ-discrete, decLt, decLe}
+use native.Mathlib.Decide.{ℕ-discrete}
 use native.Mathlib.Omega.{arith}
-use borrow.Author.Tests.{eq-eqb, ne-eqb, le-leb, lt-leb, lt-ltb, le-ltb, ltb-false, leb-false, eqb-false}
-use lib.Dec.{T, leb, ltb, eqb, eqb→eq, eqb-refl}
+use borrow.Author.Tests.{eq-eqb, ne-eqb, lt-leb, le-ltb, ltb-false, leb-false, eqb-false}
+use lib.Dec.{T, leb, ltb, eqb}
 use lib.ListN.{length}
-use Rattle.base.specs.Tests.{elem, T-true, true-T, T-false, passed?}
-use Rattle.network.specs.Sizes.{Shape, sizesInRange, nodes, queues, isEscape}
+use Rattle.base.specs.Tests.{elem, T-true, true-T}
+use Rattle.network.specs.Sizes.{Shape, sizesInRange, nodes, queues}
 use Rattle.network.specs.Layout.{shape, headerWords, need, held}
 use Rattle.network.specs.Check.{isNetwork}
 use Rattle.network.specs.CheckLaws.{Network, network-of, network-by}
 use Rattle.network.specs.Routes.{routes, deliver, freeSlots, entersRing, slotsNeeded}
-use Rattle.network.specs.Refusals.{refuse, elseBy, networkRefusal, head, flowRules, moveRules, moveRefusal, shortStore, wrongSize, noNetwork, noSuchNode, noSuchQueue, noSuchOutput, queueEmpty, noRoute, noSlot, noBubble}
+use Rattle.network.specs.Refusals.{refuse, elseBy, networkRefusal, head, flowRules, moveRules, shortStore, wrongSize, noNetwork, noSuchNode, noSuchQueue, noSuchOutput, queueEmpty, noRoute, noSlot, noBubble}
 
 -- a test that would refuse by k + 1 did not apply, and the later ones say 0
 pub not-refused : (b : Bool) (k later : ℕ) → refuse b (suc k) later ≡ 0 → (b ≡ false) × (later ≡ 0)

@@ -1,8 +1,8 @@
 -- R160 to R187: the numbers, and for each call the first of its tests that applies, in its order; 0 if none does.
--- Order: the numbers; the tests that all calls but Make share; Make; Offer; Move; Credit; Look. Assumes nothing.
-use mathlib.Core.Bool.{Bool, true, false, not, cond, _&&_, _||_}
-use mathlib.Core.List.{List, [], _∷_}
-use Prim.Native.Nat.{ℕ, _^_, _-_}
+-- Order: the numbers; the tests by what each finds; the tests that all calls but Make share; Make; Offer; Move; Credit; Look. Assumes nothing.
+use mathlib.Core.Bool.{Bool, true, false, not, cond, _||_}
+use mathlib.Core.List.{List}
+use Prim.Native.Nat.{ℕ}
 use lib.Dec.{leb, ltb, eqb}
 use lib.ListN.{length, getD}
 use Rattle.base.specs.Tests.{elem}
@@ -60,6 +60,48 @@ refuse false number later = later
 abbrev pub elseBy : ℕ → ℕ → ℕ
 elseBy earlier later = cond (eqb earlier 0) later earlier
 
+-- the head of a queue, the oldest packet
+unfoldable pub head : List ℕ → ℕ
+head packets = getD packets 0 0
+
+-- What a test finds, by the clause of its number
+
+-- R164
+abbrev pub noNode : Shape → ℕ → Bool
+noNode S n = leb (nodes S) n
+
+-- R165
+abbrev pub noQueue : ℕ → Bool
+noQueue q = leb queues q
+
+-- R166
+abbrev pub noOutput : ℕ → Bool
+noOutput o = leb queues o
+
+-- R167
+abbrev pub injectionIsFull : Shape → List ℕ → ℕ → Bool
+injectionIsFull S w n = eqb (length (held S w n injectionQueue)) (capacity S injectionQueue)
+
+-- R168
+abbrev pub countIsSpent : List ℕ → Bool
+countIsSpent w = eqb (accepted w) mostAccepted
+
+-- R169
+abbrev pub isEmpty : Shape → List ℕ → ℕ → ℕ → Bool
+isEmpty S w n q = eqb (length (held S w n q)) 0
+
+-- R170
+abbrev pub noRouteFor : Shape → List ℕ → ℕ → ℕ → ℕ → Bool
+noRouteFor S w n q o = not (elem o (routes q (head (held S w n q))))
+
+-- R171
+abbrev pub noSlotFor : Shape → List ℕ → ℕ → ℕ → Bool
+noSlotFor S w n o = eqb (freeSlots S w n o) 0
+
+-- R172
+abbrev pub noBubbleFor : Shape → List ℕ → ℕ → ℕ → ℕ → Bool
+noBubbleFor S w n q o = ltb (freeSlots S w n o) (slotsNeeded q o)
+
 -- R181: 1 for the header, 2, 1 for the need, 3
 unfoldable pub networkRefusal : List ℕ → ℕ
 networkRefusal w =
@@ -75,31 +117,27 @@ makeRefusal S w = refuse (not (sizesInRange S)) wrongSize (refuse (ltb (length w
 -- R183: 4, 8, 7
 unfoldable pub offerRules : Shape → List ℕ → ℕ → ℕ → ℕ
 offerRules S w n destination =
-    refuse (leb (nodes S) n || leb (nodes S) destination) noSuchNode
-    (refuse (eqb (accepted w) mostAccepted) countSpent
-    (refuse (eqb (length (held S w n injectionQueue)) (capacity S injectionQueue)) injectionFull 0))
+    refuse (noNode S n || noNode S destination) noSuchNode
+    (refuse (countIsSpent w) countSpent
+    (refuse (injectionIsFull S w n) injectionFull 0))
 
 unfoldable pub offerRefusal : List ℕ → ℕ → ℕ → ℕ
 offerRefusal w n destination = elseBy (networkRefusal w) (offerRules (shape w) w n destination)
-
--- the head of a queue, the oldest packet
-unfoldable pub head : List ℕ → ℕ
-head packets = getD packets 0 0
 
 -- R184: 4, 5, 6, 9, 10, 11, 12; a delivery has no target and needs no slot (R153)
 unfoldable pub flowRules : Shape → List ℕ → ℕ → ℕ → ℕ → ℕ
 flowRules S w n q o =
     cond (eqb o deliver) 0
-    (refuse (eqb (freeSlots S w n o) 0) noSlot
-    (refuse (ltb (freeSlots S w n o) (slotsNeeded q o)) noBubble 0))
+    (refuse (noSlotFor S w n o) noSlot
+    (refuse (noBubbleFor S w n q o) noBubble 0))
 
 unfoldable pub moveRules : Shape → List ℕ → ℕ → ℕ → ℕ → ℕ
 moveRules S w n q o =
-    refuse (leb (nodes S) n) noSuchNode
-    (refuse (leb queues q) noSuchQueue
-    (refuse (leb queues o) noSuchOutput
-    (refuse (eqb (length (held S w n q)) 0) queueEmpty
-    (refuse (not (elem o (routes q (head (held S w n q))))) noRoute
+    refuse (noNode S n) noSuchNode
+    (refuse (noQueue q) noSuchQueue
+    (refuse (noOutput o) noSuchOutput
+    (refuse (isEmpty S w n q) queueEmpty
+    (refuse (noRouteFor S w n q o) noRoute
     (flowRules S w n q o)))))
 
 unfoldable pub moveRefusal : List ℕ → ℕ → ℕ → ℕ → ℕ
@@ -107,14 +145,18 @@ moveRefusal w n q o = elseBy (networkRefusal w) (moveRules (shape w) w n q o)
 
 -- R185: 4, 6; here output 0 is none (R166)
 unfoldable pub creditRules : Shape → ℕ → ℕ → ℕ
-creditRules S n o = refuse (leb (nodes S) n) noSuchNode (refuse (eqb o deliver || leb queues o) noSuchOutput 0)
+creditRules S n o =
+    refuse (noNode S n) noSuchNode
+    (refuse (eqb o deliver || noOutput o) noSuchOutput 0)
 
 unfoldable pub creditRefusal : List ℕ → ℕ → ℕ → ℕ
 creditRefusal w n o = elseBy (networkRefusal w) (creditRules (shape w) n o)
 
 -- R186: 4, 5
 unfoldable pub lookRules : Shape → ℕ → ℕ → ℕ
-lookRules S n q = refuse (leb (nodes S) n) noSuchNode (refuse (leb queues q) noSuchQueue 0)
+lookRules S n q =
+    refuse (noNode S n) noSuchNode
+    (refuse (noQueue q) noSuchQueue 0)
 
 unfoldable pub lookRefusal : List ℕ → ℕ → ℕ → ℕ
 lookRefusal w n q = elseBy (networkRefusal w) (lookRules (shape w) n q)

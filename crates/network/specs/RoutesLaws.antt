@@ -1,17 +1,16 @@
 -- The routes of a head as facts: which outputs are routes, and that a head always has an escape route or is delivered.
 -- Order: headings; the routes. Assumes nothing.
-use mathlib.Core.Path.{_≡_, refl, ap, ap₂, sym, _∙_}
+use mathlib.Core.Path.{_≡_, refl, ap, _∙_}
 use mathlib.Core.Logic.{_⊎_, inl, inr, _≢_}
-use mathlib.Core.Bool.{Bool, true, false, cond, not, _&&_, _||_}
+use mathlib.Core.Bool.{Bool, true, false, cond, _||_}
 use mathlib.Core.List.{List, [], _∷_, _++_, map}
-use Prim.Native.Nat.{ℕ, zero, suc, _+_, _-_, _/_, _%_, _<_, _≤_, zero-le}
-use native.Mathlib.Nat.{not-suc-le-zero}
+use Prim.Native.Nat.{ℕ, zero, suc, _+_, _-_, _<_, _≤_, zero-le}
 use native.Mathlib.Decide.{ℕ-discrete}
 use native.Mathlib.Omega.{arith}
 use borrow.Author.Tests.{eq-eqb, ne-eqb}
 use lib.Dec.{T, eqb, eqb→eq, eqb-refl}
-use lib.ListN.{length, take}
-use Rattle.base.specs.Tests.{elem, or-e, or-l, or-r, elem-append-l, elem-append-r}
+use lib.ListN.{take}
+use Rattle.base.specs.Tests.{elem, or-e, or-l, or-r, elem-append-r}
 use Rattle.network.specs.Sizes.{dimensions, dimensionOf, directionOf, adaptiveQueue, escapeQueue}
 use Rattle.network.specs.Packet.{distance, heading, hopsLeft}
 use Rattle.base.specs.Sums.{sumBelow, sum-zero}

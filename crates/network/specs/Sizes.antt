@@ -1,12 +1,13 @@
--- R1, R20 to R25 and R31 to R34: what a network is made of.
+-- R1, R20 to R25 and R31 to R34: what a network is made of. The constants of src/lib.rt are these numbers for the code.
 -- Order: dimensions and directions; the sizes of a network and their ranges; the nine queues and their capacities. Assumes nothing.
 use mathlib.Core.Bool.{Bool, cond, _&&_}
-use mathlib.Core.List.{List}
-use Prim.Native.Nat.{ℕ, _+_, _*_, _-_, _/_, _%_}
+use mathlib.Core.List.{List, [], _∷_}
+use Prim.Native.Nat.{ℕ, _+_, _*_, _-_, _/_, _%_, _^_}
 use lib.Dec.{leb, ltb, eqb}
 use lib.ListN.{getD}
 use Rattle.base.specs.Tests.{allOf}
 use Rattle.base.specs.Digits.{product}
+use Rattle.network.specs.declared.Sizes.{Sizes}
 
 -- R1: a torus in two dimensions; 0 is x, along which columns are counted, and 1 is y, along which rows are
 abbrev pub dimensions : ℕ
@@ -35,19 +36,43 @@ pub record Shape : Type 0 where
   pub adaptive : ℕ
   pub injection : ℕ
 
+-- the code's sizes as the definitions read them
+unfoldable pub shapeOf : Sizes → Shape
+shapeOf s = record { sizes = s .x ∷ s .y ∷ []; escape = s .escape; adaptive = s .adaptive; injection = s .injection }
+
+-- the sizes of which these are the numbers, in the order of the header
+abbrev pub sized : ℕ → ℕ → ℕ → ℕ → ℕ → Sizes
+sized x y e a j = record { x = x; y = y; escape = e; adaptive = a; injection = j }
+
 unfoldable pub size : Shape → ℕ → ℕ
 size S i = getD (S .sizes) i 0
 
 unfoldable pub within : ℕ → ℕ → ℕ → Bool
 within least most n = leb least n && leb n most
 
+abbrev pub largestRing : ℕ
+largestRing = 16
+
+abbrev pub fewestEscape : ℕ
+fewestEscape = 2
+
+abbrev pub largestCapacity : ℕ
+largestCapacity = 8
+
 -- R21 to R24: the range of each of the five
 unfoldable pub sizesInRange : Shape → Bool
-sizesInRange S = allOf (within 1 16) (S .sizes) && (within 2 8 (S .escape) && (within 1 8 (S .adaptive) && within 1 8 (S .injection)))
+sizesInRange S =
+    allOf (within 1 largestRing) (S .sizes)
+    && (within fewestEscape largestCapacity (S .escape)
+    && (within 1 largestCapacity (S .adaptive) && within 1 largestCapacity (S .injection)))
 
 -- R30: nodes are numbered 0 to X × Y − 1
 unfoldable pub nodes : Shape → ℕ
 nodes S = product (S .sizes)
+
+-- no network has more
+abbrev pub mostNodes : ℕ
+mostNodes = largestRing ^ dimensions
 
 -- R31 to R34: nine queues a node; the injection queue is 0, then an adaptive queue for each direction, then an escape queue for each
 abbrev pub queues : ℕ

@@ -1,6 +1,6 @@
 -- R30, R35, R36 and R75: coordinates, neighbours, and where a packet's offsets lead. Assumes nothing.
 use mathlib.Core.Bool.{cond}
-use Prim.Native.Nat.{ℕ, zero, suc, _+_, _*_, _-_}
+use Prim.Native.Nat.{ℕ, zero, suc, _*_, _-_}
 use Rattle.base.specs.Digits.{digit, turn}
 use Rattle.network.specs.Sizes.{Shape, size, dimensionOf, isPlus, directions}
 use Rattle.network.specs.Packet.{hops}

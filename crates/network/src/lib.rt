@@ -1,5 +1,90 @@
-// The answers of the calls that are more than a refusal's number. specs/Calls.antt says when a call gives which, and has
-// the number and values of each case (R321). The calls themselves are in the crate `calls`.
+// What all crates share: the sizes of a network, every number that a rule of docs/RULES.md fixes (R5 in a comment is that clause), and
+// the answers of the calls. specs/ has the definitions: Sizes.antt, Layout.antt, Check.antt and Refusals.antt those of the numbers, under
+// the same names, and Calls.antt when a call gives which answer.
+
+// R20, R25: columns and rows, and the slots of a queue of each kind: the sizes of a network, in the order of its first words.
+pub struct Sizes {
+    pub x: u64,
+    pub y: u64,
+    pub escape: u64,
+    pub adaptive: u64,
+    pub injection: u64,
+}
+
+// R1, R31 to R34: x and y; x+, x-, y+, y-; and the queues of a node: the injection queue, and an adaptive and an escape queue for each direction.
+pub const DIMENSIONS: u64 = 2;
+
+pub const DIRECTIONS: u64 = 4;
+
+pub const QUEUES: u64 = 9;
+
+pub const FIRST_ESCAPE: u64 = 5;
+
+// R21 to R24: the ranges of the sizes. Every ring and every queue has at least one node or slot, an escape queue two.
+pub const LARGEST_RING: u64 = 16;
+
+pub const FEWEST_ESCAPE: u64 = 2;
+
+pub const LARGEST_CAPACITY: u64 = 8;
+
+// The nodes of the largest network, two rings of the largest size.
+pub const MOST_NODES: u64 = 256;
+
+// R42: the words of the header, and where the counts of packets accepted, packets delivered and moves made stand among them.
+pub const HEADER_WORDS: usize = 8;
+
+pub const ACCEPTED_AT: usize = 5;
+
+pub const DELIVERED_AT: usize = 6;
+
+pub const MOVES_AT: usize = 7;
+
+// R82: the largest number of packets accepted, 2^32 - 1.
+pub const MOST_ACCEPTED: u64 = 4294967295;
+
+// R85: the most work that a packet starts with, 8 hops in each dimension and its delivery.
+pub const MOST_WORK: u64 = 17;
+
+// The numbers of the refusals.
+
+// R161: fewer words than the header or the sizes need.
+pub const SHORT_STORE: u64 = 1;
+
+// R162: a size out of its range.
+pub const WRONG_SIZE: u64 = 2;
+
+// R163: the check fails otherwise.
+pub const NO_NETWORK: u64 = 3;
+
+// R164: no node, or as a destination none.
+pub const NO_SUCH_NODE: u64 = 4;
+
+// R165: no queue.
+pub const NO_SUCH_QUEUE: u64 = 5;
+
+// R166: no output, or for Credit output 0.
+pub const NO_SUCH_OUTPUT: u64 = 6;
+
+// R167: the injection queue holds its capacity.
+pub const INJECTION_FULL: u64 = 7;
+
+// R168: accepted is the most that it may be.
+pub const COUNT_SPENT: u64 = 8;
+
+// R169: the queue to move from is empty.
+pub const QUEUE_EMPTY: u64 = 9;
+
+// R170: no route of the head goes by the output.
+pub const NO_ROUTE: u64 = 10;
+
+// R171: the target has no free slot.
+pub const NO_SLOT: u64 = 11;
+
+// R172: the target has one free slot and two are needed.
+pub const NO_BUBBLE: u64 = 12;
+
+// R173: no command of the bench program.
+pub const BAD_LINE: u64 = 13;
 
 // Move: refused by a rule, passed on to a neighbour, or delivered, with the packet word that it hands out.
 pub enum Moved {

@@ -1,12 +1,7 @@
 -- The code's sizes as the definitions read them, and what the functions on them ask. Assumes nothing.
 use mathlib.Core.List.{List, [], _∷_}
 use Prim.Native.Nat.{ℕ, zero, suc, _+_, _*_, _<_, _≤_}
-use Rattle.network.specs.Sizes.{Shape}
-use Rattle.network.specs.Calls.{shapeOf}
-use Rattle.packet.specs.declared.torus.Sizes.{Sizes}
-
-abbrev pub shapeOfSizes : Sizes → Shape
-shapeOfSizes s = shapeOf (s .x) (s .y) (s .escape) (s .adaptive) (s .injection)
+use Rattle.network.specs.declared.Sizes.{Sizes}
 
 -- R21
 pub record RingsFit (s : Sizes) : Type 0 where

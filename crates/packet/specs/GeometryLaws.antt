@@ -11,80 +11,82 @@ use lib.Dec.{T}
 use lib.ListN.{length}
 use borrow.Author.Tests.{eq-eqb, ne-eqb}
 use Rattle.base.specs.Digits.{product, digit, putDigit, turn, Positive}
-use Rattle.network.specs.Sizes.{Shape, size, nodes, dimensions, directions, dimensionOf, sizesInRange}
+use Rattle.network.specs.Sizes.{Shape, shapeOf, size, nodes, dimensions, directions, dimensionOf, sizesInRange}
 use Rattle.network.specs.PacketLaws.{ByteRange, dimension-lt}
 use Rattle.network.specs.Torus.{coordinate, stride, along, neighbour}
 use Rattle.network.specs.TorusLaws.{Torus, inRange-torus, inRange-size, size-pos, coordinate-lt, neighbour-lt}
-use Rattle.network.specs.Calls.{shapeOf}
 use Rattle.network.specs.OfferLaws.{offeredWay, offered-range}
-use Rattle.packet.specs.declared.torus.Sizes.{Sizes}
-use Rattle.packet.specs.Geometry.{shapeOfSizes, RingsFit, nodeAt, OnTorus, weight}
+use Rattle.network.specs.declared.Sizes.{Sizes}
+use Rattle.packet.specs.Geometry.{RingsFit, nodeAt, OnTorus, weight}
 
 -- They make a torus -------------------------------------------------------------------------------------------------------------------
 
-pub rings-torus : (s : Sizes) → RingsFit s → Torus (shapeOfSizes s)
+pub rings-torus : (s : Sizes) → RingsFit s → Torus (shapeOf s)
 unfolding shapeOf Positive
 rings-torus s r = record { positive = (r .x-least, (r .y-least, tt)); dims = refl }
 
 -- sizes in range are such sizes
-pub inRange-rings : (s : Sizes) → T (sizesInRange (shapeOfSizes s)) → RingsFit s
+pub inRange-rings : (s : Sizes) → T (sizesInRange (shapeOf s)) → RingsFit s
 unfolding shapeOf size
 inRange-rings s t =
-    let torus : Torus (shapeOfSizes s) = inRange-torus (shapeOfSizes s) t refl in
+    let torus : Torus (shapeOf s) = inRange-torus (shapeOf s) t refl in
     record {
-      x-least = size-pos (shapeOfSizes s) 0 torus (omega arith);
-      x-most = inRange-size (shapeOfSizes s) 0 t;
-      y-least = size-pos (shapeOfSizes s) 1 torus (omega arith);
-      y-most = inRange-size (shapeOfSizes s) 1 t;
+      x-least = size-pos (shapeOf s) 0 torus (omega arith);
+      x-most = inRange-size (shapeOf s) 0 t;
+      y-least = size-pos (shapeOf s) 1 torus (omega arith);
+      y-most = inRange-size (shapeOf s) 1 t;
     }
 
-pub nodes-is : (s : Sizes) → s .x * s .y ≡ nodes (shapeOfSizes s)
+pub nodes-is : (s : Sizes) → s .x * s .y ≡ nodes (shapeOf s)
 unfolding nodes shapeOf product
 nodes-is s = ap (λ (y : ℕ). s .x * y) (sym (mul-one (s .y)))
 
-pub rings-nodes : (s : Sizes) → RingsFit s → nodes (shapeOfSizes s) ≤ 256
+pub rings-nodes : (s : Sizes) → RingsFit s → nodes (shapeOf s) ≤ 256
 rings-nodes s r = let e = nodes-is s in let l : s .x * s .y ≤ 16 * 16 = mul-le-mul (r .x-most) (r .y-most) in omega arith
+
+pub nodes-some : (s : Sizes) → RingsFit s → 0 < nodes (shapeOf s)
+nodes-some s r = let e = nodes-is s in let l : 1 * 1 ≤ s .x * s .y = mul-le-mul (r .x-least) (r .y-least) in omega arith
 
 -- The two dimensions one by one -------------------------------------------------------------------------------------------------------
 
-pub size-x : (s : Sizes) (i : ℕ) → i ≡ 0 → s .x ≡ size (shapeOfSizes s) i
+pub size-x : (s : Sizes) (i : ℕ) → i ≡ 0 → s .x ≡ size (shapeOf s) i
 unfolding size shapeOf
 size-x s i e = rw e refl
 
-pub size-y : (s : Sizes) (i : ℕ) → i ≡ 1 → s .y ≡ size (shapeOfSizes s) i
+pub size-y : (s : Sizes) (i : ℕ) → i ≡ 1 → s .y ≡ size (shapeOf s) i
 unfolding size shapeOf
 size-y s i e = rw e refl
 
-pub size-most : (s : Sizes) (i : ℕ) → RingsFit s → i < dimensions → size (shapeOfSizes s) i ≤ 16
+pub size-most : (s : Sizes) (i : ℕ) → RingsFit s → i < dimensions → size (shapeOf s) i ≤ 16
 unfolding size shapeOf
 size-most s zero r h = r .x-most
 size-most s (suc zero) r h = r .y-most
 size-most s (suc (suc i)) r h = absurd (not-suc-le-zero (le-of-suc-le-suc (le-of-suc-le-suc h)))
 
-pub weight-x : (s : Sizes) (i : ℕ) → i ≡ 0 → 1 ≡ weight (shapeOfSizes s .sizes) i
+pub weight-x : (s : Sizes) (i : ℕ) → i ≡ 0 → 1 ≡ weight (shapeOf s .sizes) i
 unfolding weight shapeOf
 weight-x s i e = rw e refl
 
-pub weight-y : (s : Sizes) (i : ℕ) → i ≡ 1 → s .x ≡ weight (shapeOfSizes s .sizes) i
+pub weight-y : (s : Sizes) (i : ℕ) → i ≡ 1 → s .x ≡ weight (shapeOf s .sizes) i
 unfolding weight shapeOf
 weight-y s i e = rw e (sym (mul-one (s .x)))
 
-pub coordinate-x : (s : Sizes) (i n : ℕ) → i ≡ 0 → n % s .x ≡ coordinate (shapeOfSizes s) i n
+pub coordinate-x : (s : Sizes) (i n : ℕ) → i ≡ 0 → n % s .x ≡ coordinate (shapeOf s) i n
 unfolding coordinate digit shapeOf
 coordinate-x s i n e = rw e refl
 
-pub coordinate-y : (s : Sizes) (i n : ℕ) → RingsFit s → n < nodes (shapeOfSizes s) → i ≡ 1 → n / s .x ≡ coordinate (shapeOfSizes s) i n
+pub coordinate-y : (s : Sizes) (i n : ℕ) → RingsFit s → n < nodes (shapeOf s) → i ≡ 1 → n / s .x ≡ coordinate (shapeOf s) i n
 unfolding coordinate digit shapeOf
 coordinate-y s i n r h e = rw e (sym (mod-eq-of-lt (row s n r h)))
   where
-    row : (s : Sizes) (n : ℕ) → RingsFit s → n < nodes (shapeOfSizes s) → n / s .x < s .y
+    row : (s : Sizes) (n : ℕ) → RingsFit s → n < nodes (shapeOf s) → n / s .x < s .y
     row s n r h = div-lt-iff-lt-mul (r .x-least) .1 (let e = nodes-is s in let f = mul-comm (s .x) (s .y) in omega arith)
 
 -- a coordinate c is on its ring of k nodes
-pub on-ring : {s : Sizes} {c k : ℕ} (i n : ℕ) → RingsFit s → i < dimensions → c ≡ coordinate (shapeOfSizes s) i n → k ≡ size (shapeOfSizes s) i
+pub on-ring : {s : Sizes} {c k : ℕ} (i n : ℕ) → RingsFit s → i < dimensions → c ≡ coordinate (shapeOf s) i n → k ≡ size (shapeOf s) i
     → (c < k) × (k ≤ 16)
 on-ring {s} i n r h ec ek =
-    let l = coordinate-lt (shapeOfSizes s) i n (rings-torus s r) h in
+    let l = coordinate-lt (shapeOf s) i n (rings-torus s r) h in
     let m = size-most s i r h in
     (omega arith, omega arith)
 
@@ -198,14 +200,14 @@ module _ {S : Shape} {d n c k w : ℕ} (r : Ring S d n c k w) where
 
 -- A node by its coordinates -----------------------------------------------------------------------------------------------------------
 
-pub node-is : {s : Sizes} {x y : ℕ} (n : ℕ) → RingsFit s → n < nodes (shapeOfSizes s) → x ≡ coordinate (shapeOfSizes s) 0 n
-    → y ≡ coordinate (shapeOfSizes s) 1 n → y * s .x + x ≡ n
+pub node-is : {s : Sizes} {x y : ℕ} (n : ℕ) → RingsFit s → n < nodes (shapeOf s) → x ≡ coordinate (shapeOf s) 0 n
+    → y ≡ coordinate (shapeOf s) 1 n → y * s .x + x ≡ n
 node-is {s} n r h ex ey =
     ap₂ (λ (b a : ℕ). b * s .x + a) (ey ∙ sym (coordinate-y s 1 n r h refl)) (ex ∙ sym (coordinate-x s 0 n refl))
     ∙ div-add-mod' n (s .x)
 
 module _ (s : Sizes) (x y : ℕ) (on : OnTorus s x y) where
-  pub node-lt : nodeAt s x y < nodes (shapeOfSizes s)
+  pub node-lt : nodeAt s x y < nodes (shapeOf s)
   node-lt =
       let c = on .column in
       let m : suc y * s .x ≤ s .y * s .x = mul-le-mul-right (s .x) (on .row) in
@@ -214,10 +216,10 @@ module _ (s : Sizes) (x y : ℕ) (on : OnTorus s x y) where
       let f = mul-comm (s .x) (s .y) in
       omega arith
 
-  pub column-is : x ≡ coordinate (shapeOfSizes s) 0 (nodeAt s x y)
+  pub column-is : x ≡ coordinate (shapeOf s) 0 (nodeAt s x y)
   column-is = sym (mod-eq-of-lt (on .column)) ∙ sym (mul-add-mod-self-right y (s .x) x) ∙ coordinate-x s 0 (nodeAt s x y) refl
 
-  pub row-is : y ≡ coordinate (shapeOfSizes s) 1 (nodeAt s x y)
+  pub row-is : y ≡ coordinate (shapeOf s) 1 (nodeAt s x y)
   row-is =
       sym (add-zero y)
       ∙ ap (λ (q : ℕ). y + q) (sym (div-eq-of-lt (on .column)))
@@ -225,7 +227,7 @@ module _ (s : Sizes) (x y : ℕ) (on : OnTorus s x y) where
       ∙ coordinate-y s 1 (nodeAt s x y) (on .rings) node-lt refl
 
 -- a node that exists stands in one of the rows
-pub stands : (s : Sizes) (x y n : ℕ) → RingsFit s → nodeAt s x y ≡ n → x < s .x → n < nodes (shapeOfSizes s) → OnTorus s x y
+pub stands : (s : Sizes) (x y n : ℕ) → RingsFit s → nodeAt s x y ≡ n → x < s .x → n < nodes (shapeOf s) → OnTorus s x y
 stands s x y n r g c h =
     let e = nodes-is s in
     let f = mul-comm (s .x) (s .y) in
@@ -240,5 +242,5 @@ moved-is c f b k h l =
     sym (add-mul-mod-self-right (c + f + k - b) b k) ∙ ap (λ (x : ℕ). x % k) t ∙ add-mod-right (c + (f * 1 + b * (k - 1))) k
 
 -- the way of an offer is of a byte's range
-pub rings-way : {s : Sizes} (n destination i : ℕ) → RingsFit s → i < dimensions → ByteRange (offeredWay (shapeOfSizes s) n destination i)
-rings-way {s} n destination i r h = offered-range (shapeOfSizes s) n destination i (rings-torus s r) (λ j k. size-most s j r k) h
+pub rings-way : {s : Sizes} (n destination i : ℕ) → RingsFit s → i < dimensions → ByteRange (offeredWay (shapeOf s) n destination i)
+rings-way {s} n destination i r h = offered-range (shapeOf s) n destination i (rings-torus s r) (λ j k. size-most s j r k) h

@@ -5,10 +5,10 @@ pub mod near;
 pub mod torus;
 
 ghost use mathlib.Core.Path.{_≡_};
-ghost use Prim.Native.Nat.{_<_, _≤_, _^_};
+ghost use Prim.Native.Nat.{_<_, _≤_};
 ghost use lib.IntN.{natAbs};
-ghost use Rattle.network.specs.Sizes.{dimensions, directions};
-ghost use Rattle.network.specs.Packet.{signed, byte, offset, withOffset, distance, forward, backward, hops, heading, shrunk, hop, hopsLeft, work, destination, label, tag, shorterWay};
+ghost use Rattle.network.specs.Sizes.{dimensions, largestRing};
+ghost use Rattle.network.specs.Packet.{signed, byte, offset, withOffset, distance, heading, shrunk, hop, hopsLeft, work, destination, shorterWay};
 ghost use Rattle.network.specs.PacketLaws.{ByteRange};
 
 // Signed bytes --------------------------------------------------------------------------------------------------------------
@@ -37,21 +37,6 @@ pub fn byte(z: i64) -> u64
     if z < 0 { 256 - nat_abs(z) } else { nat_abs(z) }
 }
 
-// The hops forward that an offset stands for, and those back.
-pub fn forward(z: i64) -> u64
-    requires { ⌜ ByteRange z ⌝ }
-    ensures { λ r. ⌜ r ≡ forward z ⌝ }
-{
-    if z < 0 { 0 } else { nat_abs(z) }
-}
-
-pub fn backward(z: i64) -> u64
-    requires { ⌜ ByteRange z ⌝ }
-    ensures { λ r. ⌜ r ≡ backward z ⌝ }
-{
-    if z < 0 { nat_abs(z) } else { 0 }
-}
-
 // One hop towards zero, whatever the sign: an offset that leads half way round keeps the way that it was given.
 pub fn shrunk(z: i64) -> i64
     requires { ⌜ ByteRange z ⌝ }
@@ -68,22 +53,10 @@ pub fn shrunk(z: i64) -> i64
 
 // The fields of a word ------------------------------------------------------------------------------------------------------
 
-pub fn tag(p: u64) -> u64
-    ensures { λ r. ⌜ r ≡ tag p ⌝ }
-{
-    p / 4294967296
-}
-
 pub fn destination(p: u64) -> u64
     ensures { λ r. ⌜ r ≡ destination p ⌝ }
 {
     p / 65536 % 65536
-}
-
-pub fn label(p: u64) -> u64
-    ensures { λ r. ⌜ r ≡ label p ⌝ }
-{
-    p / 65536 * 65536
 }
 
 // The byte of dimension i is divided out by a literal in each arm, so that no division by a variable is left.
@@ -116,15 +89,6 @@ pub fn distance(i: u64, p: u64) -> u64
     ensures { λ r. ⌜ r ≡ distance i p ⌝ }
 {
     nat_abs(offset(i, p))
-}
-
-// Those in direction d.
-pub fn hops(d: u64, p: u64) -> u64
-    requires { ⌜ d < directions ⌝ }
-    ensures { λ r. ⌜ r ≡ hops d p ⌝ }
-{
-    let z = offset(d / 2, p);
-    if d % 2 == 0 { forward(z) } else { backward(z) }
 }
 
 // The direction in which a packet goes on along dimension i.
@@ -161,7 +125,7 @@ pub fn hop(i: u64, p: u64) -> u64
 
 // From one coordinate to another; where both ways are equal, the positive one.
 pub fn shorter_way(size: u64, from: u64, to: u64) -> i64
-    requires { ⌜ (from < size) × (to < size) × (size ≤ 16) ⌝ }
+    requires { ⌜ (from < size) × (to < size) × (size ≤ largestRing) ⌝ }
     ensures { λ r. ⌜ r ≡ shorterWay size from to ⌝ }
 {
     let ahead = (to + (size - from)) % size;

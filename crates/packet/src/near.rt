@@ -1,32 +1,36 @@
-// A table of neighbours, for a search that asks for them again and again: byte 4 * n + d of 1024 lent bytes is the neighbour of node n in
+// A table of neighbours, for a search that asks for them again and again: byte DIRECTIONS * n + d of as many lent bytes as there can be is the neighbour of node n in
 // direction d. It is filled without a division.
 use super::torus::Place;
-use super::torus::Sizes;
 use super::torus::next_place;
 use super::torus::nodes;
 use super::torus::step_from;
+use network::DIRECTIONS;
+use network::Sizes;
 ghost use mathlib.Core.Path.{_≡_};
 ghost use Prim.Native.Nat.{_+_, _*_, _<_};
 ghost use lib.ListN.{length};
-ghost use Rattle.network.specs.Sizes.{Shape, directions, dimensionOf, nodes};
+ghost use Rattle.network.specs.Sizes.{Shape, shapeOf, directions, dimensionOf, nodes, mostNodes};
 ghost use Rattle.network.specs.Torus.{coordinate, neighbour};
-ghost use Rattle.packet.specs.Geometry.{shapeOfSizes, RingsFit, nodeAt, OnTorus};
+ghost use Rattle.packet.specs.Geometry.{RingsFit, nodeAt, OnTorus};
 ghost use Rattle.packet.specs.Near.{Near, NearTo};
+
+// A byte for each direction of each node of the largest network.
+pub const TABLE_BYTES: usize = 1024;
 
 // One byte more: the neighbour of node n in direction d, where its coordinate in that dimension is c.
 fn fill_byte(near: &mut [u8], s: Sizes, d: u64, n: u64, c: u64)
-    requires { ⌜ RingsFit s × (d < directions) × (n < nodes (shapeOfSizes s)) × (c ≡ coordinate (shapeOfSizes s) (dimensionOf d) n) ⌝ }
-    requires { ⌜ (n < 256) × NearTo (shapeOfSizes s) (4 * n + d) (now near) ⌝ }
-    ensures { λ _. ⌜ NearTo (shapeOfSizes s) (4 * n + d + 1) (now (near .exit)) ⌝ }
+    requires { ⌜ RingsFit s × (d < directions) × (n < nodes (shapeOf s)) × (c ≡ coordinate (shapeOf s) (dimensionOf d) n) ⌝ }
+    requires { ⌜ (n < mostNodes) × NearTo (shapeOf s) (directions * n + d) (now near) ⌝ }
+    ensures { λ _. ⌜ NearTo (shapeOf s) (directions * n + d + 1) (now (near .exit)) ⌝ }
 {
     let there = step_from(s, d, n, c);
-    near[(4 * n + d) as usize] = there as u8;
+    near[(DIRECTIONS * n + d) as usize] = there as u8;
 }
 
 // The four bytes of node n, which stands in column x and row y.
 fn fill_node(near: &mut [u8], s: Sizes, n: u64, x: u64, y: u64)
-    requires { ⌜ OnTorus s x y × (nodeAt s x y ≡ n) × NearTo (shapeOfSizes s) (4 * n) (now near) ⌝ }
-    ensures { λ _. ⌜ NearTo (shapeOfSizes s) (4 * (n + 1)) (now (near .exit)) ⌝ }
+    requires { ⌜ OnTorus s x y × (nodeAt s x y ≡ n) × NearTo (shapeOf s) (directions * n) (now near) ⌝ }
+    ensures { λ _. ⌜ NearTo (shapeOf s) (directions * (n + 1)) (now (near .exit)) ⌝ }
 {
     fill_byte(near, s, 0, n, x);
     fill_byte(near, s, 1, n, x);
@@ -36,8 +40,8 @@ fn fill_node(near: &mut [u8], s: Sizes, n: u64, x: u64, y: u64)
 
 // The neighbours of all nodes.
 pub fn fill(near: &mut [u8], s: Sizes)
-    requires { ⌜ RingsFit s × (length (now near) ≡ 1024) ⌝ }
-    ensures { λ _. ⌜ Near (shapeOfSizes s) (now (near .exit)) ⌝ }
+    requires { ⌜ RingsFit s × (length (now near) ≡ directions * mostNodes) ⌝ }
+    ensures { λ _. ⌜ Near (shapeOf s) (now (near .exit)) ⌝ }
 {
     let count = nodes(s);
     let mut place = Place { x: 0, y: 0 };
@@ -51,8 +55,8 @@ pub fn fill(near: &mut [u8], s: Sizes)
 
 // The neighbour of node n in direction d, out of the table.
 pub fn look_up(near: &[u8], d: u64, n: u64) -> u64
-    requires { ⌜ (d < directions) × (n < 256) × (length (now near) ≡ 1024) ⌝ }
+    requires { ⌜ (d < directions) × (n < mostNodes) × (length (now near) ≡ directions * mostNodes) ⌝ }
     ensures { λ r. ⌜ ((S : Shape) → Near S (now (near .entry)) → n < nodes S → r ≡ neighbour S d n) ⌝ }
 {
-    near[(4 * n + d) as usize] as u64
+    near[(DIRECTIONS * n + d) as usize] as u64
 }

@@ -1,9 +1,8 @@
 -- An offset by how far it stands above -128: its hops forward and back, its limits, a coordinate moved by it. Assumes nothing.
-use mathlib.Core.Path.{_≡_, refl, ap, ap₂, sym, _∙_}
+use mathlib.Core.Path.{_≡_, refl, ap, sym, _∙_}
 use mathlib.Core.Logic.{inl, inr}
 use mathlib.Core.Bool.{Bool, true, false, _&&_, false≢true}
 use Prim.Native.Nat.{ℕ, _+_, _*_, _-_, _/_, _%_, _<_, _≤_}
-use native.Mathlib.Nat.{div-one}
 use native.Mathlib.Decide.{decLt}
 use native.Mathlib.Omega.{arith}
 use borrow.Author.Tests.{le-ltb}
@@ -11,7 +10,8 @@ use lib.Dec.{ltb, ltb→lt, lt→ltb}
 use Rattle.base.specs.Tests.{and-l, and-r, and-i}
 use Rattle.base.specs.Bools.{same-test, and-stop, and-on}
 use Rattle.network.specs.Sizes.{plus, minus}
-use Rattle.network.specs.Packet.{signed, forward, backward, place, offset, hops}
+use Rattle.base.specs.Digits.{digit}
+use Rattle.network.specs.Packet.{fields, offsetField, signed, forward, backward, offset, hops}
 use Rattle.network.specs.PacketLaws.{signed-small, signed-large, hops-plus, hops-minus}
 use Rattle.packet.specs.GeometryLaws.{moved-is}
 use Rattle.packet_check.specs.PacketLimits.{OneWay}
@@ -25,21 +25,21 @@ signed-above b h = go (decLt b 128)
     go (yes l) = rw (signed-small b l) (omega arith)
     go (no g) = rw (signed-large b (omega arith)) (omega arith)
 
--- the byte of dimension i, wherever it is taken from
-pub above-is : (i p b : ℕ) → b ≡ p / place i % 256 → (b + 128) % 256 + hops (minus i) p ≡ 128 + hops (plus i) p
+-- the field of the offset of dimension i, wherever it is taken from
+pub above-is : (i p b : ℕ) → b ≡ digit fields (offsetField i) p → b < 256 → (b + 128) % 256 + hops (minus i) p ≡ 128 + hops (plus i) p
 unfolding offset
-above-is i p b e =
-    ap₂ (λ (u v : ℕ). (u + 128) % 256 + v) e (hops-minus i p)
-    ∙ signed-above (p / place i % 256) (omega arith)
-    ∙ ap (λ (v : ℕ). 128 + v) (sym (hops-plus i p))
+above-is i p b e small =
+    ap (λ (v : ℕ). (b + 128) % 256 + v) (hops-minus i p ∙ ap (λ (x : ℕ). backward (signed x)) (sym e))
+    ∙ signed-above b small
+    ∙ ap (λ (v : ℕ). 128 + v) (ap (λ (x : ℕ). forward (signed x)) e ∙ sym (hops-plus i p))
 
-pub byte-of-first : (i p : ℕ) → i ≡ 0 → p / 256 % 256 ≡ p / place i % 256
-unfolding place
-byte-of-first i p e = ap (λ (j : ℕ). p / place j % 256) (sym e)
+pub byte-of-first : (i p : ℕ) → i ≡ 0 → p / 256 % 256 ≡ digit fields (offsetField i) p
+unfolding digit
+byte-of-first i p e = ap (λ (j : ℕ). digit fields (offsetField j) p) (sym e)
 
-pub byte-of-second : (i p : ℕ) → i ≡ 1 → p % 256 ≡ p / place i % 256
-unfolding place
-byte-of-second i p e = ap (λ (n : ℕ). n % 256) (sym (div-one p)) ∙ ap (λ (j : ℕ). p / place j % 256) (sym e)
+pub byte-of-second : (i p : ℕ) → i ≡ 1 → p % 256 ≡ digit fields (offsetField i) p
+unfolding digit
+byte-of-second i p e = ap (λ (j : ℕ). digit fields (offsetField j) p) (sym e)
 
 module _ (forward back above f b : ℕ) where
   pub too-far : forward ≤ f → false ≡ (ltb f forward && ltb b back)

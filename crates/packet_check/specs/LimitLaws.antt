@@ -11,27 +11,27 @@ use borrow.Author.Tests.{eq-eqb, ne-eqb, lt-ltb, le-ltb}
 use lib.Dec.{T, ltb, eqb, ltb→lt, lt→ltb, eqb→eq}
 use Rattle.base.specs.Tests.{and-l, and-r, and-i, T-true, passed?, T-false}
 use Rattle.base.specs.Bools.{same-test}
-use Rattle.network.specs.Sizes.{Shape, size, nodes, dimensions, directions, dimensionOf, directionOf, isEscape, isPlus, plus, minus, injectionQueue}
+use Rattle.network.specs.Sizes.{Shape, shapeOf, size, nodes, dimensions, directions, dimensionOf, directionOf, isEscape, isPlus, plus, minus, injectionQueue}
 use Rattle.network.specs.Packet.{destination, distance, hops}
 use Rattle.network.specs.PacketLaws.{one-way, distance-is, hops-le, dimension-lt}
 use Rattle.network.specs.Torus.{movedBy}
 use Rattle.network.specs.TorusLaws.{Torus, movedBy-lt}
-use Rattle.network.specs.Check.{isQueueOf, reach, opposite, packetFits}
+use Rattle.network.specs.Check.{longest, isQueueOf, reach, opposite, packetFits}
 use Rattle.network.specs.CheckLaws.{PacketFits, packet-of, packet-by, eq-T, reach-least, reach-other, opposite-dimension, opposite-lt}
-use Rattle.packet.specs.Geometry.{shapeOfSizes, RingsFit}
+use Rattle.packet.specs.Geometry.{RingsFit}
 use Rattle.packet.specs.GeometryLaws.{size-x, size-y}
-use Rattle.packet.specs.declared.torus.Sizes.{Sizes}
-use Rattle.packet_check.specs.PacketLimits.{half, limit, limitsOf, LimitsFit, belowLimits, fitsWithin, NoRound}
+use Rattle.network.specs.declared.Sizes.{Sizes}
+use Rattle.packet_check.specs.PacketLimits.{limit, limitsOf, LimitsFit, belowLimits, fitsWithin, NoRound}
 use Rattle.packet_check.specs.declared.Limits.{Limits}
 
 -- The limits by the queue's direction -------------------------------------------------------------------------------------------------
 
 module _ (S : Shape) (q d : ℕ) where
-  pub limit-injection : q ≡ injectionQueue → limit S q d ≡ half S (dimensionOf d) + 1
+  pub limit-injection : q ≡ injectionQueue → limit S q d ≡ longest S (dimensionOf d) + 1
   unfolding limit
   limit-injection e = rw (eq-eqb q injectionQueue e)
 
-  pub limit-own : q ≢ injectionQueue → directionOf q ≡ d → limit S q d ≡ half S (dimensionOf d)
+  pub limit-own : q ≢ injectionQueue → directionOf q ≡ d → limit S q d ≡ longest S (dimensionOf d)
   unfolding limit
   limit-own ne e = rw (ne-eqb q injectionQueue ne, eq-eqb (directionOf q) d e)
 
@@ -59,13 +59,13 @@ module _ (S : Shape) (q d : ℕ) where
       apart a b l e = omega arith
 
   -- in every other case
-  pub limit-adaptive : q ≢ injectionQueue → dimensionOf (directionOf q) ≢ dimensionOf d → isEscape q ≡ false → limit S q d ≡ half S (dimensionOf d) + 1
+  pub limit-adaptive : q ≢ injectionQueue → dimensionOf (directionOf q) ≢ dimensionOf d → isEscape q ≡ false → limit S q d ≡ longest S (dimensionOf d) + 1
   unfolding limit
   limit-adaptive ne ni t =
       let nd : directionOf q ≢ d = λ e. ni (ap dimensionOf e) in
       rw (ne-eqb q injectionQueue ne, ne-eqb (directionOf q) d nd, ne-eqb (dimensionOf (directionOf q)) (dimensionOf d) ni, t)
 
-  pub limit-higher : q ≢ injectionQueue → dimensionOf (directionOf q) < dimensionOf d → limit S q d ≡ half S (dimensionOf d) + 1
+  pub limit-higher : q ≢ injectionQueue → dimensionOf (directionOf q) < dimensionOf d → limit S q d ≡ longest S (dimensionOf d) + 1
   unfolding limit
   limit-higher ne l =
       let ni : dimensionOf (directionOf q) ≢ dimensionOf d = λ e. apart (dimensionOf (directionOf q)) (dimensionOf d) l e in
@@ -76,17 +76,17 @@ module _ (S : Shape) (q d : ℕ) where
       apart : (a b : ℕ) → a < b → a ≡ b → ⊥
       apart a b l e = omega arith
 
-      other : (b : Bool) → cond (b && false) 1 (half S (dimensionOf d) + 1) ≡ half S (dimensionOf d) + 1
+      other : (b : Bool) → cond (b && false) 1 (longest S (dimensionOf d) + 1) ≡ longest S (dimensionOf d) + 1
       other true = refl
       other false = refl
 
   -- none is more than one above half of the ring
-  pub limit-most : limit S q d ≤ half S (dimensionOf d) + 1
+  pub limit-most : limit S q d ≤ longest S (dimensionOf d) + 1
   unfolding limit
   limit-most = go (eqb q injectionQueue) (eqb (directionOf q) d) (eqb (dimensionOf (directionOf q)) (dimensionOf d)) (isEscape q && ltb (dimensionOf d) (dimensionOf (directionOf q)))
     where
       go : (a b c e : Bool)
-          → cond a (half S (dimensionOf d) + 1) (cond b (half S (dimensionOf d)) (cond c 1 (cond e 1 (half S (dimensionOf d) + 1)))) ≤ half S (dimensionOf d) + 1
+          → cond a (longest S (dimensionOf d) + 1) (cond b (longest S (dimensionOf d)) (cond c 1 (cond e 1 (longest S (dimensionOf d) + 1)))) ≤ longest S (dimensionOf d) + 1
       go true b c e = omega arith
       go false true c e = omega arith
       go false false true e = omega arith
@@ -98,8 +98,8 @@ module _ (S : Shape) (q d : ℕ) where
 half-most : (k : ℕ) → 1 ≤ k → k / 2 + 1 ≤ k
 half-most k h = omega arith
 
-pub limits-fit : (s : Sizes) (q : ℕ) → RingsFit s → LimitsFit s (limitsOf (shapeOfSizes s) q)
-unfolding limitsOf half
+pub limits-fit : (s : Sizes) (q : ℕ) → RingsFit s → LimitsFit s (limitsOf (shapeOf s) q)
+unfolding limitsOf
 limits-fit s q r =
     record {
       x-plus = small 0 (s .x) (r .x-least) (size-x s 0 refl);
@@ -108,9 +108,9 @@ limits-fit s q r =
       y-minus = small 3 (s .y) (r .y-least) (size-y s 1 refl);
     }
   where
-    small : (d k : ℕ) → 1 ≤ k → k ≡ size (shapeOfSizes s) (dimensionOf d) → limit (shapeOfSizes s) q d ≤ k
+    small : (d k : ℕ) → 1 ≤ k → k ≡ size (shapeOf s) (dimensionOf d) → limit (shapeOf s) q d ≤ k
     small d k l e =
-        let m : limit (shapeOfSizes s) q d ≤ size (shapeOfSizes s) (dimensionOf d) / 2 + 1 = limit-most (shapeOfSizes s) q d in
+        let m : limit (shapeOf s) q d ≤ longest (shapeOf s) (dimensionOf d) + 1 = limit-most (shapeOf s) q d in
         let h : k / 2 + 1 ≤ k = half-most k l in
         omega arith
 
@@ -224,25 +224,24 @@ both-ways d p = by (ℕ-discrete (d % 2) 0) (distance-is (dimensionOf d) p)
 
 module _ (S : Shape) (n q p : ℕ) where
   hops-below : PacketFits S n q p → (d : ℕ) → d < directions → hops d p < limit S q d
-  unfolding half
   hops-below f d h =
       go (ℕ-discrete q injectionQueue) (ℕ-discrete (directionOf q) d) (ℕ-discrete (dimensionOf (directionOf q)) (dimensionOf d)) (passed? (isEscape q))
       (decLt (dimensionOf d) (dimensionOf (directionOf q)))
     where
       -- what half of the ring bounds
-      far : hops d p < half S (dimensionOf d) + 1
+      far : hops d p < longest S (dimensionOf d) + 1
       far =
           let a = hops-le d p in
           let b = reach-least (dimensionOf d) q p in
-          let m : reach (dimensionOf d) q p ≤ size S (dimensionOf d) / 2 = f .near (dimensionOf d) (dimension-lt d h) in
+          let m : reach (dimensionOf d) q p ≤ longest S (dimensionOf d) = f .near (dimensionOf d) (dimension-lt d h) in
           omega arith
 
       own : q ≢ injectionQueue → directionOf q ≡ d → hops d p < limit S q d
       own ne e =
           let a = hops-le d p in
           let b : reach (dimensionOf d) q p ≡ distance (dimensionOf d) p + 1 = rw e at (reach-own q p ne) in
-          let m : reach (dimensionOf d) q p ≤ size S (dimensionOf d) / 2 = f .near (dimensionOf d) (dimension-lt d h) in
-          let l : limit S q d ≡ size S (dimensionOf d) / 2 = limit-own S q d ne e in
+          let m : reach (dimensionOf d) q p ≤ longest S (dimensionOf d) = f .near (dimensionOf d) (dimension-lt d h) in
+          let l : limit S q d ≡ longest S (dimensionOf d) = limit-own S q d ne e in
           omega arith
 
       back : q ≢ injectionQueue → directionOf q ≢ d → dimensionOf (directionOf q) ≡ dimensionOf d → hops d p < limit S q d
@@ -268,15 +267,14 @@ module _ (S : Shape) (n q p : ℕ) where
       go (no ne) (no nd) (no ni) (inr t) w = let l = limit-adaptive S q d ne ni (T-false (isEscape q) t) in let m = far in omega arith
 
   -- the distance along a dimension is bounded as the hops both ways are, since there are none one way
-  distance-below : (i : ℕ) → hops (plus i) p < half S i + 1 → hops (minus i) p < half S i + 1 → distance i p ≤ half S i
+  distance-below : (i : ℕ) → hops (plus i) p < longest S i + 1 → hops (minus i) p < longest S i + 1 → distance i p ≤ longest S i
   distance-below i a b = go (one-way i p) (distance-is i p)
     where
-      go : (hops (plus i) p ≡ 0) ⊎ (hops (minus i) p ≡ 0) → distance i p ≡ hops (plus i) p + hops (minus i) p → distance i p ≤ half S i
+      go : (hops (plus i) p ≡ 0) ⊎ (hops (minus i) p ≡ 0) → distance i p ≡ hops (plus i) p + hops (minus i) p → distance i p ≤ longest S i
       go (inl z) e = omega arith
       go (inr z) e = omega arith
 
   clauses : Torus S → n < nodes S → ((d : ℕ) → d < directions → hops d p < limit S q d) → movedBy S p n ≡ destination p → PacketFits S n q p
-  unfolding half
   clauses torus hn h e =
       record {
         addressed = let l = movedBy-lt S n p torus hn in omega arith;
@@ -317,27 +315,27 @@ module _ (S : Shape) (n q p : ℕ) where
               let b = none (minus i) (omega arith) (omega arith) in
               omega arith
 
-      far : (i : ℕ) → i < dimensions → distance i p ≤ size S i / 2
+      far : (i : ℕ) → i < dimensions → distance i p ≤ longest S i
       far i k = distance-below i (each (plus i) (omega arith) (omega arith)) (each (minus i) (omega arith) (omega arith))
         where
-          each : (d : ℕ) → d < directions → dimensionOf d ≡ i → hops d p < half S i + 1
+          each : (d : ℕ) → d < directions → dimensionOf d ≡ i → hops d p < longest S i + 1
           each d l e =
               let a = h d l in
               let b = limit-most S q d in
-              let c : half S (dimensionOf d) ≡ half S i = ap (half S) e in
+              let c : longest S (dimensionOf d) ≡ longest S i = ap (longest S) e in
               omega arith
 
-      near : (i : ℕ) → i < dimensions → Dec (q ≡ injectionQueue) → Dec (dimensionOf (directionOf q) ≡ i) → reach i q p ≤ size S i / 2
+      near : (i : ℕ) → i < dimensions → Dec (q ≡ injectionQueue) → Dec (dimensionOf (directionOf q) ≡ i) → reach i q p ≤ longest S i
       near i k (yes z) d = let r = reach-injection i q p z in let l = far i k in omega arith
       near i k (no ne) (no a) = let r = reach-other i q p a in let l = far i k in omega arith
       near i k (no ne) (yes a) = rw (← a) within
         where
-          within : reach (dimensionOf (directionOf q)) q p ≤ size S (dimensionOf (directionOf q)) / 2
+          within : reach (dimensionOf (directionOf q)) q p ≤ longest S (dimensionOf (directionOf q))
           within =
               let r = reach-own q p ne in
               let z = sign ne in
               let b : hops (directionOf q) p < limit S q (directionOf q) = h (directionOf q) own-lt in
-              let l : limit S q (directionOf q) ≡ size S (dimensionOf (directionOf q)) / 2 = limit-own S q (directionOf q) ne refl in
+              let l : limit S q (directionOf q) ≡ longest S (dimensionOf (directionOf q)) = limit-own S q (directionOf q) ne refl in
               let e = both-ways (directionOf q) p in
               omega arith
 

@@ -3,26 +3,23 @@
 use mathlib.Core.Path.{_≡_}
 use mathlib.Core.Logic.{_⊎_}
 use mathlib.Core.Bool.{Bool, cond, _&&_}
-use Prim.Native.Nat.{ℕ, _+_, _/_, _<_, _≤_}
+use Prim.Native.Nat.{ℕ, _+_, _<_, _≤_}
 use lib.Dec.{ltb, eqb}
-use Rattle.network.specs.Sizes.{Shape, size, dimensionOf, directionOf, isEscape, injectionQueue}
+use Rattle.network.specs.Sizes.{Shape, dimensionOf, directionOf, isEscape, injectionQueue}
+use Rattle.network.specs.Check.{longest}
 use Rattle.network.specs.Packet.{destination, hops}
 use Rattle.network.specs.Torus.{movedBy}
-use Rattle.packet.specs.declared.torus.Sizes.{Sizes}
+use Rattle.network.specs.declared.Sizes.{Sizes}
 use Rattle.packet_check.specs.declared.Limits.{Limits}
-
--- half of the ring along dimension i, rounded down
-unfoldable pub half : Shape → ℕ → ℕ
-half S i = size S i / 2
 
 -- A packet of queue q has fewer hops left in direction d than this. In the queue's own direction they stay below half of the ring, the other way
 -- along its dimension there are none, and in an escape queue there are none along a lower dimension. All others reach half of the ring.
 unfoldable pub limit : Shape → ℕ → ℕ → ℕ
 limit S q d =
-    cond (eqb q injectionQueue) (half S (dimensionOf d) + 1)
-    (cond (eqb (directionOf q) d) (half S (dimensionOf d))
+    cond (eqb q injectionQueue) (longest S (dimensionOf d) + 1)
+    (cond (eqb (directionOf q) d) (longest S (dimensionOf d))
     (cond (eqb (dimensionOf (directionOf q)) (dimensionOf d)) 1
-    (cond (isEscape q && ltb (dimensionOf d) (dimensionOf (directionOf q))) 1 (half S (dimensionOf d) + 1))))
+    (cond (isEscape q && ltb (dimensionOf d) (dimensionOf (directionOf q))) 1 (longest S (dimensionOf d) + 1))))
 
 unfoldable pub limitsOf : Shape → ℕ → Limits
 limitsOf S q = record { 0 = limit S q 0; 1 = limit S q 1; 2 = limit S q 2; 3 = limit S q 3 }

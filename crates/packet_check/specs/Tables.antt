@@ -3,7 +3,7 @@ use mathlib.Core.Path.{_≡_}
 use mathlib.Core.List.{List}
 use Prim.Native.Nat.{ℕ, _*_, _%_, _<_}
 use lib.ListN.{length, getD}
-use Rattle.packet.specs.declared.torus.Sizes.{Sizes}
+use Rattle.network.specs.declared.Sizes.{Sizes}
 
 -- three rounds of a ring of k nodes: word i is w times the coordinate of the node that i hops lead to from coordinate 0
 pub record RingTable (ring : List ℕ) (k w : ℕ) : Type 0 where

@@ -1,16 +1,17 @@
 // A packet's clauses of the check, by the hops that it has left in each direction: each is below a limit that its queue sets, and together
 // they lead to its destination. Node n stands in column x and row y, n = y * X + x. Where hops lead is looked up in two tables, one for each
 // ring, which are filled once for a check.
-use packet::torus::Sizes;
+use network::DIRECTIONS;
+use network::Sizes;
 ghost use mathlib.Core.Path.{_≡_};
 ghost use mathlib.Core.Bool.{_&&_};
 ghost use Prim.Native.Nat.{ℕ, _+_, _*_, _-_, _%_, _<_, _≤_};
 ghost use lib.Dec.{ltb};
 ghost use lib.ListN.{length};
-ghost use Rattle.network.specs.Sizes.{dimensions, directions, plus, minus};
+ghost use Rattle.network.specs.Sizes.{shapeOf, dimensions, directions, plus, minus};
 ghost use Rattle.network.specs.Packet.{hops};
 ghost use Rattle.network.specs.Torus.{movedBy};
-ghost use Rattle.packet.specs.Geometry.{shapeOfSizes, nodeAt, OnTorus};
+ghost use Rattle.packet.specs.Geometry.{nodeAt, OnTorus};
 ghost use Rattle.packet_check.specs.PacketLimits.{limit, limitsOf, LimitsFit, OneWay, belowLimits, fitsWithin, NoRound};
 ghost use Rattle.packet_check.specs.Tables.{RingTable, Tables};
 
@@ -21,20 +22,20 @@ pub struct Limits(pub u64, pub u64, pub u64, pub u64);
 // there are none, and in an escape queue there are none along a lower dimension. All others reach half of the ring.
 fn limit(s: Sizes, q: u64, d: u64) -> u64
     requires { ⌜ d < directions ⌝ }
-    ensures { λ r. ⌜ r ≡ limit (shapeOfSizes s) q d ⌝ }
+    ensures { λ r. ⌜ r ≡ limit (shapeOf s) q d ⌝ }
 {
     let half = packet::torus::size(s, d / 2) / 2;
     if q == 0 {
         return half + 1;
     }
-    let own = (q - 1) % 4;
+    let own = (q - 1) % DIRECTIONS;
     if own == d {
         return half;
     }
     if own / 2 == d / 2 {
         return 1;
     }
-    if q <= 4 {
+    if q <= DIRECTIONS {
         return half + 1;
     }
     if own / 2 < d / 2 {
@@ -44,7 +45,7 @@ fn limit(s: Sizes, q: u64, d: u64) -> u64
 }
 
 pub fn limits_of(s: Sizes, q: u64) -> Limits
-    ensures { λ r. ⌜ r ≡ limitsOf (shapeOfSizes s) q ⌝ }
+    ensures { λ r. ⌜ r ≡ limitsOf (shapeOf s) q ⌝ }
 {
     Limits(
         limit(s, q, 0),
@@ -131,7 +132,7 @@ fn below_limits(l: Limits, p: u64) -> bool
 // The node to which packet p's hops lead from the one in column x and row y, where they are fewer than the nodes of each ring.
 fn led_to(columns: &[u64], rows: &[u64], s: Sizes, x: u64, y: u64, p: u64) -> u64
     requires { ⌜ OnTorus s x y × NoRound s p × Tables s (now columns) (now rows) ⌝ }
-    ensures { λ r. ⌜ r ≡ movedBy (shapeOfSizes s) p (nodeAt s x y) ⌝ }
+    ensures { λ r. ⌜ r ≡ movedBy (shapeOf s) p (nodeAt s x y) ⌝ }
 {
     moved(rows, y, s.y, above(1, p)) + moved(columns, x, s.x, above(0, p))
 }
@@ -147,7 +148,7 @@ pub fn packet_fits(
     p: u64,
 ) -> bool
     requires { ⌜ OnTorus s x y × LimitsFit s l × Tables s (now columns) (now rows) ⌝ }
-    ensures { λ r. ⌜ r ≡ fitsWithin (shapeOfSizes s) (nodeAt s x y) l p ⌝ }
+    ensures { λ r. ⌜ r ≡ fitsWithin (shapeOf s) (nodeAt s x y) l p ⌝ }
 {
     if !below_limits(l, p) {
         return false;

@@ -7,10 +7,12 @@ use native.Mathlib.Nat.{suc-mul, mul-le-mul, add-suc}
 use native.Mathlib.Omega.{arith}
 use borrow.Author.Tests.{ne-eqb, lt-ltb, le-ltb}
 use Rattle.base.specs.Sums.{sumBelow, sum-fewer}
-use Rattle.network.specs.Sizes.{Shape, queues, directions, capacity}
+use lib.Dec.{T}
+use Rattle.network.specs.declared.Sizes.{Sizes}
+use Rattle.network.specs.Sizes.{Shape, shapeOf, sizesInRange, nodes, mostNodes, queues, directions, capacity}
+use Rattle.queue.specs.QueueLaws.{small, nodes-small}
 use Rattle.network.specs.Layout.{queueLength, nodeWords, queueEnd}
 use Rattle.network.specs.LayoutLaws.{node-words, end-node}
-use Rattle.network.specs.Calls.{shapeOf}
 
 -- the capacity by the kind of the queue
 pub capacity-injection : (S : Shape) (q : ℕ) → q ≡ 0 → capacity S q ≡ S .injection
@@ -71,21 +73,20 @@ before-many S q h =
 pub product-small : (n m b d : ℕ) → n ≤ b → m ≤ d → n * m ≤ b * d
 product-small n m b d h k = mul-le-mul h k
 
-pub node-small : (x y e a j : ℕ) → e ≤ 8 → a ≤ 8 → j ≤ 8 → nodeWords (shapeOf x y e a j) ≤ 81
+pub node-small : (s : Sizes) → T (sizesInRange (shapeOf s)) → nodeWords (shapeOf s) ≤ 81
 unfolding shapeOf nodeWords
-node-small x y e a j he ha hj = omega arith
+node-small s t = let k = small s t in let e = k .escape in let a = k .adaptive in let j = k .injection in omega arith
 
-pub before-small : (x y e a j q : ℕ) → e ≤ 8 → a ≤ 8 → j ≤ 8 → q < queues → sumBelow q (λ i. queueLength (shapeOf x y e a j) i) ≤ 81
-before-small x y e a j q he ha hj hq =
-    let S = shapeOf x y e a j in
-    let f = sum-fewer q queues (λ i. queueLength S i) (omega arith) in
-    let w = node-words S in
-    let l = node-small x y e a j he ha hj in
+pub before-small : (s : Sizes) (q : ℕ) → T (sizesInRange (shapeOf s)) → q < queues → sumBelow q (λ i. queueLength (shapeOf s) i) ≤ 81
+before-small s q t hq =
+    let f = sum-fewer q queues (λ i. queueLength (shapeOf s) i) (omega arith) in
+    let w = node-words (shapeOf s) in
+    let l = node-small s t in
     omega arith
 
-pub end-small : (x y e a j n q : ℕ) → e ≤ 8 → a ≤ 8 → j ≤ 8 → n < 256 → q < queues → queueEnd (shapeOf x y e a j) n q ≤ 20744
-end-small x y e a j n q he ha hj hn hq =
-    let S = shapeOf x y e a j in
-    let l = end-node S n q hq in
-    let m = product-small (suc n) (nodeWords S) 256 81 hn (node-small x y e a j he ha hj) in
+pub end-small : (s : Sizes) (n q : ℕ) → T (sizesInRange (shapeOf s)) → n < nodes (shapeOf s) → q < queues → queueEnd (shapeOf s) n q ≤ 20744
+end-small s n q t hn hq =
+    let l = end-node (shapeOf s) n q hq in
+    let b = nodes-small s t in
+    let m = product-small (suc n) (nodeWords (shapeOf s)) mostNodes 81 (omega arith) (node-small s t) in
     omega arith

@@ -12,12 +12,13 @@ use lib.ListN.{length}
 use Rattle.base.specs.Tests.{and-l, and-r, allOf, allOf-head, allOf-tail, allBelow, all-at}
 use Rattle.base.specs.Parts.{span, splice}
 use Rattle.base.specs.Digits.{product}
-use Rattle.network.specs.Sizes.{Shape, within, sizesInRange, nodes, queues, capacity}
-use Rattle.network.specs.Layout.{headerWords, raised, queueLength, queueStart, queueEnd, need, queueWords, queuePart, countOf, packetsOf, unusedOf, held, putQueue}
-use Rattle.network.specs.LayoutLaws.{Fits, start-end, end-length, length-queuePart, length-packetsOf, countOf-queueWords, unused-zero, part-put-same, part-put-other, part-raised, length-put, length-raised}
+use Rattle.network.specs.Sizes.{Shape, shapeOf, within, largestRing, largestCapacity, sizesInRange, nodes, mostNodes, queues, capacity}
+use Rattle.network.specs.SizesLaws.{range-of}
+use Rattle.network.specs.declared.Sizes.{Sizes}
+use Rattle.network.specs.Layout.{queueLength, queueStart, queueEnd, need, queueWords, queuePart, countOf, packetsOf, unusedOf, held, putQueue}
+use Rattle.network.specs.LayoutLaws.{Fits, start-end, end-length, length-queuePart, length-packetsOf, countOf-queueWords, unused-zero, part-put-same, part-put-other, length-put}
 use Rattle.network.specs.Check.{packetFits, queueFits, queuesFit, ringsHaveRoom, countersFit, isNetwork}
 use Rattle.network.specs.Refusals.{head}
-use Rattle.network.specs.Calls.{shapeOf}
 use Rattle.queue.specs.Queue.{IsQueue, QueueAt, Checked, slots}
 
 -- What the sizes bound ------------------------------------------------------------------------------------------------------------------
@@ -26,33 +27,33 @@ within-most : (least most n : ℕ) → T (within least most n) → n ≤ most
 unfolding within
 within-most least most n t = leb→le n most (and-r (leb least n) (leb n most) t)
 
-pub record Small (x y e a j : ℕ) : Type 0 where
-  pub columns : x ≤ 16
-  pub rows : y ≤ 16
-  pub escape : e ≤ 8
-  pub adaptive : a ≤ 8
-  pub injection : j ≤ 8
+pub record Small (s : Sizes) : Type 0 where
+  pub columns : s .x ≤ largestRing
+  pub rows : s .y ≤ largestRing
+  pub escape : s .escape ≤ largestCapacity
+  pub adaptive : s .adaptive ≤ largestCapacity
+  pub injection : s .injection ≤ largestCapacity
 
-pub small : (x y e a j : ℕ) → T (sizesInRange (shapeOf x y e a j)) → Small x y e a j
-unfolding sizesInRange shapeOf
-small x y e a j t =
-    let sizes = and-l (allOf (within 1 16) (x ∷ y ∷ [])) (within 2 8 e && (within 1 8 a && within 1 8 j)) t in
-    let slots = and-r (allOf (within 1 16) (x ∷ y ∷ [])) (within 2 8 e && (within 1 8 a && within 1 8 j)) t in
-    let transit = and-r (within 2 8 e) (within 1 8 a && within 1 8 j) slots in
+pub small : (s : Sizes) → T (sizesInRange (shapeOf s)) → Small s
+unfolding shapeOf
+small s t =
+    let r = range-of (shapeOf s) t in
     record {
-      columns = within-most 1 16 x (allOf-head (within 1 16) x (y ∷ []) sizes);
-      rows = within-most 1 16 y (allOf-head (within 1 16) y [] (allOf-tail (within 1 16) x (y ∷ []) sizes));
-      escape = within-most 2 8 e (and-l (within 2 8 e) (within 1 8 a && within 1 8 j) slots);
-      adaptive = within-most 1 8 a (and-l (within 1 8 a) (within 1 8 j) transit);
-      injection = within-most 1 8 j (and-r (within 1 8 a) (within 1 8 j) transit);
+      columns = within-most 1 largestRing (s .x) (allOf-head (within 1 largestRing) (s .x) (s .y ∷ []) (r .sizes));
+      rows =
+          within-most 1 largestRing (s .y)
+          (allOf-head (within 1 largestRing) (s .y) [] (allOf-tail (within 1 largestRing) (s .x) (s .y ∷ []) (r .sizes)));
+      escape = r .escape .high;
+      adaptive = r .adaptive .high;
+      injection = r .injection .high;
     }
 
-pub nodes-small : (x y e a j : ℕ) → T (sizesInRange (shapeOf x y e a j)) → nodes (shapeOf x y e a j) ≤ 256
+pub nodes-small : (s : Sizes) → T (sizesInRange (shapeOf s)) → nodes (shapeOf s) ≤ mostNodes
 unfolding nodes product shapeOf
-nodes-small x y e a j t =
-    let s = small x y e a j t in
-    let one = mul-one y in
-    mul-le-mul {n₂ = 16} {m₂ = 16} (s .columns) (let r = s .rows in omega arith)
+nodes-small s t =
+    let k = small s t in
+    let one = mul-one (s .y) in
+    mul-le-mul {n₂ = largestRing} {m₂ = largestRing} (k .columns) (let r = k .rows in omega arith)
 
 -- What the check of a network says of a queue -------------------------------------------------------------------------------------------
 
@@ -80,12 +81,8 @@ pub checked-fits : (S : Shape) (w : List ℕ) (n q : ℕ) → Checked S w n q �
 checked-fits S w n q k = record { node = k .node; queue = k .queue; long = k .long }
 
 -- what the functions that compute places ask
-pub places : (x y e a j : ℕ) {w : List ℕ} {n q : ℕ} → Checked (shapeOf x y e a j) w n q → (e ≤ 8) × (a ≤ 8) × (j ≤ 8) × (n < 256) × (q < queues)
-places x y e a j k =
-    let s = small x y e a j (k .sizes) in
-    let b = nodes-small x y e a j (k .sizes) in
-    let h = k .node in
-    (s .escape, s .adaptive, s .injection, omega arith, k .queue)
+pub places : {S : Shape} {w : List ℕ} {n q : ℕ} → Checked S w n q → T (sizesInRange S) × (n < nodes S) × (q < queues)
+places k = (k .sizes, k .node, k .queue)
 
 -- the number held is the number of packets
 pub checked-count : (S : Shape) (w : List ℕ) (n q : ℕ) → Checked S w n q → length (held S w n q) ≡ countOf (queuePart S w n q)
@@ -113,10 +110,9 @@ pub record Placed (S : Shape) (w : List ℕ) (n q start end : ℕ) : Type 0 wher
   pub from : start ≡ queueStart S n q
   pub to : end ≡ queueEnd S n q
 
-pub placed : (x y e a j : ℕ) {w : List ℕ} {n q start end : ℕ} → Checked (shapeOf x y e a j) w n q
-    → ((x y : ℕ) → start ≡ queueStart (shapeOf x y e a j) n q) → ((x y : ℕ) → end ≡ queueEnd (shapeOf x y e a j) n q)
-    → Placed (shapeOf x y e a j) w n q start end
-placed x y e a j k from to = record { queue = k; from = from x y; to = to x y }
+pub placed : {S : Shape} {w : List ℕ} {n q start end : ℕ} → Checked S w n q → start ≡ queueStart S n q → end ≡ queueEnd S n q
+    → Placed S w n q start end
+placed k from to = record { queue = k; from = from; to = to }
 
 module _ {S : Shape} {w : List ℕ} {n q start end : ℕ} (at : Placed S w n q start end) where
   part-at : span w start end ≡ queuePart S w n q
@@ -189,17 +185,3 @@ checked-put S w n q ps m r fits h k = go (ℕ-discrete n m) (ℕ-discrete q r)
         (unused-zero (capacity S q) ps)
     go (yes a) (no b) = other (λ e. b (e .1))
     go (no a) b = other (λ e. a (e .0))
-
-pub checked-raised : (S : Shape) (at : ℕ) (w : List ℕ) (n q : ℕ) → at < headerWords → Checked S w n q → Checked S (raised at w) n q
-checked-raised S at w n q h k =
-    let e = part-raised S at w n q h in
-    let l = length-raised at w in
-    let b = k .long in
-    record {
-      sizes = k .sizes;
-      node = k .node;
-      queue = k .queue;
-      long = omega arith;
-      count = subst (λ (part : List ℕ). countOf part ≤ capacity S q) (sym e) (k .count);
-      zeros = subst (λ (part : List ℕ). T (allOf (eqb 0) (unusedOf part))) (sym e) (k .zeros);
-    }

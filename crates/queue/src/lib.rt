@@ -1,26 +1,23 @@
 // A queue as a part of the lent words: one word for the number held, the packets, oldest first, and zeros.
 // Order: the leaves on a queue's own words; the same at a place in more words; where the queues of a network stand;
 // the same for a queue of a network; a counter of the header.
+use network::DIRECTIONS;
+use network::FIRST_ESCAPE;
+use network::HEADER_WORDS;
+use network::QUEUES;
+use network::Sizes;
 ghost use mathlib.Core.Path.{_≡_};
 ghost use mathlib.Core.List.{[], _∷_, _++_};
-ghost use Prim.Native.Nat.{ℕ, _-_, _^_, _<_, _≤_};
+ghost use Prim.Native.Nat.{_-_, _^_, _<_};
+ghost use lib.Dec.{T};
 ghost use lib.ListN.{length, getD, drop};
 ghost use Rattle.base.specs.Sums.{sumBelow};
 ghost use Rattle.base.specs.Parts.{span, splice};
-ghost use Rattle.network.specs.Sizes.{queues, capacity};
+ghost use Rattle.network.specs.Sizes.{shapeOf, sizesInRange, nodes, queues, capacity};
 ghost use Rattle.network.specs.Layout.{queueLength, nodeWords, queueStart, queueEnd, need, queueWords, packetsOf, countOf, held, raised};
 ghost use Rattle.network.specs.Refusals.{head};
-ghost use Rattle.network.specs.Calls.{shapeOf, packetArrives, headLeaves};
+ghost use Rattle.network.specs.Calls.{packetArrives, headLeaves};
 ghost use Rattle.queue.specs.Queue.{IsQueue, QueueAt, Checked, slots};
-
-// The words of the header, and where the counts of packets accepted, packets delivered and moves made stand among them.
-pub const HEADER_WORDS: usize = 8;
-
-pub const ACCEPTED_AT: usize = 5;
-
-pub const DELIVERED_AT: usize = 6;
-
-pub const MOVES_AT: usize = 7;
 
 // The packet becomes the newest of a queue with a free slot.
 pub fn append(q: &mut [u64], p: u64)
@@ -73,87 +70,87 @@ pub fn remove_at(words: &mut [u64], start: usize, end: usize) -> u64
     remove(&mut words[start..end])
 }
 
-// Where the queues of a network with these capacities stand. They stand there whatever the numbers x and y of columns and rows.
-pub fn capacity(e: u64, a: u64, j: u64, q: u64) -> u64
-    ensures { λ r. ⌜ ((x y : ℕ) → r ≡ capacity (shapeOf x y e a j) q) ⌝ }
+// Where the queues of a network of these sizes stand.
+pub fn capacity(s: Sizes, q: u64) -> u64
+    ensures { λ r. ⌜ r ≡ capacity (shapeOf s) q ⌝ }
 {
     if q == 0 {
-        return j;
+        return s.injection;
     }
-    if 4 < q {
-        return e;
+    if DIRECTIONS < q {
+        return s.escape;
     }
-    a
+    s.adaptive
 }
 
-pub fn node_words(e: u64, a: u64, j: u64) -> u64
-    requires { ⌜ (e ≤ 8) × (a ≤ 8) × (j ≤ 8) ⌝ }
-    ensures { λ r. ⌜ ((x y : ℕ) → r ≡ nodeWords (shapeOf x y e a j)) ⌝ }
+pub fn node_words(s: Sizes) -> u64
+    requires { ⌜ T (sizesInRange (shapeOf s)) ⌝ }
+    ensures { λ r. ⌜ r ≡ nodeWords (shapeOf s) ⌝ }
 {
-    9 + j + 4 * a + 4 * e
+    QUEUES + s.injection + DIRECTIONS * s.adaptive + DIRECTIONS * s.escape
 }
 
 // The words of a node's queues before queue q: each has its own word and its slots.
-pub fn words_before(e: u64, a: u64, j: u64, q: u64) -> u64
-    requires { ⌜ (e ≤ 8) × (a ≤ 8) × (j ≤ 8) × (q < queues) ⌝ }
-    ensures { λ r. ⌜ ((x y : ℕ) → r ≡ sumBelow q (λ i. queueLength (shapeOf x y e a j) i)) ⌝ }
+pub fn words_before(s: Sizes, q: u64) -> u64
+    requires { ⌜ T (sizesInRange (shapeOf s)) × (q < queues) ⌝ }
+    ensures { λ r. ⌜ r ≡ sumBelow q (λ i. queueLength (shapeOf s) i) ⌝ }
 {
     if q == 0 {
         return 0;
     }
-    if q <= 5 {
-        return q + j + (q - 1) * a;
+    if q <= FIRST_ESCAPE {
+        return q + s.injection + (q - 1) * s.adaptive;
     }
-    q + j + 4 * a + (q - 5) * e
+    q + s.injection + DIRECTIONS * s.adaptive + (q - FIRST_ESCAPE) * s.escape
 }
 
-pub fn queue_start(e: u64, a: u64, j: u64, n: u64, q: u64) -> usize
-    requires { ⌜ (e ≤ 8) × (a ≤ 8) × (j ≤ 8) × (n < 256) × (q < queues) ⌝ }
-    ensures { λ r. ⌜ ((x y : ℕ) → r ≡ queueStart (shapeOf x y e a j) n q) ⌝ }
+pub fn queue_start(s: Sizes, n: u64, q: u64) -> usize
+    requires { ⌜ T (sizesInRange (shapeOf s)) × (n < nodes (shapeOf s)) × (q < queues) ⌝ }
+    ensures { λ r. ⌜ r ≡ queueStart (shapeOf s) n q ⌝ }
 {
-    let node = node_words(e, a, j);
-    let before = words_before(e, a, j, q);
+    let node = node_words(s);
+    let before = words_before(s, q);
     HEADER_WORDS + (n * node + before) as usize
 }
 
-pub fn queue_end(e: u64, a: u64, j: u64, n: u64, q: u64) -> usize
-    requires { ⌜ (e ≤ 8) × (a ≤ 8) × (j ≤ 8) × (n < 256) × (q < queues) ⌝ }
-    ensures { λ r. ⌜ ((x y : ℕ) → r ≡ queueEnd (shapeOf x y e a j) n q) ⌝ }
+pub fn queue_end(s: Sizes, n: u64, q: u64) -> usize
+    requires { ⌜ T (sizesInRange (shapeOf s)) × (n < nodes (shapeOf s)) × (q < queues) ⌝ }
+    ensures { λ r. ⌜ r ≡ queueEnd (shapeOf s) n q ⌝ }
 {
-    let start = queue_start(e, a, j, n, q);
-    let slots = capacity(e, a, j, q);
+    let start = queue_start(s, n, q);
+    let slots = capacity(s, q);
     start + (1 + slots) as usize
 }
 
 // The words that the sizes need.
-pub fn need(x: u64, y: u64, e: u64, a: u64, j: u64) -> usize
-    requires { ⌜ (x ≤ 16) × (y ≤ 16) × (e ≤ 8) × (a ≤ 8) × (j ≤ 8) ⌝ }
-    ensures { λ r. ⌜ r ≡ need (shapeOf x y e a j) ⌝ }
+pub fn need(s: Sizes) -> usize
+    requires { ⌜ T (sizesInRange (shapeOf s)) ⌝ }
+    ensures { λ r. ⌜ r ≡ need (shapeOf s) ⌝ }
 {
-    let node = node_words(e, a, j);
-    HEADER_WORDS + (x * y * node) as usize
+    let node = node_words(s);
+    HEADER_WORDS + (s.x * s.y * node) as usize
 }
 
 // The packet becomes the newest of queue q of node n, which has a free slot.
-pub fn push(words: &mut [u64], x: u64, y: u64, e: u64, a: u64, j: u64, n: u64, q: u64, p: u64)
-    requires { ⌜ Checked (shapeOf x y e a j) (now words) n q ⌝ }
-    requires { ⌜ length (held (shapeOf x y e a j) (now words) n q) < capacity (shapeOf x y e a j) q ⌝ }
-    ensures { λ _. ⌜ now (words .exit) ≡ packetArrives (shapeOf x y e a j) (now (words .entry)) n q p ⌝ }
+pub fn push(words: &mut [u64], s: Sizes, n: u64, q: u64, p: u64)
+    requires { ⌜ Checked (shapeOf s) (now words) n q ⌝ }
+    requires { ⌜ length (held (shapeOf s) (now words) n q) < capacity (shapeOf s) q ⌝ }
+    ensures { λ _. ⌜ now (words .exit) ≡ packetArrives (shapeOf s) (now (words .entry)) n q p ⌝ }
 {
-    let start = queue_start(e, a, j, n, q);
-    let end = queue_end(e, a, j, n, q);
+    let start = queue_start(s, n, q);
+    let end = queue_end(s, n, q);
     append_at(words, start, end, p);
 }
 
 // The head of queue q of node n leaves, where there is one.
-pub fn pop(words: &mut [u64], x: u64, y: u64, e: u64, a: u64, j: u64, n: u64, q: u64) -> u64
-    requires { ⌜ Checked (shapeOf x y e a j) (now words) n q ⌝ }
-    requires { ⌜ 0 < length (held (shapeOf x y e a j) (now words) n q) ⌝ }
-    ensures words { λ _. ⌜ now (words .exit) ≡ headLeaves (shapeOf x y e a j) (now (words .entry)) n q ⌝ }
-    ensures head { λ r. ⌜ r ≡ head (held (shapeOf x y e a j) (now (words .entry)) n q) ⌝ }
+pub fn pop(words: &mut [u64], s: Sizes, n: u64, q: u64) -> u64
+    requires { ⌜ Checked (shapeOf s) (now words) n q ⌝ }
+    requires { ⌜ 0 < length (held (shapeOf s) (now words) n q) ⌝ }
+    ensures words { λ _. ⌜ now (words .exit) ≡ headLeaves (shapeOf s) (now (words .entry)) n q ⌝ }
+    ensures head { λ r. ⌜ r ≡ head (held (shapeOf s) (now (words .entry)) n q) ⌝ }
 {
-    let start = queue_start(e, a, j, n, q);
-    let end = queue_end(e, a, j, n, q);
+    let start = queue_start(s, n, q);
+    let end = queue_end(s, n, q);
     remove_at(words, start, end)
 }
 

@@ -11,15 +11,15 @@ use lib.ListN.{length, take, drop, length-take, length-drop}
 use Rattle.base.specs.Tests.{allBelow}
 use Rattle.base.specs.Sums.{sumBelow, sumOf}
 use Rattle.base.specs.Parts.{span}
-use Rattle.network.specs.Sizes.{Shape, nodes, queues, capacity}
+use Rattle.network.specs.Sizes.{Shape, shapeOf, nodes, queues, capacity}
 use Rattle.network.specs.SizesLaws.{range-of, capacity-most}
 use Rattle.network.specs.Packet.{work}
 use Rattle.network.specs.Layout.{need, nodeWords, queueStart, queueEnd, queueLength, queuePart, countOf, packetsOf, held, total}
 use Rattle.network.specs.LayoutLaws.{Fits, end-next, end-length, length-queuePart}
 use Rattle.network.specs.Check.{queueFits, queuesFit, packetsHeld, workLeft}
-use Rattle.packet.specs.Geometry.{shapeOfSizes, RingsFit, nodeAt, OnTorus}
+use Rattle.packet.specs.Geometry.{RingsFit, nodeAt, OnTorus}
 use Rattle.packet.specs.GeometryLaws.{rings-nodes, stands}
-use Rattle.packet.specs.declared.torus.Sizes.{Sizes}
+use Rattle.network.specs.declared.Sizes.{Sizes}
 use Rattle.queue.specs.Queue.{Enough}
 use Rattle.queue_check.specs.declared.Tally.{Tally}
 use Rattle.queue_check.specs.QueueTally.{tally, partFits, nodeTally}
@@ -150,11 +150,11 @@ nodeWorks S w n = sumBelow queues (works S w n)
 
 -- those before n have been tested and summed, n stands in column x and row y, and its words begin at `start`
 pub record NetWalk (s : Sizes) (w : List ℕ) (n x y start held work : ℕ) : Type 0 where
-  pub place : start ≡ queueStart (shapeOfSizes s) n 0
+  pub place : start ≡ queueStart (shapeOf s) n 0
   pub node : nodeAt s x y ≡ n
   pub column : x < s .x
-  pub upto : Upto (nodeFits (shapeOfSizes s) w) (nodeHolds (shapeOfSizes s) w) (nodeWorks (shapeOfSizes s) w) n held work
-  pub within : n ≤ nodes (shapeOfSizes s)
+  pub upto : Upto (nodeFits (shapeOf s) w) (nodeHolds (shapeOf s) w) (nodeWorks (shapeOf s) w) n held work
+  pub within : n ≤ nodes (shapeOf s)
 
 module _ (s : Sizes) (w : List ℕ) where
   pub net-start : RingsFit s → NetWalk s w 0 0 0 8 0 0
@@ -164,42 +164,42 @@ module _ (s : Sizes) (w : List ℕ) where
         place = omega arith;
         node = omega arith;
         column = r .x-least;
-        upto = upto-start (nodeFits (shapeOfSizes s) w) (nodeHolds (shapeOfSizes s) w) (nodeWorks (shapeOfSizes s) w);
+        upto = upto-start (nodeFits (shapeOf s) w) (nodeHolds (shapeOf s) w) (nodeWorks (shapeOf s) w);
         within = omega arith;
       }
 
-  pub net-on : RingsFit s → (n x y start held work : ℕ) → NetWalk s w n x y start held work → n < nodes (shapeOfSizes s) → OnTorus s x y
+  pub net-on : RingsFit s → (n x y start held work : ℕ) → NetWalk s w n x y start held work → n < nodes (shapeOf s) → OnTorus s x y
   net-on r n x y start held work walk h = stands s x y n r (walk .node) (walk .column) h
 
-  pub net-first : (n x y start held work : ℕ) → NetWalk s w n x y start held work → start ≡ queueStart (shapeOfSizes s) (nodeAt s x y) 0
-  net-first n x y start held work walk = walk .place ∙ ap (λ (m : ℕ). queueStart (shapeOfSizes s) m 0) (sym (walk .node))
+  pub net-first : (n x y start held work : ℕ) → NetWalk s w n x y start held work → start ≡ queueStart (shapeOf s) (nodeAt s x y) 0
+  net-first n x y start held work walk = walk .place ∙ ap (λ (m : ℕ). queueStart (shapeOf s) m 0) (sym (walk .node))
 
-  pub net-tally : (n x y start held work : ℕ) (t : Tally) → NetWalk s w n x y start held work → t ≡ nodeTally (shapeOfSizes s) w (nodeAt s x y)
-      → t ≡ tally (nodeFits (shapeOfSizes s) w n) (nodeHolds (shapeOfSizes s) w n) (nodeWorks (shapeOfSizes s) w n)
+  pub net-tally : (n x y start held work : ℕ) (t : Tally) → NetWalk s w n x y start held work → t ≡ nodeTally (shapeOf s) w (nodeAt s x y)
+      → t ≡ tally (nodeFits (shapeOf s) w n) (nodeHolds (shapeOf s) w n) (nodeWorks (shapeOf s) w n)
   unfolding nodeTally
-  net-tally n x y start held work t walk e = e ∙ ap (nodeTally (shapeOfSizes s) w) (walk .node)
+  net-tally n x y start held work t walk e = e ∙ ap (nodeTally (shapeOf s) w) (walk .node)
 
   -- the next node's words begin behind this one's
-  net-next : (n words : ℕ) → words ≡ nodeWords (shapeOfSizes s) → queueStart (shapeOfSizes s) n 0 + words ≡ queueStart (shapeOfSizes s) (n + 1) 0
+  net-next : (n words : ℕ) → words ≡ nodeWords (shapeOf s) → queueStart (shapeOf s) n 0 + words ≡ queueStart (shapeOf s) (n + 1) 0
   unfolding queueStart sumBelow
   net-next n words e =
-      let m : suc n * nodeWords (shapeOfSizes s) ≡ n * nodeWords (shapeOfSizes s) + nodeWords (shapeOfSizes s) = suc-mul n (nodeWords (shapeOfSizes s)) in
-      let a : (n + 1) * nodeWords (shapeOfSizes s) ≡ suc n * nodeWords (shapeOfSizes s) = ap (λ (k : ℕ). k * nodeWords (shapeOfSizes s)) (add-one n) in
+      let m : suc n * nodeWords (shapeOf s) ≡ n * nodeWords (shapeOf s) + nodeWords (shapeOf s) = suc-mul n (nodeWords (shapeOf s)) in
+      let a : (n + 1) * nodeWords (shapeOf s) ≡ suc n * nodeWords (shapeOf s) = ap (λ (k : ℕ). k * nodeWords (shapeOf s)) (add-one n) in
       omega arith
 
   -- and within the words, or at their end
-  pub net-within : Enough (shapeOfSizes s) w → (n x y start held work words : ℕ) → NetWalk s w n x y start held work → n < nodes (shapeOfSizes s)
-      → words ≡ nodeWords (shapeOfSizes s) → start + words ≤ length w
+  pub net-within : Enough (shapeOf s) w → (n x y start held work words : ℕ) → NetWalk s w n x y start held work → n < nodes (shapeOf s)
+      → words ≡ nodeWords (shapeOf s) → start + words ≤ length w
   unfolding queueStart sumBelow need
   net-within enough n x y start held work words walk h e =
-      let p : start ≡ 8 + n * nodeWords (shapeOfSizes s) + 0 = walk .place in
-      let l : 8 + nodes (shapeOfSizes s) * nodeWords (shapeOfSizes s) ≤ length w = enough .long in
-      let m : suc n * nodeWords (shapeOfSizes s) ≤ nodes (shapeOfSizes s) * nodeWords (shapeOfSizes s) = mul-le-mul-right (nodeWords (shapeOfSizes s)) h in
-      let a : suc n * nodeWords (shapeOfSizes s) ≡ n * nodeWords (shapeOfSizes s) + nodeWords (shapeOfSizes s) = suc-mul n (nodeWords (shapeOfSizes s)) in
+      let p : start ≡ 8 + n * nodeWords (shapeOf s) + 0 = walk .place in
+      let l : 8 + nodes (shapeOf s) * nodeWords (shapeOf s) ≤ length w = enough .long in
+      let m : suc n * nodeWords (shapeOf s) ≤ nodes (shapeOf s) * nodeWords (shapeOf s) = mul-le-mul-right (nodeWords (shapeOf s)) h in
+      let a : suc n * nodeWords (shapeOf s) ≡ n * nodeWords (shapeOf s) + nodeWords (shapeOf s) = suc-mul n (nodeWords (shapeOf s)) in
       omega arith
 
-  pub net-more : (n x y start held work words x′ y′ : ℕ) (t : Tally) → NetWalk s w n x y start held work → n < nodes (shapeOfSizes s)
-      → words ≡ nodeWords (shapeOfSizes s) → t ≡ nodeTally (shapeOfSizes s) w (nodeAt s x y) → t .ok ≡ true
+  pub net-more : (n x y start held work words x′ y′ : ℕ) (t : Tally) → NetWalk s w n x y start held work → n < nodes (shapeOf s)
+      → words ≡ nodeWords (shapeOf s) → t ≡ nodeTally (shapeOf s) w (nodeAt s x y) → t .ok ≡ true
       → x′ < s .x → nodeAt s x′ y′ ≡ nodeAt s x y + 1 → NetWalk s w (n + 1) x′ y′ (start + words) (held + t .held) (work + t .work)
   net-more n x y start held work words x′ y′ t walk h ew e ok c en =
       record {
@@ -207,20 +207,20 @@ module _ (s : Sizes) (w : List ℕ) where
         node = en ∙ ap (λ (k : ℕ). k + 1) (walk .node);
         column = c;
         upto =
-            upto-more (nodeFits (shapeOfSizes s) w) (nodeHolds (shapeOfSizes s) w) (nodeWorks (shapeOfSizes s) w) n held work t (walk .upto)
+            upto-more (nodeFits (shapeOf s) w) (nodeHolds (shapeOf s) w) (nodeWorks (shapeOf s) w) n held work t (walk .upto)
             (net-tally n x y start held work t walk e) ok;
         within = omega arith;
       }
 
   -- the sums are small
-  pub net-small : Enough (shapeOfSizes s) w → RingsFit s → (n held work : ℕ) (t : Tally)
-      → Upto (nodeFits (shapeOfSizes s) w) (nodeHolds (shapeOfSizes s) w) (nodeWorks (shapeOfSizes s) w) n held work → n < nodes (shapeOfSizes s)
-      → t ≡ tally (nodeFits (shapeOfSizes s) w n) (nodeHolds (shapeOfSizes s) w n) (nodeWorks (shapeOfSizes s) w n) → t .ok ≡ true
+  pub net-small : Enough (shapeOf s) w → RingsFit s → (n held work : ℕ) (t : Tally)
+      → Upto (nodeFits (shapeOf s) w) (nodeHolds (shapeOf s) w) (nodeWorks (shapeOf s) w) n held work → n < nodes (shapeOf s)
+      → t ≡ tally (nodeFits (shapeOf s) w n) (nodeHolds (shapeOf s) w n) (nodeWorks (shapeOf s) w n) → t .ok ≡ true
       → (held + t .held ≤ 18432) × (work + t .work ≤ 9418752)
   net-small enough r n held work t upto h e ok = sums (upto-more (nodeFits S w) (nodeHolds S w) (nodeWorks S w) n held work t upto e ok)
     where
       S : Shape
-      S = shapeOfSizes s
+      S = shapeOf s
 
       sums : Upto (nodeFits S w) (nodeHolds S w) (nodeWorks S w) (n + 1) (held + t .held) (work + t .work) → (held + t .held ≤ 18432) × (work + t .work ≤ 9418752)
       sums u =
@@ -231,20 +231,20 @@ module _ (s : Sizes) (w : List ℕ) where
           let d = u .hops-left in
           (omega arith, omega arith)
 
-  pub net-stop : (n x y start held work : ℕ) (t r : Tally) → NetWalk s w n x y start held work → n < nodes (shapeOfSizes s)
-      → t ≡ nodeTally (shapeOfSizes s) w (nodeAt s x y) → t .ok ≡ false → ((held work : ℕ) → r ≡ tally false held work)
-      → r ≡ tally (queuesFit (shapeOfSizes s) w) (packetsHeld (shapeOfSizes s) w) (workLeft (shapeOfSizes s) w)
+  pub net-stop : (n x y start held work : ℕ) (t r : Tally) → NetWalk s w n x y start held work → n < nodes (shapeOf s)
+      → t ≡ nodeTally (shapeOf s) w (nodeAt s x y) → t .ok ≡ false → ((held work : ℕ) → r ≡ tally false held work)
+      → r ≡ tally (queuesFit (shapeOf s) w) (packetsHeld (shapeOf s) w) (workLeft (shapeOf s) w)
   unfolding queuesFit packetsHeld workLeft total
   net-stop n x y start held work t r walk h e no′ u =
-      tally-fails r (queuesFit (shapeOfSizes s) w) (packetsHeld (shapeOfSizes s) w) (workLeft (shapeOfSizes s) w) u
-      (upto-stop (nodeFits (shapeOfSizes s) w) (nodeHolds (shapeOfSizes s) w) (nodeWorks (shapeOfSizes s) w) (nodes (shapeOfSizes s)) n t h
+      tally-fails r (queuesFit (shapeOf s) w) (packetsHeld (shapeOf s) w) (workLeft (shapeOf s) w) u
+      (upto-stop (nodeFits (shapeOf s) w) (nodeHolds (shapeOf s) w) (nodeWorks (shapeOf s) w) (nodes (shapeOf s)) n t h
       (net-tally n x y start held work t walk e) no′)
 
-  pub net-done : (n x y start held work : ℕ) → NetWalk s w n x y start held work → nodes (shapeOfSizes s) ≤ n
-      → record { ok = true; held = held; work = work } ≡ tally (queuesFit (shapeOfSizes s) w) (packetsHeld (shapeOfSizes s) w) (workLeft (shapeOfSizes s) w)
+  pub net-done : (n x y start held work : ℕ) → NetWalk s w n x y start held work → nodes (shapeOf s) ≤ n
+      → record { ok = true; held = held; work = work } ≡ tally (queuesFit (shapeOf s) w) (packetsHeld (shapeOf s) w) (workLeft (shapeOf s) w)
   unfolding queuesFit packetsHeld workLeft total
   net-done n x y start held work walk h =
       let m = walk .within in
-      let e : n ≡ nodes (shapeOfSizes s) = omega arith in
-      let u : Upto (nodeFits (shapeOfSizes s) w) (nodeHolds (shapeOfSizes s) w) (nodeWorks (shapeOfSizes s) w) n held work = walk .upto in
-      upto-end (nodeFits (shapeOfSizes s) w) (nodeHolds (shapeOfSizes s) w) (nodeWorks (shapeOfSizes s) w) (nodes (shapeOfSizes s)) held work (rw e at u)
+      let e : n ≡ nodes (shapeOf s) = omega arith in
+      let u : Upto (nodeFits (shapeOf s) w) (nodeHolds (shapeOf s) w) (nodeWorks (shapeOf s) w) n held work = walk .upto in
+      upto-end (nodeFits (shapeOf s) w) (nodeHolds (shapeOf s) w) (nodeWorks (shapeOf s) w) (nodes (shapeOf s)) held work (rw e at u)

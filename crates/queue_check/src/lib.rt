@@ -1,6 +1,8 @@
 // The queues' clauses of the check, and the sums over their packets, in one pass over the words: from a queue's own words to all nodes.
+use network::HEADER_WORDS;
+use network::QUEUES;
+use network::Sizes;
 use packet::torus::Place;
-use packet::torus::Sizes;
 use packet::torus::next_place;
 use packet_check::Limits;
 use packet_check::fill_ring;
@@ -13,10 +15,11 @@ ghost use lib.Dec.{eqb};
 ghost use lib.ListN.{length, drop};
 ghost use Rattle.base.specs.Tests.{allOf};
 ghost use Rattle.base.specs.Sums.{sumOf};
+ghost use Rattle.network.specs.Sizes.{shapeOf};
 ghost use Rattle.network.specs.Packet.{work};
 ghost use Rattle.network.specs.Layout.{countOf, packetsOf, queueStart, queueLength};
 ghost use Rattle.network.specs.Check.{queuesFit, packetsHeld, workLeft};
-ghost use Rattle.packet.specs.Geometry.{shapeOfSizes, nodeAt, OnTorus};
+ghost use Rattle.packet.specs.Geometry.{nodeAt, OnTorus};
 ghost use Rattle.queue.specs.Queue.{Enough};
 ghost use Rattle.packet_check.specs.PacketLimits.{LimitsFit, fitsWithin};
 ghost use Rattle.packet_check.specs.Tables.{Tables};
@@ -71,7 +74,7 @@ fn packets_fit(
 ) -> Tally
     requires { ⌜ OnTorus s x y × LimitsFit s l × (countOf (now part) < length (now part)) × (length (now part) ≤ 9)
         × Tables s (now columns) (now rows) ⌝ }
-    ensures { λ r. ⌜ r ≡ tally (allOf (fitsWithin (shapeOfSizes s) (nodeAt s x y) l) (packetsOf (now (part .entry))))
+    ensures { λ r. ⌜ r ≡ tally (allOf (fitsWithin (shapeOf s) (nodeAt s x y) l) (packetsOf (now (part .entry))))
         (length (packetsOf (now (part .entry)))) (sumOf work (packetsOf (now (part .entry)))) ⌝ }
 {
     let count = part[0] as usize;
@@ -102,9 +105,9 @@ fn queue_fits(
     y: u64,
     q: u64,
 ) -> Tally
-    requires { ⌜ OnTorus s x y × (length (now part) ≡ queueLength (shapeOfSizes s) q) × (length (now part) ≤ 9)
+    requires { ⌜ OnTorus s x y × (length (now part) ≡ queueLength (shapeOf s) q) × (length (now part) ≤ 9)
         × Tables s (now columns) (now rows) ⌝ }
-    ensures { λ r. ⌜ r ≡ tally (partFits (shapeOfSizes s) (nodeAt s x y) q (now (part .entry)))
+    ensures { λ r. ⌜ r ≡ tally (partFits (shapeOf s) (nodeAt s x y) q (now (part .entry)))
         (length (packetsOf (now (part .entry)))) (sumOf work (packetsOf (now (part .entry)))) ⌝ }
 {
     let count = part[0];
@@ -134,16 +137,16 @@ fn node_fits(
     y: u64,
     start: usize,
 ) -> Tally
-    requires { ⌜ OnTorus s x y × Enough (shapeOfSizes s) (now words) × (start ≡ queueStart (shapeOfSizes s) (nodeAt s x y) 0)
+    requires { ⌜ OnTorus s x y × Enough (shapeOf s) (now words) × (start ≡ queueStart (shapeOf s) (nodeAt s x y) 0)
         × Tables s (now columns) (now rows) ⌝ }
-    ensures { λ r. ⌜ r ≡ nodeTally (shapeOfSizes s) (now (words .entry)) (nodeAt s x y) ⌝ }
+    ensures { λ r. ⌜ r ≡ nodeTally (shapeOf s) (now (words .entry)) (nodeAt s x y) ⌝ }
 {
     let mut held = 0;
     let mut work = 0;
     let mut at = start;
     let mut q = 0;
-    while q < 9 {
-        let end = at + queue::capacity(s.escape, s.adaptive, s.injection, q) as usize + 1;
+    while q < QUEUES {
+        let end = at + queue::capacity(s, q) as usize + 1;
         let t = queue_fits(&words[at..end], columns, rows, s, x, y, q);
         if !t.ok {
             return unfit();
@@ -162,19 +165,19 @@ fn node_fits(
 
 // All nodes in order. The tables of both rings are filled first.
 pub fn queues_fit(words: &[u64], s: Sizes) -> Tally
-    requires { ⌜ Enough (shapeOfSizes s) (now words) ⌝ }
-    ensures { λ r. ⌜ r ≡ tally (queuesFit (shapeOfSizes s) (now (words .entry)))
-        (packetsHeld (shapeOfSizes s) (now (words .entry))) (workLeft (shapeOfSizes s) (now (words .entry))) ⌝ }
+    requires { ⌜ Enough (shapeOf s) (now words) ⌝ }
+    ensures { λ r. ⌜ r ≡ tally (queuesFit (shapeOf s) (now (words .entry)))
+        (packetsHeld (shapeOf s) (now (words .entry))) (workLeft (shapeOf s) (now (words .entry))) ⌝ }
 {
     let mut columns = [0u64; 48];
     fill_ring(&mut columns, s.x, 1);
     let mut rows = [0u64; 48];
     fill_ring(&mut rows, s.y, s.x);
     let nodes = packet::torus::nodes(s);
-    let node = queue::node_words(s.escape, s.adaptive, s.injection) as usize;
+    let node = queue::node_words(s) as usize;
     let mut held = 0;
     let mut work = 0;
-    let mut start = queue::HEADER_WORDS;
+    let mut start = HEADER_WORDS;
     let mut place = Place { x: 0, y: 0 };
     let mut n = 0;
     while n < nodes {

@@ -1,13 +1,14 @@
 // The set of heads that may have a permitted move (specs/Ready.antt), as a Drain keeps it: what a move adds to it, and First's move found from it. The
 // set is words of the crate `headset`; the neighbours come out of a table (`packet::near`).
+use network::DIRECTIONS;
 use network::Found;
-use packet::torus::Sizes;
+use network::Sizes;
 ghost use mathlib.Core.Path.{_≡_};
 ghost use Prim.Native.Nat.{_<_};
-ghost use Rattle.network.specs.Sizes.{nodes, queues};
+ghost use Rattle.network.specs.Sizes.{shapeOf, nodes, queues};
 ghost use Rattle.network.specs.CheckLaws.{Network};
 ghost use Rattle.network.specs.Calls.{firstMove};
-ghost use Rattle.packet.specs.Geometry.{shapeOfSizes, RingsFit};
+ghost use Rattle.packet.specs.Geometry.{RingsFit};
 ghost use Rattle.packet.specs.Near.{Near};
 ghost use Rattle.headset.specs.Set.{IsSet};
 ghost use Rattle.ready.specs.Ready.{Covered, Marked, SourceMarked, ArrivalMarked, FeederMarked};
@@ -15,37 +16,37 @@ ghost use Rattle.ready.specs.Ready.{Covered, Marked, SourceMarked, Arriv
 // The head of queue q of node n becomes a member.
 fn mark_head(ready: &mut [u64], s: Sizes, n: u64, q: u64)
     requires { ⌜ IsSet (now ready) ⌝ }
-    requires { ⌜ RingsFit s × (n < nodes (shapeOfSizes s)) × (q < queues) ⌝ }
-    ensures { λ _. ⌜ SourceMarked (shapeOfSizes s) n q (now (ready .entry)) (now (ready .exit)) ⌝ }
+    requires { ⌜ RingsFit s × (n < nodes (shapeOf s)) × (q < queues) ⌝ }
+    ensures { λ _. ⌜ SourceMarked (shapeOf s) n q (now (ready .entry)) (now (ready .exit)) ⌝ }
 {
-    headset::insert(ready, 16 * n + q);
+    headset::insert(ready, headset::NODE_HEADS * n + q);
 }
 
 // The head of the queue at which a packet that left node n by output o has arrived becomes a member.
 fn mark_arrival(ready: &mut [u64], s: Sizes, near: &[u8], n: u64, o: u64)
     requires { ⌜ IsSet (now ready) ⌝ }
-    requires { ⌜ RingsFit s × (n < nodes (shapeOfSizes s)) × (o < queues) ⌝ }
-    requires { ⌜ Near (shapeOfSizes s) (now near) ⌝ }
-    ensures { λ _. ⌜ ArrivalMarked (shapeOfSizes s) n o (now (ready .entry)) (now (ready .exit)) ⌝ }
+    requires { ⌜ RingsFit s × (n < nodes (shapeOf s)) × (o < queues) ⌝ }
+    requires { ⌜ Near (shapeOf s) (now near) ⌝ }
+    ensures { λ _. ⌜ ArrivalMarked (shapeOf s) n o (now (ready .entry)) (now (ready .exit)) ⌝ }
 {
     if o == 0 {
         return;
     }
-    let there = packet::near::look_up(near, (o - 1) % 4, n);
+    let there = packet::near::look_up(near, (o - 1) % DIRECTIONS, n);
     mark_head(ready, s, there, o);
 }
 
 // The heads of the node whose output leads into queue q of node n, where a slot is free now, become members.
 fn mark_feeder(ready: &mut [u64], s: Sizes, near: &[u8], n: u64, q: u64)
     requires { ⌜ IsSet (now ready) ⌝ }
-    requires { ⌜ RingsFit s × (n < nodes (shapeOfSizes s)) ⌝ }
-    requires { ⌜ Near (shapeOfSizes s) (now near) ⌝ }
-    ensures { λ _. ⌜ FeederMarked (shapeOfSizes s) n q (now (ready .entry)) (now (ready .exit)) ⌝ }
+    requires { ⌜ RingsFit s × (n < nodes (shapeOf s)) ⌝ }
+    requires { ⌜ Near (shapeOf s) (now near) ⌝ }
+    ensures { λ _. ⌜ FeederMarked (shapeOf s) n q (now (ready .entry)) (now (ready .exit)) ⌝ }
 {
     if q == 0 {
         return;
     }
-    let d = (q - 1) % 4;
+    let d = (q - 1) % DIRECTIONS;
     let back = d / 2 * 2 + (1 - d % 2);
     let there = packet::near::look_up(near, back, n);
     headset::insert_node(ready, there);
@@ -54,9 +55,9 @@ fn mark_feeder(ready: &mut [u64], s: Sizes, near: &[u8], n: u64, q: u64)
 // The heads that a move may have given a permitted move become members.
 pub fn mark(ready: &mut [u64], s: Sizes, near: &[u8], n: u64, q: u64, o: u64)
     requires { ⌜ IsSet (now ready) ⌝ }
-    requires { ⌜ RingsFit s × (n < nodes (shapeOfSizes s)) × (q < queues) × (o < queues) ⌝ }
-    requires { ⌜ Near (shapeOfSizes s) (now near) ⌝ }
-    ensures { λ _. ⌜ Marked (shapeOfSizes s) n q o (now (ready .entry)) (now (ready .exit)) ⌝ }
+    requires { ⌜ RingsFit s × (n < nodes (shapeOf s)) × (q < queues) × (o < queues) ⌝ }
+    requires { ⌜ Near (shapeOf s) (now near) ⌝ }
+    ensures { λ _. ⌜ Marked (shapeOf s) n q o (now (ready .entry)) (now (ready .exit)) ⌝ }
 {
     mark_head(ready, s, n, q);
     mark_arrival(ready, s, near, n, o);
@@ -65,19 +66,25 @@ pub fn mark(ready: &mut [u64], s: Sizes, near: &[u8], n: u64, q: u64, o: u64)
 
 // First's move, found from the lowest head of the set on. Heads of the set that have none are taken out of it.
 pub fn next_move(words: &[u64], s: Sizes, near: &[u8], ready: &mut [u64]) -> Found
-    requires { ⌜ Network (shapeOfSizes s) (now words) ⌝ }
-    requires { ⌜ Near (shapeOfSizes s) (now near) ⌝ }
-    requires { ⌜ Covered (shapeOfSizes s) (now words) (now ready) ⌝ }
-    ensures answer { λ r. ⌜ r ≡ firstMove (shapeOfSizes s) (now (words .entry)) ⌝ }
-    ensures set { λ _. ⌜ Covered (shapeOfSizes s) (now (words .entry)) (now (ready .exit)) ⌝ }
+    requires { ⌜ Network (shapeOf s) (now words) ⌝ }
+    requires { ⌜ Near (shapeOf s) (now near) ⌝ }
+    requires { ⌜ Covered (shapeOf s) (now words) (now ready) ⌝ }
+    ensures answer { λ r. ⌜ r ≡ firstMove (shapeOf s) (now (words .entry)) ⌝ }
+    ensures set { λ _. ⌜ Covered (shapeOf s) (now (words .entry)) (now (ready .exit)) ⌝ }
 {
     let mut from: u64 = 0;
-    while from < 4096 {
+    while from < headset::HEADS {
         let h = headset::lowest(ready);
-        if 4096 <= h {
+        if headset::HEADS <= h {
             return Found::Nothing;
         }
-        let found = first::first_in_queue(words, s, near, h / 16, h % 16);
+        let found = first::first_in_queue(
+            words,
+            s,
+            near,
+            h / headset::NODE_HEADS,
+            h % headset::NODE_HEADS,
+        );
         match found {
             Found::Refused(_) => {
                 return found;

@@ -14,7 +14,7 @@ use Rattle.base.specs.Tests.{allBelow, someBelow, all-at, all-by, some-at, some
 use Rattle.base.specs.Parts.{getD-span}
 use Rattle.base.specs.Digits.{digit, putDigit, turn}
 use Rattle.base.specs.Bools.{same-test, fails-at, all-more, passes-at, none-more}
-use Rattle.network.specs.Sizes.{Shape, size, nodes, directions, dimensionOf, isPlus, escapeQueue, capacity}
+use Rattle.network.specs.Sizes.{Shape, shapeOf, size, nodes, directions, dimensionOf, isPlus, escapeQueue, capacity}
 use Rattle.network.specs.SizesLaws.{escape-capacity}
 use Rattle.network.specs.PacketLaws.{dimension-lt}
 use Rattle.network.specs.Torus.{coordinate, stride, along}
@@ -22,10 +22,9 @@ use Rattle.network.specs.TorusLaws.{Torus, size-pos, coordinate-lt}
 use Rattle.network.specs.Layout.{need, nodeWords, queueStart, queueEnd, queueLength, queuePart, countOf, packetsOf, held}
 use Rattle.network.specs.LayoutLaws.{Fits, end-start, end-length, length-queuePart}
 use Rattle.network.specs.Check.{hasRoom, ringHasRoom}
-use Rattle.network.specs.Calls.{shapeOf}
-use Rattle.packet.specs.Geometry.{shapeOfSizes, RingsFit, weight, nodeAt, OnTorus}
+use Rattle.packet.specs.Geometry.{RingsFit, weight, nodeAt, OnTorus}
 use Rattle.packet.specs.GeometryLaws.{rings-torus, size-x, size-y, weight-x, weight-y, put-weight, node-is, nodes-is, node-lt, column-is, row-is, moved-is}
-use Rattle.packet.specs.declared.torus.Sizes.{Sizes}
+use Rattle.network.specs.declared.Sizes.{Sizes}
 use Rattle.queue.specs.Queue.{Enough}
 use Rattle.ring_check.specs.Lines.{ringRoom, RingIn, linesRoom, LinesIn}
 
@@ -130,7 +129,7 @@ pub record Lines (S : Shape) (i u v lines : ℕ) : Type 0 where
   pub step-short : v ≤ nodes S
 
 -- a row or a column, and one node, are not more than all nodes
-some-nodes : (s : Sizes) → RingsFit s → (1 ≤ nodes (shapeOfSizes s)) × (s .x ≤ nodes (shapeOfSizes s))
+some-nodes : (s : Sizes) → RingsFit s → (1 ≤ nodes (shapeOf s)) × (s .x ≤ nodes (shapeOf s))
 some-nodes s r =
     let e = nodes-is s in
     let a = r .x-least in
@@ -138,48 +137,48 @@ some-nodes s r =
     let o = mul-one (s .x) in
     (omega arith, omega arith)
 
-pub rows : (s : Sizes) → RingsFit s → Lines (shapeOfSizes s) 0 (s .x) 1 (s .y)
+pub rows : (s : Sizes) → RingsFit s → Lines (shapeOf s) 0 (s .x) 1 (s .y)
 rows s r =
     record {
       node = λ l j h k. let a = node-lt s j l (on l j h k) in let o = mul-one j in omega arith;
       at =
           λ l j h k.
-          ap (λ (m : ℕ). coordinate (shapeOfSizes s) 0 (l * s .x + m)) (mul-one j) ∙ sym (column-is s j l (on l j h k));
+          ap (λ (m : ℕ). coordinate (shapeOf s) 0 (l * s .x + m)) (mul-one j) ∙ sym (column-is s j l (on l j h k));
       of =
           λ n h.
-          let o = mul-one (coordinate (shapeOfSizes s) 0 n) in
-          let e = node-is {s = s} {x = coordinate (shapeOfSizes s) 0 n} {y = coordinate (shapeOfSizes s) 1 n} n r h refl refl in
-          let c = coordinate-lt (shapeOfSizes s) 1 n (rings-torus s r) (omega arith) in
+          let o = mul-one (coordinate (shapeOf s) 0 n) in
+          let e = node-is {s = s} {x = coordinate (shapeOf s) 0 n} {y = coordinate (shapeOf s) 1 n} n r h refl refl in
+          let c = coordinate-lt (shapeOf s) 1 n (rings-torus s r) (omega arith) in
           let z = size-y s 1 refl in
-          (coordinate (shapeOfSizes s) 1 n, omega arith, omega arith);
+          (coordinate (shapeOf s) 1 n, omega arith, omega arith);
       step = weight-x s 0 refl;
       line-short = some-nodes s r .1;
       step-short = some-nodes s r .0;
     }
   where
-    on : (l j : ℕ) → l < s .y → j < size (shapeOfSizes s) 0 → OnTorus s j l
+    on : (l j : ℕ) → l < s .y → j < size (shapeOf s) 0 → OnTorus s j l
     on l j h k = record { rings = r; column = let z = size-x s 0 refl in omega arith; row = h }
 
-pub columns : (s : Sizes) → RingsFit s → Lines (shapeOfSizes s) 1 1 (s .x) (s .x)
+pub columns : (s : Sizes) → RingsFit s → Lines (shapeOf s) 1 1 (s .x) (s .x)
 columns s r =
     record {
       node = λ l j h k. let a = node-lt s l j (on l j h k) in let o = mul-one l in omega arith;
       at =
           λ l j h k.
-          ap (coordinate (shapeOfSizes s) 1) (swap l j) ∙ sym (row-is s l j (on l j h k));
+          ap (coordinate (shapeOf s) 1) (swap l j) ∙ sym (row-is s l j (on l j h k));
       of =
           λ n h.
-          let o = mul-one (coordinate (shapeOfSizes s) 0 n) in
-          let e = node-is {s = s} {x = coordinate (shapeOfSizes s) 0 n} {y = coordinate (shapeOfSizes s) 1 n} n r h refl refl in
-          let c = coordinate-lt (shapeOfSizes s) 0 n (rings-torus s r) (omega arith) in
+          let o = mul-one (coordinate (shapeOf s) 0 n) in
+          let e = node-is {s = s} {x = coordinate (shapeOf s) 0 n} {y = coordinate (shapeOf s) 1 n} n r h refl refl in
+          let c = coordinate-lt (shapeOf s) 0 n (rings-torus s r) (omega arith) in
           let z = size-x s 0 refl in
-          (coordinate (shapeOfSizes s) 0 n, omega arith, omega arith);
+          (coordinate (shapeOf s) 0 n, omega arith, omega arith);
       step = weight-y s 1 refl;
       line-short = some-nodes s r .0;
       step-short = some-nodes s r .1;
     }
   where
-    on : (l j : ℕ) → l < s .x → j < size (shapeOfSizes s) 1 → OnTorus s l j
+    on : (l j : ℕ) → l < s .x → j < size (shapeOf s) 1 → OnTorus s l j
     on l j h k = record { rings = r; column = h; row = let z = size-y s 1 refl in omega arith }
 
     swap : (l j : ℕ) → l * 1 + j * s .x ≡ nodeAt s l j
@@ -403,40 +402,40 @@ module _
 
 -- for direction d: where the first of its escape queues stands, a node's words, and a row's
 pub record Found (s : Sizes) (d first node row : ℕ) : Type 0 where
-  pub start : first ≡ queueStart (shapeOfSizes s) 0 (escapeQueue d)
-  pub one : node ≡ nodeWords (shapeOfSizes s)
+  pub start : first ≡ queueStart (shapeOf s) 0 (escapeQueue d)
+  pub one : node ≡ nodeWords (shapeOf s)
   pub all : row ≡ s .x * node
 
 -- the rings of an x direction are the rows, those of a y direction the columns
-module _ (s : Sizes) (w : List ℕ) (d first node row : ℕ) (r : RingsFit s) (enough : Enough (shapeOfSizes s) w) (hd : d < directions) (found : Found s d first node row) where
-  row-words : row ≡ s .x * nodeWords (shapeOfSizes s)
+module _ (s : Sizes) (w : List ℕ) (d first node row : ℕ) (r : RingsFit s) (enough : Enough (shapeOf s) w) (hd : d < directions) (found : Found s d first node row) where
+  row-words : row ≡ s .x * nodeWords (shapeOf s)
   row-words = found .all ∙ ap (λ (k : ℕ). s .x * k) (found .one)
 
-  node-word : node ≡ 1 * nodeWords (shapeOfSizes s)
-  node-word = found .one ∙ sym (one-mul (nodeWords (shapeOfSizes s)))
+  node-word : node ≡ 1 * nodeWords (shapeOf s)
+  node-word = found .one ∙ sym (one-mul (nodeWords (shapeOf s)))
 
-  rows-of : d < 2 → Lines (shapeOfSizes s) (dimensionOf d) (s .x) 1 (s .y)
-  rows-of h = subst (λ (i : ℕ). Lines (shapeOfSizes s) i (s .x) 1 (s .y)) (let e : 0 ≡ dimensionOf d = omega arith in e) (rows s r)
+  rows-of : d < 2 → Lines (shapeOf s) (dimensionOf d) (s .x) 1 (s .y)
+  rows-of h = subst (λ (i : ℕ). Lines (shapeOf s) i (s .x) 1 (s .y)) (let e : 0 ≡ dimensionOf d = omega arith in e) (rows s r)
 
-  rows-computed : d < 2 → Computed (shapeOfSizes s) d (s .x) 1 first row node (s .escape) (s .x)
+  rows-computed : d < 2 → Computed (shapeOf s) d (s .x) 1 first row node (s .escape) (s .x)
   unfolding shapeOf
   rows-computed h = record { start = found .start; far = row-words; near = node-word; room = refl; round = size-x s (dimensionOf d) (omega arith) }
 
   pub rows-in : d < 2 → LinesIn w first row (s .y) node (s .x)
-  rows-in h = lines-in (shapeOfSizes s) w d (s .x) 1 (s .y) first row node (s .escape) (s .x) enough (rings-torus s r) hd (rows-of h) (rows-computed h)
+  rows-in h = lines-in (shapeOf s) w d (s .x) 1 (s .y) first row node (s .escape) (s .x) enough (rings-torus s r) hd (rows-of h) (rows-computed h)
 
-  pub rows-are : d < 2 → (b : Bool) → b ≡ linesRoom w (s .escape) first row (s .y) node (s .x) → b ≡ allBelow (nodes (shapeOfSizes s)) (λ n. ringHasRoom (shapeOfSizes s) w d n)
-  rows-are h b e = e ∙ lines-are (shapeOfSizes s) w d (s .x) 1 (s .y) first row node (s .escape) (s .x) enough (rings-torus s r) hd (rows-of h) (rows-computed h)
+  pub rows-are : d < 2 → (b : Bool) → b ≡ linesRoom w (s .escape) first row (s .y) node (s .x) → b ≡ allBelow (nodes (shapeOf s)) (λ n. ringHasRoom (shapeOf s) w d n)
+  rows-are h b e = e ∙ lines-are (shapeOf s) w d (s .x) 1 (s .y) first row node (s .escape) (s .x) enough (rings-torus s r) hd (rows-of h) (rows-computed h)
 
-  columns-of : 2 ≤ d → Lines (shapeOfSizes s) (dimensionOf d) 1 (s .x) (s .x)
-  columns-of h = subst (λ (i : ℕ). Lines (shapeOfSizes s) i 1 (s .x) (s .x)) (let e : 1 ≡ dimensionOf d = omega arith in e) (columns s r)
+  columns-of : 2 ≤ d → Lines (shapeOf s) (dimensionOf d) 1 (s .x) (s .x)
+  columns-of h = subst (λ (i : ℕ). Lines (shapeOf s) i 1 (s .x) (s .x)) (let e : 1 ≡ dimensionOf d = omega arith in e) (columns s r)
 
-  columns-computed : 2 ≤ d → Computed (shapeOfSizes s) d 1 (s .x) first node row (s .escape) (s .y)
+  columns-computed : 2 ≤ d → Computed (shapeOf s) d 1 (s .x) first node row (s .escape) (s .y)
   unfolding shapeOf
   columns-computed h = record { start = found .start; far = node-word; near = row-words; room = refl; round = size-y s (dimensionOf d) (omega arith) }
 
   pub columns-in : 2 ≤ d → LinesIn w first node (s .x) row (s .y)
-  columns-in h = lines-in (shapeOfSizes s) w d 1 (s .x) (s .x) first node row (s .escape) (s .y) enough (rings-torus s r) hd (columns-of h) (columns-computed h)
+  columns-in h = lines-in (shapeOf s) w d 1 (s .x) (s .x) first node row (s .escape) (s .y) enough (rings-torus s r) hd (columns-of h) (columns-computed h)
 
-  pub columns-are : 2 ≤ d → (b : Bool) → b ≡ linesRoom w (s .escape) first node (s .x) row (s .y) → b ≡ allBelow (nodes (shapeOfSizes s)) (λ n. ringHasRoom (shapeOfSizes s) w d n)
-  columns-are h b e = e ∙ lines-are (shapeOfSizes s) w d 1 (s .x) (s .x) first node row (s .escape) (s .y) enough (rings-torus s r) hd (columns-of h) (columns-computed h)
+  pub columns-are : 2 ≤ d → (b : Bool) → b ≡ linesRoom w (s .escape) first node (s .x) row (s .y) → b ≡ allBelow (nodes (shapeOf s)) (λ n. ringHasRoom (shapeOf s) w d n)
+  columns-are h b e = e ∙ lines-are (shapeOf s) w d 1 (s .x) (s .x) first node row (s .escape) (s .y) enough (rings-torus s r) hd (columns-of h) (columns-computed h)

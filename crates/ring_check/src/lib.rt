@@ -1,12 +1,13 @@
 // The rings' clause of the check (R80, R81): no escape ring is full. The queues of a ring stand at equal distances in the words, and
 // so do the first queues of the rings of a direction: each ring is looked at once, and no node is computed.
-use packet::torus::Sizes;
+use network::DIRECTIONS;
+use network::FIRST_ESCAPE;
+use network::Sizes;
 ghost use mathlib.Core.Path.{_≡_};
 ghost use Prim.Native.Nat.{_<_};
 ghost use Rattle.base.specs.Tests.{allBelow};
-ghost use Rattle.network.specs.Sizes.{directions, nodes};
+ghost use Rattle.network.specs.Sizes.{shapeOf, directions, nodes};
 ghost use Rattle.network.specs.Check.{ringHasRoom, ringsHaveRoom};
-ghost use Rattle.packet.specs.Geometry.{shapeOfSizes};
 ghost use Rattle.queue.specs.Queue.{Enough};
 ghost use Rattle.ring_check.specs.Lines.{ringRoom, RingIn, linesRoom, LinesIn};
 
@@ -54,12 +55,12 @@ fn lines_room(
 
 // The rings of direction d: rows for x, and columns for y.
 fn direction_has_room(words: &[u64], s: Sizes, d: u64) -> bool
-    requires { ⌜ Enough (shapeOfSizes s) (now words) × (d < directions) ⌝ }
-    ensures { λ r. ⌜ r ≡ allBelow (nodes (shapeOfSizes s)) (λ n. ringHasRoom (shapeOfSizes s) (now (words .entry)) d n) ⌝ }
+    requires { ⌜ Enough (shapeOf s) (now words) × (d < directions) ⌝ }
+    ensures { λ r. ⌜ r ≡ allBelow (nodes (shapeOf s)) (λ n. ringHasRoom (shapeOf s) (now (words .entry)) d n) ⌝ }
 {
-    let node = queue::node_words(s.escape, s.adaptive, s.injection);
+    let node = queue::node_words(s);
     let row = s.x * node;
-    let first = queue::queue_start(s.escape, s.adaptive, s.injection, 0, 5 + d);
+    let first = queue::queue_start(s, 0, FIRST_ESCAPE + d);
     if d < 2 {
         return lines_room(
             words,
@@ -83,11 +84,11 @@ fn direction_has_room(words: &[u64], s: Sizes, d: u64) -> bool
 }
 
 pub fn rings_have_room(words: &[u64], s: Sizes) -> bool
-    requires { ⌜ Enough (shapeOfSizes s) (now words) ⌝ }
-    ensures { λ r. ⌜ r ≡ ringsHaveRoom (shapeOfSizes s) (now (words .entry)) ⌝ }
+    requires { ⌜ Enough (shapeOf s) (now words) ⌝ }
+    ensures { λ r. ⌜ r ≡ ringsHaveRoom (shapeOf s) (now (words .entry)) ⌝ }
 {
     let mut d = 0;
-    while d < 4 {
+    while d < DIRECTIONS {
         if !direction_has_room(words, s, d) {
             return false;
         }

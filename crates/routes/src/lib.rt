@@ -1,17 +1,12 @@
 // The routes of a head (R140 to R147): its outputs in the order in which First tries them, and whether an output is one of them. The
 // contracts say each answer by the definitions of the crate `network` (specs/Routes.antt).
+use network::DIRECTIONS;
 use packet::distance;
 use packet::heading;
 ghost use mathlib.Core.Path.{_≡_};
 ghost use Rattle.base.specs.Tests.{elem};
 ghost use Rattle.network.specs.Routes.{incoming, routes};
 ghost use Rattle.routes.specs.AreRoutes.{AreRoutes};
-
-// The directions x+, x-, y+, y-, and the queues of a node: the injection queue, and an adaptive and an escape queue for each
-// direction.
-pub const DIRECTIONS: u64 = 4;
-
-pub const QUEUES: u64 = 9;
 
 // The first `count` outputs, in order.
 pub struct HeadRoutes {

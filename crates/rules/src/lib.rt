@@ -3,37 +3,29 @@
 use flow::flow_rules;
 use flow::head;
 use flow::held_count;
-use packet::torus::Sizes;
+use network::ACCEPTED_AT;
+use network::COUNT_SPENT;
+use network::INJECTION_FULL;
+use network::MOST_ACCEPTED;
+use network::NO_ROUTE;
+use network::NO_SUCH_NODE;
+use network::NO_SUCH_OUTPUT;
+use network::NO_SUCH_QUEUE;
+use network::QUEUE_EMPTY;
+use network::QUEUES;
+use network::Sizes;
 use packet::torus::nodes;
 use queue::capacity;
-use routes::QUEUES;
 use routes::is_route;
 ghost use mathlib.Core.Path.{_≡_};
+ghost use Rattle.network.specs.Sizes.{shapeOf};
 ghost use Rattle.network.specs.CheckLaws.{Network};
 ghost use Rattle.network.specs.Refusals.{offerRules, moveRules, creditRules, lookRules};
-ghost use Rattle.packet.specs.Geometry.{shapeOfSizes, RingsFit};
-
-// The numbers of R164 to R170; 11 and 12 stand in `flow`.
-pub const NO_SUCH_NODE: u64 = 4;
-
-pub const NO_SUCH_QUEUE: u64 = 5;
-
-pub const NO_SUCH_OUTPUT: u64 = 6;
-
-pub const INJECTION_FULL: u64 = 7;
-
-pub const COUNT_SPENT: u64 = 8;
-
-pub const QUEUE_EMPTY: u64 = 9;
-
-pub const NO_ROUTE: u64 = 10;
-
-// The largest number of packets accepted, 2^32 - 1.
-const MOST_ACCEPTED: u64 = 4294967295;
+ghost use Rattle.packet.specs.Geometry.{RingsFit};
 
 pub fn offer_rules(words: &[u64], s: Sizes, n: u64, destination: u64) -> u64
-    requires { ⌜ Network (shapeOfSizes s) (now words) ⌝ }
-    ensures { λ r. ⌜ r ≡ offerRules (shapeOfSizes s) (now (words .entry)) n destination ⌝ }
+    requires { ⌜ Network (shapeOf s) (now words) ⌝ }
+    ensures { λ r. ⌜ r ≡ offerRules (shapeOf s) (now (words .entry)) n destination ⌝ }
 {
     let count = nodes(s);
     if count <= n {
@@ -42,8 +34,8 @@ pub fn offer_rules(words: &[u64], s: Sizes, n: u64, destination: u64) -> u64
     if count <= destination {
         return NO_SUCH_NODE;
     }
-    let accepted = words[queue::ACCEPTED_AT];
-    let slots = capacity(s.escape, s.adaptive, s.injection, 0);
+    let accepted = words[ACCEPTED_AT];
+    let slots = capacity(s, 0);
     let held = held_count(words, s, n, 0);
     if accepted == MOST_ACCEPTED {
         return COUNT_SPENT;
@@ -55,8 +47,8 @@ pub fn offer_rules(words: &[u64], s: Sizes, n: u64, destination: u64) -> u64
 }
 
 pub fn move_rules(words: &[u64], s: Sizes, n: u64, q: u64, o: u64) -> u64
-    requires { ⌜ Network (shapeOfSizes s) (now words) ⌝ }
-    ensures { λ r. ⌜ r ≡ moveRules (shapeOfSizes s) (now (words .entry)) n q o ⌝ }
+    requires { ⌜ Network (shapeOf s) (now words) ⌝ }
+    ensures { λ r. ⌜ r ≡ moveRules (shapeOf s) (now (words .entry)) n q o ⌝ }
 {
     if nodes(s) <= n {
         return NO_SUCH_NODE;
@@ -79,7 +71,7 @@ pub fn move_rules(words: &[u64], s: Sizes, n: u64, q: u64, o: u64) -> u64
 
 pub fn credit_rules(s: Sizes, n: u64, o: u64) -> u64
     requires { ⌜ RingsFit s ⌝ }
-    ensures { λ r. ⌜ r ≡ creditRules (shapeOfSizes s) n o ⌝ }
+    ensures { λ r. ⌜ r ≡ creditRules (shapeOf s) n o ⌝ }
 {
     if nodes(s) <= n {
         return NO_SUCH_NODE;
@@ -95,7 +87,7 @@ pub fn credit_rules(s: Sizes, n: u64, o: u64) -> u64
 
 pub fn look_rules(s: Sizes, n: u64, q: u64) -> u64
     requires { ⌜ RingsFit s ⌝ }
-    ensures { λ r. ⌜ r ≡ lookRules (shapeOfSizes s) n q ⌝ }
+    ensures { λ r. ⌜ r ≡ lookRules (shapeOf s) n q ⌝ }
 {
     if nodes(s) <= n {
         return NO_SUCH_NODE;

@@ -4,27 +4,26 @@
 use mathlib.Core.Path.{_≡_, refl, ap, sym, _∙_}
 use mathlib.Core.Logic.{_⊎_, inl, inr, _≢_}
 use mathlib.Core.Bool.{Bool, true, false, cond, not, _&&_}
-use mathlib.Core.List.{List, []}
-use Prim.Native.Nat.{ℕ, zero, suc, _+_, _-_, _/_, _<_, _≤_}
+use mathlib.Core.List.{List}
+use Prim.Native.Nat.{ℕ, zero, suc, _+_, _-_, _<_, _≤_}
 use native.Mathlib.Nat.{lt-suc-self, le-step, not-suc-le-zero, eq-or-lt-of-le, le-of-suc-le-suc}
 use native.Mathlib.Decide.{ℕ-discrete, decLt}
 use native.Mathlib.Numerals.{add-one}
 use native.Mathlib.Omega.{arith}
 use borrow.Author.Tests.{eq-eqb}
-use lib.Dec.{T, eqb}
+use lib.Dec.{eqb}
 use lib.ListN.{length}
-use Rattle.base.specs.Tests.{elem}
-use Rattle.network.specs.Sizes.{Shape, size, nodes, queues, directions, dimensions, dimensionOf, directionOf, isEscape, injectionQueue, escapeQueue, capacity}
+use Rattle.network.specs.Sizes.{Shape, size, nodes, queues, directions, dimensionOf, directionOf, isEscape, escapeQueue, capacity}
 use Rattle.network.specs.SizesLaws.{range-of, escape-capacity}
 use Rattle.network.specs.Packet.{distance, hops, heading, hopsLeft}
-use Rattle.network.specs.PacketLaws.{dimension-lt, heading-lt, heading-dimension, hops-heading, heading-of}
+use Rattle.network.specs.PacketLaws.{dimension-lt, heading-lt, heading-dimension, heading-of}
 use Rattle.network.specs.Torus.{along, neighbour}
 use Rattle.network.specs.TorusLaws.{Torus, along-lt, along-add, along-zero, along-round, neighbour-lt, size-pos}
 use Rattle.network.specs.Layout.{held}
 use Rattle.network.specs.LayoutLaws.{some-held}
 use Rattle.network.specs.Check.{packetFits, packetsHeld, opposite}
 use Rattle.network.specs.CheckLaws.{PacketFits, packet-of, Network, both-zero}
-use Rattle.network.specs.Routes.{routes, deliver, target, entersRing, slotsNeeded, freeSlots}
+use Rattle.network.specs.Routes.{deliver, target, entersRing, slotsNeeded, freeSlots}
 use Rattle.network.specs.RoutesLaws.{EscapeRoute, escape-route, arrived-route}
 use Rattle.network.specs.Refusals.{head}
 use Rattle.network.specs.RefusalLaws.{Permitted}

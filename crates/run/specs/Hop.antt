@@ -1,20 +1,17 @@
 -- A packet that goes on by one of its routes fits the queue that it comes to. Order: what a route says of the packet; the packet after the hop.
 -- Argued once over the direction. Assumes nothing.
-use mathlib.Core.Path.{_≡_, refl, ap, sym, _∙_}
+use mathlib.Core.Path.{_≡_, ap, sym, _∙_}
 use mathlib.Core.Logic.{_⊎_, inl, inr, _≢_}
-use mathlib.Core.Bool.{Bool, true, false}
-use mathlib.Core.List.{List}
-use Prim.Native.Nat.{ℕ, zero, suc, _+_, _-_, _*_, _/_, _%_, _<_, _≤_}
-use native.Mathlib.Nat.{le-trans, le-of-eq}
+use Prim.Native.Nat.{ℕ, _+_, _-_, _<_, _≤_}
 use native.Mathlib.Decide.{ℕ-discrete}
 use native.Mathlib.Omega.{arith}
 use lib.Dec.{T, ltb→lt}
-use Rattle.network.specs.Sizes.{Shape, size, nodes, queues, directions, dimensions, dimensionOf, directionOf, isEscape, injectionQueue, adaptiveQueue, escapeQueue}
-use Rattle.network.specs.Packet.{destination, distance, hops, heading, hop}
+use Rattle.network.specs.Sizes.{Shape, nodes, directions, dimensions, dimensionOf, directionOf, isEscape, injectionQueue, adaptiveQueue, escapeQueue}
+use Rattle.network.specs.Packet.{distance, hops, heading, hop}
 use Rattle.network.specs.PacketLaws.{dimension-lt, destination-hop, distance-hop-same, distance-hop-other, hops-hop-same, hops-le, heading-dimension, heading-lt, hops-heading}
 use Rattle.network.specs.Torus.{neighbour}
 use Rattle.network.specs.TorusLaws.{Torus, movedBy-hop}
-use Rattle.network.specs.Check.{reach, opposite}
+use Rattle.network.specs.Check.{longest, reach, opposite}
 use Rattle.network.specs.CheckLaws.{PacketFits, reach-least, reach-most, reach-other, opposite-dimension, opposite-lt, only-way}
 use Rattle.network.specs.RoutesLaws.{Onward}
 use Rattle.run.specs.Rings.{escape-direction}
@@ -90,20 +87,20 @@ hopped-fits S n q p o d tor hn f g =
     hi : i < dimensions
     hi = dimension-lt d (g .direction)
 
-    close : (j : ℕ) → j < dimensions → Dec (j ≡ i) → reach j o (hop i p) ≤ size S j / 2
+    close : (j : ℕ) → j < dimensions → Dec (j ≡ i) → reach j o (hop i p) ≤ longest S j
     close j hj (yes e) =
         let a : reach j o (hop i p) ≤ distance j (hop i p) + 1 = reach-most j o (hop i p) in
         let b : distance j (hop i p) ≡ distance j p - 1 = rw e (distance-hop-same i p hi) in
         let c : hops d p ≤ distance j p = rw e (hops-le d p) in
         let x : hops d p ≢ 0 = g .left in
         let y : distance j p ≤ reach j q p = reach-least j q p in
-        let z : reach j q p ≤ size S j / 2 = f .near j hj in
+        let z : reach j q p ≤ longest S j = f .near j hj in
         omega arith
     close j hj (no ne) =
         let a : reach j o (hop i p) ≡ distance j (hop i p) = reach-other j o (hop i p) (λ e. ne (sym (sym (ap dimensionOf (g .out)) ∙ e))) in
         let b : distance j (hop i p) ≡ distance j p = distance-hop-other i j p hi hj ne in
         let y : distance j p ≤ reach j q p = reach-least j q p in
-        let z : reach j q p ≤ size S j / 2 = f .near j hj in
+        let z : reach j q p ≤ longest S j = f .near j hj in
         omega arith
 
     other-way : hops (opposite d) (hop i p) ≡ 0

@@ -1,15 +1,15 @@
 -- The queue clause of the check under the changes that calls make to words: one queue replaced, one counter raised. Assumes nothing.
-use mathlib.Core.Path.{_≡_, refl, ap, sym, _∙_}
-use mathlib.Core.Logic.{_⊎_, inl, inr, _≢_}
+use mathlib.Core.Path.{_≡_, refl}
+use mathlib.Core.Logic.{_≢_}
 use mathlib.Core.List.{List, [], _∷_, _++_}
-use Prim.Native.Nat.{ℕ, zero, suc, _+_, _-_, _<_, _≤_}
+use Prim.Native.Nat.{ℕ, suc, _+_, _-_, _<_, _≤_}
 use native.Mathlib.Decide.{ℕ-discrete}
 use native.Mathlib.Omega.{arith}
-use lib.Dec.{T, eqb}
+use lib.Dec.{T}
 use lib.ListN.{length, drop}
 use Rattle.base.specs.Tests.{allOf, allOf-head, allOf-tail, allOf-append}
 use Rattle.network.specs.Sizes.{Shape, nodes, queues, capacity}
-use Rattle.network.specs.Layout.{headerWords, queueLength, queuePart, countOf, packetsOf, unusedOf, queueWords, held, putQueue, raised, need}
+use Rattle.network.specs.Layout.{headerWords, queueLength, queuePart, countOf, packetsOf, queueWords, held, putQueue, raised}
 use Rattle.network.specs.LayoutLaws.{Fits, length-queuePart, length-packetsOf, countOf-queueWords, packetsOf-queueWords, unused-zero, part-put-same, part-put-other, part-raised}
 use Rattle.network.specs.Check.{packetFits}
 use Rattle.network.specs.CheckLaws.{QueueFits}
@@ -72,12 +72,6 @@ fit-put S w n q ps at l t f m r hm hr = go (same? n q m r)
 pub fit-raised : (S : Shape) (at : ℕ) (w : List ℕ) → at < headerWords → AllFit S w → AllFit S (raised at w)
 unfolding AllFit
 fit-raised S at w h f m r hm hr = fits-part S w (raised at w) m r (part-raised S at w m r h) (f m r hm hr)
-
--- a queue that holds something is its head and the rest
-pub head-rest : (ps : List ℕ) → length ps ≢ 0 → ps ≡ head ps ∷ drop 1 ps
-unfolding head
-head-rest [] ne = absurd (ne refl)
-head-rest (p ∷ ps) ne = refl
 
 pub length-rest : (ps : List ℕ) → length ps ≢ 0 → suc (length (drop 1 ps)) ≡ length ps
 length-rest [] ne = absurd (ne refl)

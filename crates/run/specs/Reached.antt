@@ -13,7 +13,8 @@ use lib.Seq.{ext-getD, getD-append-add}
 use Rattle.base.specs.Tests.{allOf}
 use Rattle.base.specs.Sums.{sumOf, sumBelow, sum-zero, sumOf-append}
 use Rattle.base.specs.Parts.{span, length-span, getD-span}
-use Rattle.network.specs.Sizes.{Shape, size, sizesInRange, nodes, queues, directions, dimensions, injectionQueue, escapeQueue, capacity}
+use Rattle.network.specs.declared.Sizes.{Sizes}
+use Rattle.network.specs.Sizes.{Shape, shapeOf, sized, size, sizesInRange, nodes, queues, directions, dimensions, injectionQueue, escapeQueue, capacity}
 use Rattle.network.specs.SizesLaws.{range-of, capacity-pos}
 use Rattle.network.specs.Packet.{destination, work}
 use Rattle.network.specs.Torus.{along}
@@ -25,7 +26,7 @@ use Rattle.network.specs.CheckLaws.{PacketFits, packet-by, Network}
 use Rattle.network.specs.Refusals.{networkRefusal, makeRefusal, offerRules, offerRefusal}
 use Rattle.network.specs.RefusalLaws.{not-refused, neither, network-passed, network-passes}
 use Rattle.network.specs.OfferLaws.{SizesAtMost16, destination-offered, distance-offered, work-offered, movedBy-offered}
-use Rattle.network.specs.Calls.{shapeOf, emptyNetwork, makeWords, offered, afterOffer, offerWords}
+use Rattle.network.specs.Calls.{emptyNetwork, makeWords, offered, afterOffer, offerWords}
 use Rattle.run.specs.Queues.{AllFit, held-few, fits-words, fit-put, fit-raised, allOf-newest}
 use Rattle.run.specs.Rings.{Room, RingRoom, ring-of, ring-by, escape-lt}
 use Rattle.run.specs.Theorem.{torus}
@@ -99,15 +100,15 @@ module _ (S : Shape) (w : List ℕ) (tor : Torus S) (B : Blank S w) where
 -- Make ----------------------------------------------------------------------------------------------------------------------------------
 
 -- what Make writes, with any words behind it
-module _ (x y e a j : ℕ) (rest : List ℕ) where
+module _ (s : Sizes) (rest : List ℕ) where
   S : Shape
-  S = shapeOf x y e a j
+  S = shapeOf s
 
   made : List ℕ
   made = emptyNetwork S ++ rest
 
   header : List ℕ
-  header = x ∷ y ∷ e ∷ a ∷ j ∷ 0 ∷ 0 ∷ 0 ∷ []
+  header = s .x ∷ s .y ∷ s .escape ∷ s .adaptive ∷ s .injection ∷ 0 ∷ 0 ∷ 0 ∷ []
 
   blanks : List ℕ
   blanks = replicate (nodes S * nodeWords S) 0
@@ -147,7 +148,7 @@ module _ (x y e a j : ℕ) (rest : List ℕ) where
   unfolding made S emptyNetwork shapeOf shape
   made-shape = refl
 
-  made-passes : T (sizesInRange (shapeOf x y e a j)) → networkRefusal (emptyNetwork (shapeOf x y e a j) ++ rest) ≡ 0
+  made-passes : T (sizesInRange (shapeOf s)) → networkRefusal (emptyNetwork (shapeOf s) ++ rest) ≡ 0
   unfolding made S shapeOf
   made-passes t = network-passes made (subst (λ (R : Shape). Network R made) (sym made-shape) (blank-network S made (inRange-torus S t refl) (made-blank t)))
 
@@ -158,8 +159,11 @@ two (x ∷ []) l = absurd (let z : 1 ≡ 2 = l in omega arith)
 two (x ∷ y ∷ []) l = refl
 two (x ∷ y ∷ z ∷ ks) l = absurd (let n : suc (suc (suc (length ks))) ≡ 2 = l in omega arith)
 
-shape-is : (S : Shape) → length (S .sizes) ≡ dimensions → S ≡ shapeOf (size S 0) (size S 1) (S .escape) (S .adaptive) (S .injection)
-unfolding shapeOf size
+sizesOf : Shape → Sizes
+sizesOf S = sized (size S 0) (size S 1) (S .escape) (S .adaptive) (S .injection)
+
+shape-is : (S : Shape) → length (S .sizes) ≡ dimensions → S ≡ shapeOf (sizesOf S)
+unfolding shapeOf size sizesOf
 shape-is S l = λ i. record { sizes = two (S .sizes) l i; escape = S .escape; adaptive = S .adaptive; injection = S .injection }
 
 passed : (b : Bool) → not b ≡ false → T b
@@ -171,10 +175,10 @@ pub make-passes : (S : Shape) (w : List ℕ) → length (S .sizes) ≡ dimension
 unfolding makeWords makeRefusal
 make-passes S w two-dimensional e =
     let (range, rest) = not-refused (not (sizesInRange S)) 1 _ e in
-    let whole : S ≡ shapeOf (size S 0) (size S 1) (S .escape) (S .adaptive) (S .injection) = shape-is S two-dimensional in
+    let whole : S ≡ shapeOf (sizesOf S) = shape-is S two-dimensional in
     rw (eq-eqb (makeRefusal S w) 0 e)
     (subst (λ (R : Shape). networkRefusal (emptyNetwork R ++ drop (need S) w) ≡ 0) (sym whole)
-    (made-passes (size S 0) (size S 1) (S .escape) (S .adaptive) (S .injection) (drop (need S) w)
+    (made-passes (sizesOf S) (drop (need S) w)
     (subst (λ (R : Shape). T (sizesInRange R)) whole (passed (sizesInRange S) range))))
 
 -- The packet of an offer ----------------------------------------------------------------------------------------------------------------

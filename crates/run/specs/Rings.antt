@@ -1,18 +1,18 @@
 -- The ring clause of the check: a free slot somewhere round an escape ring. Order: the clause as a fact; words in which no queue grew but the target
 -- of a move. Assumes nothing.
-use mathlib.Core.Path.{_≡_, refl, ap, sym, _∙_}
-use mathlib.Core.Logic.{_⊎_, inl, inr, _≢_}
+use mathlib.Core.Path.{_≡_, ap, sym, _∙_}
+use mathlib.Core.Logic.{_≢_}
 use mathlib.Core.Bool.{Bool, true, false, cond, not, _&&_}
 use mathlib.Core.List.{List}
-use Prim.Native.Nat.{ℕ, zero, suc, _+_, _-_, _*_, _/_, _%_, _<_, _≤_}
-use native.Mathlib.Nat.{mod-lt, mod-add-div', lt-of-le-of-lt, add-comm}
+use Prim.Native.Nat.{ℕ, suc, _+_, _-_, _*_, _/_, _%_, _<_, _≤_}
+use native.Mathlib.Nat.{mod-lt, mod-add-div', lt-of-le-of-lt}
 use native.Mathlib.Decide.{ℕ-discrete}
 use native.Mathlib.Omega.{arith}
 use borrow.Author.Tests.{ne-eqb}
 use lib.Dec.{T, ltb, ltb→lt, lt→ltb, eqb}
 use lib.ListN.{length}
-use Rattle.base.specs.Tests.{someBelow, some-at, some-by}
-use Rattle.network.specs.Sizes.{Shape, size, nodes, queues, directions, dimensions, dimensionOf, directionOf, isEscape, escapeQueue, capacity}
+use Rattle.base.specs.Tests.{some-at, some-by}
+use Rattle.network.specs.Sizes.{Shape, size, nodes, queues, directions, dimensionOf, directionOf, isEscape, escapeQueue, capacity}
 use Rattle.network.specs.PacketLaws.{dimension-lt}
 use Rattle.network.specs.Torus.{along, neighbour}
 use Rattle.network.specs.TorusLaws.{Torus, along-lt, along-add, along-rounds, along-round, size-pos}

@@ -2,15 +2,14 @@
 -- the head leaving its queue; a delivery; a hop; a permitted move. Assumes nothing.
 use mathlib.Core.Path.{_≡_, refl, ap, sym, _∙_, fun-ext}
 use mathlib.Core.Logic.{_⊎_, inl, inr, _≢_}
-use mathlib.Core.Bool.{Bool, true, false, cond, _&&_}
+use mathlib.Core.Bool.{true, cond, _&&_}
 use mathlib.Core.List.{List, [], _∷_, _++_}
-use Prim.Native.Nat.{ℕ, zero, suc, _+_, _-_, _*_, _/_, _<_, _≤_}
-use native.Mathlib.Nat.{zero-add, add-zero, add-assoc, lt-of-lt-of-le}
-use native.Mathlib.Decide.{ℕ-discrete}
+use Prim.Native.Nat.{ℕ, suc, _+_, _-_, _*_, _<_, _≤_}
+use native.Mathlib.Nat.{zero-add, add-zero}
 use native.Mathlib.Omega.{arith}
 use borrow.Author.Tests.{eq-eqb, ne-eqb}
-use lib.Dec.{T, eqb, eqb-refl}
-use lib.ListN.{length, drop, getD, length-append}
+use lib.Dec.{T, eqb}
+use lib.ListN.{length, drop, length-append}
 use Rattle.base.specs.Tests.{allOf, allOf-append, and-i}
 use Rattle.base.specs.Sums.{sumOf, sumOf-append}
 use Rattle.network.specs.Sizes.{Shape, size, nodes, queues, directions, dimensionOf, directionOf, escapeQueue, capacity}
@@ -20,15 +19,15 @@ use Rattle.network.specs.Torus.{along, neighbour}
 use Rattle.network.specs.TorusLaws.{Torus, along-lt, neighbour-lt, neighbour-apart, movedBy-here}
 use Rattle.network.specs.Layout.{headerWords, shape, need, held, putQueue, raised, total, accepted, delivered, movesMade, acceptedAt, deliveredAt, movesAt}
 use Rattle.network.specs.LayoutLaws.{Fits, held-put-same, held-put-other, length-put, shape-put, accepted-put, delivered-put, movesMade-put, rest-put, fits-put, length-raised, held-raised, raised-same, raised-other, shape-raised, rest-raised, total-raised, total-put}
-use Rattle.network.specs.Check.{packetFits, ringHasRoom, packetsHeld, workLeft, mostWork, reach}
-use Rattle.network.specs.CheckLaws.{PacketFits, packet-of, packet-by, QueueFits, Network, reach-least, eq-T}
+use Rattle.network.specs.Check.{longest, packetFits, ringHasRoom, packetsHeld, workLeft, mostWork, reach}
+use Rattle.network.specs.CheckLaws.{PacketFits, packet-of, packet-by, Network, reach-least, eq-T}
 use Rattle.network.specs.Routes.{deliver, target, slotsNeeded, freeSlots}
 use Rattle.network.specs.RoutesLaws.{Onward, route-of}
 use Rattle.network.specs.Refusals.{head}
 use Rattle.network.specs.RefusalLaws.{Permitted, needed-pos}
 use Rattle.network.specs.Calls.{Delivery, headLeaves, packetArrives, afterMove}
 use Rattle.network.specs.Run.{isLabelled, heldWith, handedWith, atHome}
-use Rattle.run.specs.Queues.{same?, held-few, AllFit, fit-put, fit-raised, head-rest, length-rest, allOf-rest, allOf-first, allOf-newest}
+use Rattle.run.specs.Queues.{same?, held-few, AllFit, fit-put, fit-raised, length-rest, allOf-rest, allOf-first, allOf-newest}
 use Rattle.run.specs.Rings.{Shifted, ring-kept, ring-of, ring-by, Room, RingRoom, escape-lt}
 use Rattle.run.specs.Hop.{Going, going, hopped-fits}
 
@@ -414,7 +413,7 @@ module _ (S : Shape) (w : List ℕ) (n q : ℕ) (tor : Torus S) (N : Network S w
             let b : hops d (head (held S w n q)) ≤ distance (dimensionOf d) (head (held S w n q)) = hops-le d (head (held S w n q)) in
             let c : distance (dimensionOf d) (head (held S w n q)) ≤ reach (dimensionOf d) q (head (held S w n q)) =
             reach-least (dimensionOf d) q (head (held S w n q)) in
-            let x : reach (dimensionOf d) q (head (held S w n q)) ≤ size S (dimensionOf d) / 2 = head-fits .near (dimensionOf d) (dimension-lt d (g .direction)) in
+            let x : reach (dimensionOf d) q (head (held S w n q)) ≤ longest S (dimensionOf d) = head-fits .near (dimensionOf d) (dimension-lt d (g .direction)) in
             omega arith
 
     there-held : held S (headLeaves S w n q) there o ≡ held S w there o

@@ -7,8 +7,8 @@ use Prim.Native.Nat.{ℕ, _≤_}
 use lib.ListN.{length}
 use Rattle.sheet.specs.declared.Command.{Command}
 use Rattle.sheet.specs.Lines.{Kept, lines, endedPart}
-use Rattle.sheet.specs.Commands.{commandOf, keptCommand}
-use Rattle.sheet.specs.Cutting.{heldBytes, Cutting, feedByte, feedBytes, feedReads, startCutting, finishCutting}
+use Rattle.sheet.specs.Commands.{keptCommand}
+use Rattle.sheet.specs.Cutting.{heldBytes, Cutting, feedBytes, feedReads, startCutting, finishCutting}
 use Rattle.sheet.specs.Cuts.{handedBefore, bytes-behind, kept-commands, commands-right, cut-so-far}
 use Rattle.session.specs.Session.{Performed, perform, performAll, newStore, sheetOutput}
 

@@ -4,8 +4,9 @@ use mathlib.Core.List.{List, [], _∷_, _++_, map}
 use Prim.Native.Nat.{ℕ, _+_, _*_}
 use Prim.Native.Char.{code}
 use lib.ListN.{replicate}
+use Rattle.network.specs.Sizes.{shapeOf, sized}
 use Rattle.network.specs.Refusals.{makeRefusal, offerRefusal}
-use Rattle.network.specs.Calls.{shapeOf, makeWords, offerWords, moveWords, moveAnswer, drainWords, drainLedger, drainAnswer}
+use Rattle.network.specs.Calls.{makeWords, offerWords, moveWords, moveAnswer, drainWords, drainLedger, drainAnswer}
 use Rattle.sheet.specs.declared.Command.{Command}
 use Rattle.sheet.specs.Lines.{lines}
 use Rattle.sheet.specs.Commands.{commandOf}
@@ -26,7 +27,7 @@ newLedger = replicate ledgerWords 0
 -- R243 to R246, R248: which call a command is, and what it prints
 unfoldable pub perform : Command → List ℕ → Performed
 perform (Command.Make x y e a j) w =
-    record { store = makeWords (shapeOf x y e a j) w; output = answerLine (code "T") (makeRefusal (shapeOf x y e a j) w) }
+    record { store = makeWords (shapeOf (sized x y e a j)) w; output = answerLine (code "T") (makeRefusal (shapeOf (sized x y e a j)) w) }
 perform (Command.Offer node destination tag) w =
     record { store = offerWords w node destination tag; output = answerLine (code "O") (offerRefusal w node destination) }
 perform (Command.Move node queue output) w = record { store = moveWords w node queue output; output = movedLines (moveAnswer w node queue output) }

@@ -7,6 +7,7 @@ use Rattle.base.specs.Tests.{allOf}
 use Rattle.network.specs.declared.Moved.{Moved}
 use Rattle.network.specs.declared.Stop.{Stop}
 use Rattle.network.specs.declared.Drained.{Drained}
+use Rattle.base.specs.Digits.{product, digit}
 use Rattle.network.specs.Packet.{tag, destination}
 use Rattle.network.specs.Calls.{drainedDelivered}
 use Rattle.sheet.specs.declared.Command.{Command}
@@ -62,7 +63,7 @@ pub record Examples : Type 0 where
       × (decimal 18446744073709551615 ≡ text "18446744073709551615")
 
 pub examples : Examples
-unfolding allOf tag destination withoutCr lastLine linesFrom lines kept firstField laterFields isDigit valueFrom value noLeadingZero isNumber commandWith wellFormed commandOf decimalWithin decimal fieldsAndEnd line badLine answerLine packetLine packetLines movedLines stopWord stoppedLine drainLine drainedDelivered drainedLines
+unfolding allOf product digit tag destination withoutCr lastLine linesFrom lines kept firstField laterFields isDigit valueFrom value noLeadingZero isNumber commandWith wellFormed commandOf decimalWithin decimal fieldsAndEnd line badLine answerLine packetLine packetLines movedLines stopWord stoppedLine drainLine drainedDelivered drainedLines
 examples =
     record {
       ends = (refl, refl, refl, refl, refl);

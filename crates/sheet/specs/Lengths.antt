@@ -1,11 +1,12 @@
 -- How long the lines of an answer are at most, for a caller who lends the buffer. Order: a line of a letter and a number; a packet's; packets'; a
 -- delivery's; a Drain's. Assumes nothing.
 use mathlib.Core.List.{List, [], _∷_, _++_}
-use Prim.Native.Nat.{ℕ, suc, _+_, _*_, _/_, _%_, _^_, _<_, _≤_}
+use Prim.Native.Nat.{ℕ, suc, _+_, _*_, _^_, _<_, _≤_}
 use native.Mathlib.Omega.{arith}
 use lib.ListN.{length, getD, length-append}
 use Rattle.network.specs.declared.Stop.{Stop}
 use Rattle.network.specs.Packet.{tag, destination}
+use Rattle.network.specs.PacketLaws.{tag-within, destination-within}
 use Rattle.sheet.specs.Output.{decimal, fieldsAndEnd, line, answerLine, packetLine, packetLines, stopWord, stoppedLine, answerRoom, packetRoom, movedRoom, drainRoom}
 use Rattle.sheet.specs.Decimals.{decimal-length}
 
@@ -16,10 +17,10 @@ answer-length letter n h =
     simp length-append (omega arith)
 
 pub packet-length : (p : ℕ) → p < 2 ^ 64 → length (packetLine p) ≤ packetRoom
-unfolding packetLine line fieldsAndEnd tag destination
+unfolding packetLine line fieldsAndEnd
 packet-length p h =
-    let t : length (decimal (p / 2 ^ 32)) ≤ 10 = decimal-length 9 (p / 2 ^ 32) (omega arith) in
-    let d : length (decimal (p / 2 ^ 16 % 2 ^ 16)) ≤ 5 = decimal-length 4 (p / 2 ^ 16 % 2 ^ 16) (omega arith) in
+    let t : length (decimal (tag p)) ≤ 10 = decimal-length 9 (tag p) (let l = tag-within p h in omega arith) in
+    let d : length (decimal (destination p)) ≤ 5 = decimal-length 4 (destination p) (let l = destination-within p in omega arith) in
     simp length-append (omega arith)
 
 pub packets-length : (ps : List ℕ) → ((i : ℕ) → getD ps i 0 < 2 ^ 64) → length (packetLines ps) ≤ packetRoom * length ps

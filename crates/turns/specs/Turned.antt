@@ -11,7 +11,6 @@ use Rattle.network.specs.declared.Stop.{Stop}
 use Rattle.network.specs.Sizes.{Shape}
 use Rattle.network.specs.TorusLaws.{Torus}
 use Rattle.network.specs.Layout.{held, accepted, delivered, need, headerWords}
-use Rattle.network.specs.Check.{packetsHeld}
 use Rattle.network.specs.CheckLaws.{Network}
 use Rattle.network.specs.Refusals.{head}
 use Rattle.network.specs.RefusalLaws.{Permitted}

@@ -1,16 +1,14 @@
 -- One turn of a Drain, and that turns one after the other are the Drain of the definitions. Order: what a turn comes to and leaves; a Drain by its first
 -- turn; a Drain by the turns made so far. Assumes nothing.
 use mathlib.Core.Path.{_≡_, refl, ap, ap₂, sym, _∙_, subst}
-use mathlib.Core.Logic.{_⊎_, inl, inr, _≢_}
-use mathlib.Core.Bool.{Bool, true, false, cond}
-use mathlib.Core.List.{List, [], _∷_, _++_, map, append-assoc}
-use Prim.Native.Nat.{ℕ, zero, suc, _+_, _-_, _<_, _≤_}
-use native.Mathlib.Nat.{zero-add, suc-add}
+use mathlib.Core.Logic.{_≢_}
+use mathlib.Core.Bool.{cond}
+use mathlib.Core.List.{List, [], _∷_, _++_, append-assoc}
+use Prim.Native.Nat.{ℕ, zero, suc, _+_, _-_}
 use native.Mathlib.Decide.{ℕ-discrete}
 use native.Mathlib.Omega.{arith}
 use borrow.Author.Tests.{eq-eqb, ne-eqb}
-use lib.Dec.{T, eqb}
-use lib.ListN.{length, drop, set, length-append, getD}
+use lib.Dec.{eqb}
 use Rattle.network.specs.declared.Found.{Found}
 use Rattle.network.specs.declared.Stop.{Stop}
 use Rattle.network.specs.Sizes.{Shape}
@@ -23,7 +21,7 @@ use Rattle.network.specs.Refusals.{head}
 use Rattle.network.specs.RefusalLaws.{Permitted}
 use Rattle.network.specs.FirstLaws.{Finds, nothing, named, first-finds}
 use Rattle.network.specs.Calls.{NamedMove, Delivery, Progress, afterMove, firstMove, stopped, oneMore, deliverNext, moveNext, drainFrom}
-use Rattle.run.specs.Step.{Ran, step}
+use Rattle.run.specs.Step.{step}
 use Rattle.turns.specs.declared.Turn.{Turn}
 
 -- what a turn comes to, by the move that First names: the stops come first

@@ -1,14 +1,16 @@
 // One turn of a Drain: its stops, tested in their order (R133), or one move. A turn does not search the nodes from the first: a set
 // of heads goes along that holds every head which may have a permitted move (crate `ready`), so that what a move costs does not
 // grow with the network, and a table of neighbours. The move is First's all the same, and that is what the contracts say.
+use network::ACCEPTED_AT;
+use network::DELIVERED_AT;
 use network::Found;
+use network::Sizes;
 use network::Stop;
-use packet::torus::Sizes;
 ghost use mathlib.Core.Path.{_≡_};
+ghost use Rattle.network.specs.Sizes.{shapeOf};
 ghost use Rattle.network.specs.declared.Found.{Found};
 ghost use Rattle.network.specs.CheckLaws.{Network};
 ghost use Rattle.network.specs.RefusalLaws.{Permitted};
-ghost use Rattle.packet.specs.Geometry.{shapeOfSizes};
 ghost use Rattle.packet.specs.Near.{Near};
 ghost use Rattle.ready.specs.Ready.{Covered};
 ghost use Rattle.turns.specs.Turns.{turnBy, byWords, turnAnswer, turnWords};
@@ -31,13 +33,13 @@ fn turn_by_move(
     q: u64,
     o: u64,
 ) -> Turn
-    requires { ⌜ Network (shapeOfSizes s) (now words) ⌝ }
-    requires { ⌜ Near (shapeOfSizes s) (now near) ⌝ }
-    requires { ⌜ Covered (shapeOfSizes s) (now words) (now ready) ⌝ }
-    requires { ⌜ Permitted (shapeOfSizes s) (now words) n q o ⌝ }
-    ensures answer { λ r. ⌜ r ≡ turnBy (shapeOfSizes s) (now (words .entry)) room (Found.Move n q o) ⌝ }
-    ensures words { λ _. ⌜ now (words .exit) ≡ byWords (shapeOfSizes s) (now (words .entry)) room (Found.Move n q o) ⌝ }
-    ensures set { λ _. ⌜ Covered (shapeOfSizes s) (byWords (shapeOfSizes s) (now (words .entry)) room (Found.Move n q o)) (now (ready .exit)) ⌝ }
+    requires { ⌜ Network (shapeOf s) (now words) ⌝ }
+    requires { ⌜ Near (shapeOf s) (now near) ⌝ }
+    requires { ⌜ Covered (shapeOf s) (now words) (now ready) ⌝ }
+    requires { ⌜ Permitted (shapeOf s) (now words) n q o ⌝ }
+    ensures answer { λ r. ⌜ r ≡ turnBy (shapeOf s) (now (words .entry)) room (Found.Move n q o) ⌝ }
+    ensures words { λ _. ⌜ now (words .exit) ≡ byWords (shapeOf s) (now (words .entry)) room (Found.Move n q o) ⌝ }
+    ensures set { λ _. ⌜ Covered (shapeOf s) (byWords (shapeOf s) (now (words .entry)) room (Found.Move n q o)) (now (ready .exit)) ⌝ }
 {
     if o != 0 {
         changes::make_move(words, s, n, q, o);
@@ -61,14 +63,14 @@ pub fn take_turn(
     budget: u64,
     room: u64,
 ) -> Turn
-    requires { ⌜ Network (shapeOfSizes s) (now words) ⌝ }
-    requires { ⌜ Near (shapeOfSizes s) (now near) ⌝ }
-    requires { ⌜ Covered (shapeOfSizes s) (now words) (now ready) ⌝ }
-    ensures answer { λ r. ⌜ r ≡ turnAnswer (shapeOfSizes s) (now (words .entry)) budget room ⌝ }
-    ensures words { λ _. ⌜ now (words .exit) ≡ turnWords (shapeOfSizes s) (now (words .entry)) budget room ⌝ }
-    ensures set { λ _. ⌜ Covered (shapeOfSizes s) (turnWords (shapeOfSizes s) (now (words .entry)) budget room) (now (ready .exit)) ⌝ }
+    requires { ⌜ Network (shapeOf s) (now words) ⌝ }
+    requires { ⌜ Near (shapeOf s) (now near) ⌝ }
+    requires { ⌜ Covered (shapeOf s) (now words) (now ready) ⌝ }
+    ensures answer { λ r. ⌜ r ≡ turnAnswer (shapeOf s) (now (words .entry)) budget room ⌝ }
+    ensures words { λ _. ⌜ now (words .exit) ≡ turnWords (shapeOf s) (now (words .entry)) budget room ⌝ }
+    ensures set { λ _. ⌜ Covered (shapeOf s) (turnWords (shapeOf s) (now (words .entry)) budget room) (now (ready .exit)) ⌝ }
 {
-    if words[queue::ACCEPTED_AT] == words[queue::DELIVERED_AT] {
+    if words[ACCEPTED_AT] == words[DELIVERED_AT] {
         return Turn::Stopped(Stop::Emptied);
     }
     if budget == 0 {

@@ -1,5 +1,6 @@
 // Answers written as lines into a lent buffer. Each function puts bytes at a place and gives the place behind them; the caller
 // sees that there is room.
+use network::BAD_LINE;
 use network::Drained;
 use network::Moved;
 use network::Stop;
@@ -31,7 +32,7 @@ pub fn put_bad(out: &mut [u8], at: usize) -> usize
     requires { ⌜ at + answerRoom ≤ length (now out) ⌝ }
     ensures { λ r. ⌜ Put (now (out .entry)) at badLine (now (out .exit)) r ⌝ }
 {
-    put_answer(out, at, b'?', 13)
+    put_answer(out, at, b'?', BAD_LINE)
 }
 
 // A packet that was delivered, by its word: its tag and its destination.

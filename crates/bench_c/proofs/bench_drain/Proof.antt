@@ -1,6 +1,6 @@
 -- `bench_c::bench_drain` meets its contract: the call's, with the answer in numbers. Assumes nothing.
 use borrow.Author.Needs.{needs}
-use mathlib.Core.Path.{_≡_, ap, sym, _∙_}
+use mathlib.Core.Path.{ap, _∙_}
 use Rattle.network.specs.Calls.{drainedNumber}
 use Rattle.bench_c.specs.Outs.{drainedOut}
 use Rattle.bench_c.proofs.bench_drain.Statement.{statement}

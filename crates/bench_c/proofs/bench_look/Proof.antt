@@ -1,15 +1,11 @@
 -- `bench_c::bench_look` meets its contract. Assumes nothing.
 use borrow.Author.Needs.{needs}
-use mathlib.Core.Path.{_≡_, sym, _∙_}
+use mathlib.Core.Path.{sym, _∙_}
 use denote.Ref.{now}
-use Prim.Native.Nat.{ℕ, _+_, _≤_}
-use native.Mathlib.Nat.{lt-of-lt-of-le}
+use Prim.Native.Nat.{_+_, _≤_}
 use native.Mathlib.Omega.{arith}
 use lib.ListN.{length}
-use Rattle.network.specs.Calls.{shapeOf}
-use Rattle.network.specs.SizesLaws.{range-of}
-use Rattle.packet.specs.Geometry.{shapeOfSizes}
-use Rattle.packet.specs.GeometryLaws.{inRange-rings, rings-nodes}
+use Rattle.network.specs.Sizes.{shapeOf}
 use Rattle.calls.specs.Answers.{Looking, looking, looking-long, held-end}
 use Rattle.bench_c.specs.OutLaws.{look-cleared, look-told}
 use Rattle.bench_c.proofs.bench_look.Statement.{statement}
@@ -42,20 +38,16 @@ sizes-of-requires c κs =
 -- src/lib.rt:68:9
 -- the look is not refused
 look : (c : tie.After-sizes-of)
-    → Looking (shapeOfSizes (c .sizes-of .result)) (now (c .before .before .before .before .args .words)) (c .before .before .before .before .args .node) (c .before .before .before .before .args .queue)
+    → Looking (shapeOf (c .sizes-of .result)) (now (c .before .before .before .before .args .words)) (c .before .before .before .before .args .node) (c .before .before .before .before .args .queue)
 look c =
     let a = c .before .before .before .before in
     let r = c .before .before .look-refusal in
-    looking (shapeOfSizes (c .sizes-of .result)) (now (a .args .words)) (a .args .node) (a .args .queue) (r .result) (r .ensures) (c .before .if1 .left) (c .sizes-of .ensures)
+    looking (shapeOf (c .sizes-of .result)) (now (a .args .words)) (a .args .node) (a .args .queue) (r .result) (r .ensures) (c .before .if1 .left) (c .sizes-of .ensures)
 
 queue-start-requires : tie.Need-queue-start-requires
-unfolding shapeOf
 queue-start-requires c κs =
     let k = look c in
-    let z = c .sizes-of in
-    let g = range-of (shapeOfSizes (z .result)) (k .network .in-range) in
-    let few = rings-nodes (z .result) (inRange-rings (z .result) (k .network .in-range)) in
-    (g .escape .high, g .adaptive .high, g .injection .high, lt-of-lt-of-le (k .node) few, k .queue)
+    (k .network .in-range, k .node, k .queue)
 
 -- src/lib.rt:69:9
 held-count-requires : tie.Need-held-count-requires
@@ -68,7 +60,7 @@ add-from c =
     let z = c .before .before .sizes-of in
     let q = c .before .queue-start in
     let e : q .result + 1 + c .held-count .result ≤ length (now (a .args .words)) =
-    held-end (shapeOfSizes (z .result)) (now (a .args .words)) (a .args .node) (a .args .queue) (q .result) (c .held-count .result) (look (c .before .before)) (q .ensures (z .result .x) (z .result .y)) (c .held-count .ensures) in
+    held-end (shapeOf (z .result)) (now (a .args .words)) (a .args .node) (a .args .queue) (q .result) (c .held-count .result) (look (c .before .before)) (q .ensures) (c .held-count .ensures) in
     omega (arith, a .good .0)
 
 -- src/lib.rt:57:1
@@ -80,7 +72,7 @@ returns-2 c =
     let z = c .before .before .before .sizes-of in
     let q = c .before .before .queue-start in
     let h = c .before .held-count in
-    (sym none, look-told (shapeOfSizes (z .result)) (now (a .args .words)) (a .args .node) (a .args .queue) (q .result) (h .result) (z .ensures) none (q .ensures (z .result .x) (z .result .y)) (h .ensures))
+    (sym none, look-told (shapeOf (z .result)) (now (a .args .words)) (a .args .node) (a .args .queue) (q .result) (h .result) (z .ensures) none (q .ensures) (h .ensures))
 
 pub bench-look-spec : {M : Type 1} → statement M
 bench-look-spec =

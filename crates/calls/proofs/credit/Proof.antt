@@ -2,7 +2,7 @@
 use borrow.Author.Needs.{needs}
 use mathlib.Core.Path.{_≡_, sym, _∙_, subst}
 use denote.Ref.{now}
-use Rattle.packet.specs.Geometry.{shapeOfSizes}
+use Rattle.network.specs.Sizes.{shapeOf}
 use Rattle.packet.specs.GeometryLaws.{inRange-rings}
 use Rattle.calls.specs.Answers.{still-broken, sound, long-enough, credit-broken, credit-refused, credit-free, credit-place}
 use mathlib.Core.Path.{ap}
@@ -47,7 +47,7 @@ credit-rules-requires c κs =
     let a = c .before .before .before .before in
     let r = c .before .before .network-refusal in
     let z = c .sizes-of in
-    inRange-rings (z .result) (sound (shapeOfSizes (z .result)) (now (a .args .words)) (r .result) (r .ensures) (c .before .if1 .left) (z .ensures) .in-range)
+    inRange-rings (z .result) (sound (shapeOf (z .result)) (now (a .args .words)) (r .result) (r .ensures) (c .before .if1 .left) (z .ensures) .in-range)
 
 -- src/lib.rt:95:9
 returns-2 : tie.Need-returns-2
@@ -56,7 +56,7 @@ returns-2 c =
     let r = c .before .before .before .before .network-refusal in
     let z = c .before .before .sizes-of in
     let o = c .before .credit-rules in
-    with-values (credit-refused (shapeOfSizes (z .result)) (now (a .args .words)) (a .args .node) (a .args .output) (o .result) (sym (r .ensures) ∙ c .before .before .before .if1 .left) (z .ensures) (sym (o .ensures)) (c .if2 .taken))
+    with-values (credit-refused (shapeOf (z .result)) (now (a .args .words)) (a .args .node) (a .args .output) (o .result) (sym (r .ensures) ∙ c .before .before .before .if1 .left) (z .ensures) (sym (o .ensures)) (c .if2 .taken))
 
 -- src/lib.rt:97:18
 free-slots-requires : tie.Need-free-slots-requires
@@ -65,8 +65,8 @@ free-slots-requires c κs =
     let r = c .before .before .before .before .network-refusal in
     let z = c .before .before .sizes-of in
     let o = c .before .credit-rules in
-    let k = credit-place (shapeOfSizes (z .result)) (a .args .node) (a .args .output) (sym (o .ensures) ∙ c .if2 .left) in (
-      record { network = sound (shapeOfSizes (z .result)) (now (a .args .words)) (r .result) (r .ensures) (c .before .before .before .if1 .left) (z .ensures); node = k .0; queue = k .2 },
+    let k = credit-place (shapeOf (z .result)) (a .args .node) (a .args .output) (sym (o .ensures) ∙ c .if2 .left) in (
+      record { network = sound (shapeOf (z .result)) (now (a .args .words)) (r .result) (r .ensures) (c .before .before .before .if1 .left) (z .ensures); node = k .0; queue = k .2 },
       k .1,
     )
 
@@ -77,7 +77,7 @@ returns-3 c =
     let r = c .before .before .before .before .before .network-refusal in
     let z = c .before .before .before .sizes-of in
     let o = c .before .before .credit-rules in
-    with-values (credit-free (shapeOfSizes (z .result)) (now (a .args .words)) (a .args .node) (a .args .output) (c .free-slots .result) (sym (r .ensures) ∙ c .before .before .before .before .if1 .left) (z .ensures)
+    with-values (credit-free (shapeOf (z .result)) (now (a .args .words)) (a .args .node) (a .args .output) (c .free-slots .result) (sym (r .ensures) ∙ c .before .before .before .before .if1 .left) (z .ensures)
     (sym (o .ensures) ∙ c .before .if2 .left) (c .free-slots .ensures))
 
 pub credit-spec : {M : Type 1} → statement M

@@ -2,10 +2,10 @@
 use borrow.Author.Needs.{needs}
 use mathlib.Core.Path.{_≡_, sym, _∙_, subst}
 use denote.Ref.{now}
-use Rattle.packet.specs.Geometry.{shapeOfSizes}
 use mathlib.Core.Path.{ap}
 use mathlib.Core.List.{List}
 use Prim.Native.Nat.{ℕ}
+use Rattle.network.specs.Sizes.{shapeOf}
 use Rattle.network.specs.declared.Drained.{Drained}
 use Rattle.network.specs.Calls.{drainAnswer}
 use Rattle.network.specs.Answers.{DrainTells, drain-tells}
@@ -50,7 +50,7 @@ drain-network-requires c κs =
     let a = c .before .before .before .before .before .before .before .before .before in
     let r = c .before .before .before .before .before .network-refusal in
     let z = c .before .before .sizes-of in
-    sound (shapeOfSizes (z .result)) (now (a .args .words)) (r .result) (r .ensures) (c .before .before .before .before .if1 .left) (z .ensures)
+    sound (shapeOf (z .result)) (now (a .args .words)) (r .result) (r .ensures) (c .before .before .before .before .if1 .left) (z .ensures)
 
 -- src/lib.rt:139:1
 same-length-2 : tie.Need-same-length-2
@@ -67,7 +67,7 @@ returns-2 c =
     let r = c .before .before .before .before .before .before .before .before .before .before .network-refusal in
     let z = c .before .before .before .before .before .before .before .sizes-of in
     let d = c .before .before .before .before .drain-network in
-    let x = drain-done (shapeOfSizes (z .result)) (now (a .args .words)) (a .args .budget) (now (a .args .ledger)) (d .last .0) (d .last .1 .1 .1 .0) (d .ensures .made) (d .ensures .handed) (d .ensures .why)
+    let x = drain-done (shapeOf (z .result)) (now (a .args .words)) (a .args .budget) (now (a .args .ledger)) (d .last .0) (d .last .1 .1 .1 .0) (d .ensures .made) (d .ensures .handed) (d .ensures .why)
     (sym (r .ensures) ∙ c .before .before .before .before .before .before .before .before .before .if1 .left) (z .ensures) (d .ensures .whole) (d .ensures .writes) in
     (d .ensures .says ∙ x .says, (x .leaves, (x .writes, told _ _ _ _ (d .ensures .says ∙ x .says))))
 

@@ -2,10 +2,10 @@
 use borrow.Author.Needs.{needs}
 use mathlib.Core.Path.{_≡_, sym, _∙_, subst}
 use denote.Ref.{now}
-use Rattle.packet.specs.Geometry.{shapeOfSizes}
 use mathlib.Core.Path.{ap}
 use mathlib.Core.List.{List}
 use Prim.Native.Nat.{ℕ}
+use Rattle.network.specs.Sizes.{shapeOf}
 use Rattle.network.specs.declared.Found.{Found}
 use Rattle.network.specs.Calls.{firstAnswer}
 use Rattle.network.specs.Answers.{FirstTells, first-tells}
@@ -45,7 +45,7 @@ first-move-requires c κs =
     let a = c .before .before .before .before in
     let r = c .before .before .network-refusal in
     let z = c .sizes-of in
-    sound (shapeOfSizes (z .result)) (now (a .args .words)) (r .result) (r .ensures) (c .before .if1 .left) (z .ensures)
+    sound (shapeOf (z .result)) (now (a .args .words)) (r .result) (r .ensures) (c .before .if1 .left) (z .ensures)
 
 -- src/lib.rt:127:1
 returns-2 : tie.Need-returns-2
@@ -53,7 +53,7 @@ returns-2 c =
     let a = c .before .before .before .before .before in
     let r = c .before .before .before .network-refusal in
     let z = c .before .sizes-of in
-    with-values (first-found (shapeOfSizes (z .result)) (now (a .args .words)) (c .first-move .result) (sym (r .ensures) ∙ c .before .before .if1 .left) (z .ensures) (c .first-move .ensures))
+    with-values (first-found (shapeOf (z .result)) (now (a .args .words)) (c .first-move .result) (sym (r .ensures) ∙ c .before .before .if1 .left) (z .ensures) (c .first-move .ensures))
 
 pub first-spec : {M : Type 1} → statement M
 first-spec =

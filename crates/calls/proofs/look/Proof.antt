@@ -1,17 +1,13 @@
 -- `calls::look` meets its contract. Assumes nothing.
 use borrow.Author.Needs.{needs}
-use mathlib.Core.Path.{_≡_, sym, _∙_}
+use mathlib.Core.Path.{sym, _∙_}
 use mathlib.Core.Logic.{_≢_}
 use denote.Ref.{now}
-use Rattle.packet.specs.Geometry.{shapeOfSizes}
-use Prim.Native.Nat.{ℕ, _+_, _≤_}
-use native.Mathlib.Nat.{lt-of-lt-of-le}
+use Prim.Native.Nat.{_+_, _≤_}
 use native.Mathlib.Omega.{arith}
 use lib.ListN.{length}
-use Rattle.network.specs.Calls.{shapeOf}
-use Rattle.network.specs.SizesLaws.{range-of}
-use Rattle.packet.specs.GeometryLaws.{inRange-rings, rings-nodes}
-use Rattle.calls.specs.Answers.{look-refused, look-shown, Looking, looking, looking-long, held-part, held-end}
+use Rattle.network.specs.Sizes.{shapeOf}
+use Rattle.calls.specs.Answers.{look-refused, look-shown, looking, looking-long, held-part, held-end}
 use Rattle.calls.specs.Place.{place-refused, place-shown}
 use Rattle.network.specs.Refusals.{lookRefusal}
 use Rattle.calls.proofs.look.Statement.{statement}
@@ -57,15 +53,12 @@ sizes-of-requires c κs =
 
 -- src/lib.rt:119:9
 queue-start-requires : tie.Need-queue-start-requires
-unfolding shapeOf
 queue-start-requires c κs =
     let a = c .before .before .before .before in
     let r = c .before .before .look-refusal in
     let z = c .sizes-of in
-    let k = looking (shapeOfSizes (z .result)) (now (a .args .words)) (a .args .node) (a .args .queue) (r .result) (r .ensures) (c .before .if1 .left) (z .ensures) in
-    let g = range-of (shapeOfSizes (z .result)) (k .network .in-range) in
-    let few = rings-nodes (z .result) (inRange-rings (z .result) (k .network .in-range)) in
-    (g .escape .high, g .adaptive .high, g .injection .high, lt-of-lt-of-le (k .node) few, k .queue)
+    let k = looking (shapeOf (z .result)) (now (a .args .words)) (a .args .node) (a .args .queue) (r .result) (r .ensures) (c .before .if1 .left) (z .ensures) in
+    (k .network .in-range, k .node, k .queue)
 
 -- src/lib.rt:120:9
 held-count-requires : tie.Need-held-count-requires
@@ -73,7 +66,7 @@ held-count-requires c κs =
     let a = c .before .before .before .before .before in
     let r = c .before .before .before .look-refusal in
     let z = c .before .sizes-of in
-    let k = looking (shapeOfSizes (z .result)) (now (a .args .words)) (a .args .node) (a .args .queue) (r .result) (r .ensures) (c .before .before .if1 .left) (z .ensures) in
+    let k = looking (shapeOf (z .result)) (now (a .args .words)) (a .args .node) (a .args .queue) (r .result) (r .ensures) (c .before .before .if1 .left) (z .ensures) in
     record { network = k .network; node = k .node; queue = k .queue }
 
 -- src/lib.rt:121:16
@@ -85,8 +78,8 @@ ends c =
     let r = c .before .before .before .before .look-refusal in
     let z = c .before .before .sizes-of in
     let q = c .before .queue-start in
-    let k = looking (shapeOfSizes (z .result)) (now (a .args .words)) (a .args .node) (a .args .queue) (r .result) (r .ensures) (c .before .before .before .if1 .left) (z .ensures) in
-    held-end (shapeOfSizes (z .result)) (now (a .args .words)) (a .args .node) (a .args .queue) (q .result) (c .held-count .result) k (q .ensures (z .result .x) (z .result .y)) (c .held-count .ensures)
+    let k = looking (shapeOf (z .result)) (now (a .args .words)) (a .args .node) (a .args .queue) (r .result) (r .ensures) (c .before .before .before .if1 .left) (z .ensures) in
+    held-end (shapeOf (z .result)) (now (a .args .words)) (a .args .node) (a .args .queue) (q .result) (c .held-count .result) k (q .ensures) (c .held-count .ensures)
 
 add-from : tie.Need-add-from
 add-from c = let e = ends c in omega (arith, c .before .before .before .before .before .before .good .0)
@@ -107,10 +100,10 @@ returns-2 c =
     let z = c .before .before .before .sizes-of in
     let q = c .before .before .queue-start in
     let h = c .before .held-count in
-    let k = looking (shapeOfSizes (z .result)) (now (a .args .words)) (a .args .node) (a .args .queue) (r .result) (r .ensures) (c .before .before .before .before .if1 .left) (z .ensures) in
-    let e = look-shown (shapeOfSizes (z .result)) (now (a .args .words)) _ (a .args .node) (a .args .queue) (z .ensures) (sym (r .ensures) ∙ c .before .before .before .before .if1 .left)
-    (c .between .ensures .1 ∙ held-part (shapeOfSizes (z .result)) (now (a .args .words)) (a .args .node) (a .args .queue) (q .result) (h .result) k (q .ensures (z .result .x) (z .result .y)) (h .ensures)) in
-    (e, place-shown (shapeOfSizes (z .result)) _ _ _ _ (q .result) (z .ensures) (q .ensures (z .result .x) (z .result .y)) (c .between .ensures .0) e)
+    let k = looking (shapeOf (z .result)) (now (a .args .words)) (a .args .node) (a .args .queue) (r .result) (r .ensures) (c .before .before .before .before .if1 .left) (z .ensures) in
+    let e = look-shown (shapeOf (z .result)) (now (a .args .words)) _ (a .args .node) (a .args .queue) (z .ensures) (sym (r .ensures) ∙ c .before .before .before .before .if1 .left)
+    (c .between .ensures .1 ∙ held-part (shapeOf (z .result)) (now (a .args .words)) (a .args .node) (a .args .queue) (q .result) (h .result) k (q .ensures) (h .ensures)) in
+    (e, place-shown (shapeOf (z .result)) _ _ _ _ (q .result) (z .ensures) (q .ensures) (c .between .ensures .0) e)
 
 pub look-spec : {M : Type 1} → statement M
 look-spec =

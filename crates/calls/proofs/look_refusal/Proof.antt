@@ -1,8 +1,8 @@
 -- `calls::look_refusal` meets its contract. Assumes nothing.
 use borrow.Author.Needs.{needs}
-use mathlib.Core.Path.{_≡_, sym, _∙_, subst}
+use mathlib.Core.Path.{sym, _∙_}
 use denote.Ref.{now}
-use Rattle.packet.specs.Geometry.{shapeOfSizes}
+use Rattle.network.specs.Sizes.{shapeOf}
 use Rattle.packet.specs.GeometryLaws.{inRange-rings}
 use Rattle.calls.specs.Answers.{still-broken, sound, long-enough, look-broken, look-rules}
 use Rattle.calls.proofs.look_refusal.Statement.{statement}
@@ -37,7 +37,7 @@ look-rules-requires c κs =
     let a = c .before .before .before .before in
     let r = c .before .before .network-refusal in
     let z = c .sizes-of in
-    inRange-rings (z .result) (sound (shapeOfSizes (z .result)) (now (a .args .words)) (r .result) (r .ensures) (c .before .if1 .left) (z .ensures) .in-range)
+    inRange-rings (z .result) (sound (shapeOf (z .result)) (now (a .args .words)) (r .result) (r .ensures) (c .before .if1 .left) (z .ensures) .in-range)
 
 -- src/lib.rt:101:1
 returns-2 : tie.Need-returns-2
@@ -45,7 +45,7 @@ returns-2 c =
     let a = c .before .before .before .before .before in
     let r = c .before .before .before .network-refusal in
     let z = c .before .sizes-of in
-    c .look-rules .ensures ∙ look-rules (shapeOfSizes (z .result)) (now (a .args .words)) (a .args .node) (a .args .queue) (sym (r .ensures) ∙ c .before .before .if1 .left) (z .ensures)
+    c .look-rules .ensures ∙ look-rules (shapeOf (z .result)) (now (a .args .words)) (a .args .node) (a .args .queue) (sym (r .ensures) ∙ c .before .before .if1 .left) (z .ensures)
 
 pub look-refusal-spec : {M : Type 1} → statement M
 look-refusal-spec =

@@ -2,9 +2,9 @@
 use borrow.Author.Needs.{needs}
 use mathlib.Core.Path.{_≡_, sym, _∙_, subst}
 use denote.Ref.{now}
-use Rattle.packet.specs.Geometry.{shapeOfSizes}
 use mathlib.Core.List.{List}
 use Prim.Native.Nat.{ℕ}
+use Rattle.network.specs.Sizes.{shapeOf}
 use Rattle.network.specs.declared.Moved.{Moved}
 use Rattle.network.specs.RefusalLaws.{permitted-of}
 use Rattle.network.specs.Calls.{moveAnswer}
@@ -52,7 +52,7 @@ move-rules-requires c κs =
     let a = c .before .before .before .before .before .before .before in
     let r = c .before .before .before .before .network-refusal in
     let z = c .before .sizes-of in
-    sound (shapeOfSizes (z .result)) (now (a .args .words)) (r .result) (r .ensures) (c .before .before .before .if1 .left) (z .ensures)
+    sound (shapeOf (z .result)) (now (a .args .words)) (r .result) (r .ensures) (c .before .before .before .if1 .left) (z .ensures)
 
 -- src/lib.rt:75:9
 same-length-2 : tie.Need-same-length-2
@@ -66,7 +66,7 @@ returns-2 c =
     let z = c .before .before .before .sizes-of in
     let o = c .before .move-rules in
     let x = move-refused (now (a .args .words)) (a .args .node) (a .args .queue) (a .args .output) (o .result)
-    (move-rules (shapeOfSizes (z .result)) (now (a .args .words)) (a .args .node) (a .args .queue) (a .args .output) (sym (r .ensures) ∙ c .before .before .before .before .before .if1 .left) (z .ensures) ∙ sym (o .ensures)) (c .if2 .taken) in
+    (move-rules (shapeOf (z .result)) (now (a .args .words)) (a .args .node) (a .args .queue) (a .args .output) (sym (r .ensures) ∙ c .before .before .before .before .before .if1 .left) (z .ensures) ∙ sym (o .ensures)) (c .if2 .taken) in
     (x .says, (x .leaves, told _ _ _ _ _ (x .says)))
 
 -- src/lib.rt:77:9
@@ -76,8 +76,8 @@ make-move-requires c κs =
     let r = c .before .before .before .before .before .before .before .network-refusal in
     let z = c .before .before .before .before .sizes-of in
     let o = c .before .before .move-rules in (
-      sound (shapeOfSizes (z .result)) (now (a .args .words)) (r .result) (r .ensures) (c .before .before .before .before .before .before .if1 .left) (z .ensures),
-      permitted-of (shapeOfSizes (z .result)) (now (a .args .words)) (a .args .node) (a .args .queue) (a .args .output) (sym (o .ensures) ∙ c .before .if2 .left),
+      sound (shapeOf (z .result)) (now (a .args .words)) (r .result) (r .ensures) (c .before .before .before .before .before .before .if1 .left) (z .ensures),
+      permitted-of (shapeOf (z .result)) (now (a .args .words)) (a .args .node) (a .args .queue) (a .args .output) (sym (o .ensures) ∙ c .before .if2 .left),
     )
 
 -- src/lib.rt:79:9
@@ -92,7 +92,7 @@ returns-3 c =
     let z = c .before .before .before .before .before .before .before .before .sizes-of in
     let o = c .before .before .before .before .before .before .move-rules in
     let m = c .before .before .before .make-move in
-    let x = move-delivered (shapeOfSizes (z .result)) (now (a .args .words)) (a .args .node) (a .args .queue) (a .args .output) (m .result) (sym (r .ensures) ∙ c .before .before .before .before .before .before .before .before .before .before .if1 .left) (z .ensures)
+    let x = move-delivered (shapeOf (z .result)) (now (a .args .words)) (a .args .node) (a .args .queue) (a .args .output) (m .result) (sym (r .ensures) ∙ c .before .before .before .before .before .before .before .before .before .before .if1 .left) (z .ensures)
     (sym (o .ensures) ∙ c .before .before .before .before .before .if2 .left) (c .if3 .taken) (m .ensures .1) in
     (x .says, (m .ensures .0 ∙ x .leaves, told _ _ _ _ _ (x .says)))
 
@@ -108,7 +108,7 @@ returns-4 c =
     let z = c .before .before .before .before .before .before .before .before .sizes-of in
     let o = c .before .before .before .before .before .before .move-rules in
     let m = c .before .before .before .make-move in
-    let x = move-passed (shapeOfSizes (z .result)) (now (a .args .words)) (a .args .node) (a .args .queue) (a .args .output) (sym (r .ensures) ∙ c .before .before .before .before .before .before .before .before .before .before .if1 .left) (z .ensures)
+    let x = move-passed (shapeOf (z .result)) (now (a .args .words)) (a .args .node) (a .args .queue) (a .args .output) (sym (r .ensures) ∙ c .before .before .before .before .before .before .before .before .before .before .if1 .left) (z .ensures)
     (sym (o .ensures) ∙ c .before .before .before .before .before .if2 .left) (c .if3 .left) in
     (x .says, (m .ensures .0 ∙ x .leaves, told _ _ _ _ _ (x .says)))
 

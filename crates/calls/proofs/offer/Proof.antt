@@ -1,11 +1,11 @@
 -- `calls::offer` meets its contract. Assumes nothing.
 use borrow.Author.Needs.{needs}
-use mathlib.Core.Path.{_≡_, sym, _∙_, subst}
+use mathlib.Core.Path.{sym, _∙_}
 use denote.Ref.{now}
-use Rattle.packet.specs.Geometry.{shapeOfSizes}
 use Rattle.run.specs.Reached.{accepting}
 use Rattle.calls.specs.Answers.{still-broken, sound, long-enough, offer-refused, offer-broken, offer-rules, offer-taken}
 use Rattle.calls.proofs.offer.Statement.{statement}
+use Rattle.network.specs.Sizes.{shapeOf}
 use Rattle.calls.proofs.offer.Tie as tie
 use Rattle.calls.proofs.offer.Reads as reads
 use Rattle.calls.proofs.offer.Lts as lts
@@ -44,7 +44,7 @@ offer-rules-requires c κs =
     let a = c .before .before .before .before .before .before .before in
     let r = c .before .before .before .before .network-refusal in
     let z = c .before .sizes-of in
-    sound (shapeOfSizes (z .result)) (now (a .args .words)) (r .result) (r .ensures) (c .before .before .before .if1 .left) (z .ensures)
+    sound (shapeOf (z .result)) (now (a .args .words)) (r .result) (r .ensures) (c .before .before .before .if1 .left) (z .ensures)
 
 -- src/lib.rt:57:9
 same-length-2 : tie.Need-same-length-2
@@ -58,7 +58,7 @@ returns-2 c =
     let z = c .before .before .before .sizes-of in
     let o = c .before .offer-rules in
     let x = offer-refused (now (a .args .words)) (a .args .node) (a .args .destination) (a .args .tag) (o .result)
-    (offer-rules (shapeOfSizes (z .result)) (now (a .args .words)) (a .args .node) (a .args .destination) (sym (r .ensures) ∙ c .before .before .before .before .before .if1 .left) (z .ensures) ∙ sym (o .ensures)) (c .if2 .taken) in
+    (offer-rules (shapeOf (z .result)) (now (a .args .words)) (a .args .node) (a .args .destination) (sym (r .ensures) ∙ c .before .before .before .before .before .if1 .left) (z .ensures) ∙ sym (o .ensures)) (c .if2 .taken) in
     (x .says, x .leaves)
 
 -- src/lib.rt:59:5
@@ -68,8 +68,8 @@ accept-requires c κs =
     let r = c .before .before .before .before .before .before .before .network-refusal in
     let z = c .before .before .before .before .sizes-of in
     let o = c .before .before .offer-rules in
-    let N = sound (shapeOfSizes (z .result)) (now (a .args .words)) (r .result) (r .ensures) (c .before .before .before .before .before .before .if1 .left) (z .ensures) in
-    let k = accepting (shapeOfSizes (z .result)) (now (a .args .words)) (a .args .node) (a .args .destination) N (sym (o .ensures) ∙ c .before .if2 .left) in
+    let N = sound (shapeOf (z .result)) (now (a .args .words)) (r .result) (r .ensures) (c .before .before .before .before .before .before .if1 .left) (z .ensures) in
+    let k = accepting (shapeOf (z .result)) (now (a .args .words)) (a .args .node) (a .args .destination) N (sym (o .ensures) ∙ c .before .if2 .left) in
     (N, (k .node, (k .addressed, k .free)))
 
 -- src/lib.rt:46:1
@@ -84,7 +84,7 @@ returns-3 c =
     let z = c .before .before .before .before .before .before .before .sizes-of in
     let o = c .before .before .before .before .before .offer-rules in
     let t = c .before .before .accept in
-    let x = offer-taken (shapeOfSizes (z .result)) (now (a .args .words)) (a .args .node) (a .args .destination) (a .args .tag) (sym (r .ensures) ∙ c .before .before .before .before .before .before .before .before .before .if1 .left) (z .ensures)
+    let x = offer-taken (shapeOf (z .result)) (now (a .args .words)) (a .args .node) (a .args .destination) (a .args .tag) (sym (r .ensures) ∙ c .before .before .before .before .before .before .before .before .before .if1 .left) (z .ensures)
     (sym (o .ensures) ∙ c .before .before .before .before .if2 .left) in
     (x .says, t .ensures ∙ x .leaves)
 

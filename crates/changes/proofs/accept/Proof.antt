@@ -1,11 +1,10 @@
 -- `changes::accept` meets its contract: the injection queue is one of a network, and accepted, at most 2^32 - 1, may rise. Assumes nothing.
 use borrow.Author.Needs.{needs}
 use native.Mathlib.Omega.{arith}
-use Rattle.packet.specs.Geometry.{shapeOfSizes}
 use Rattle.packet.specs.GeometryLaws.{inRange-rings}
 use Rattle.queue.specs.Queue.{Checked}
 use Rattle.queue.specs.QueueLaws.{checked-fits}
-use Rattle.network.specs.Sizes.{injectionQueue}
+use Rattle.network.specs.Sizes.{shapeOf, injectionQueue}
 use Rattle.network.specs.Layout.{acceptedAt}
 use Rattle.changes.proofs.Laws.{network-checked, accepted-may, arrives-may, offered-words}
 use Rattle.changes.proofs.accept.Statement.{statement}
@@ -16,8 +15,8 @@ offered-requires c κs =
     let s = c .before in
     (inRange-rings (s .args .s) (s .pre .0 .in-range), s .pre .1 .0, s .pre .1 .1 .0)
 
-injection-checked : (s : tie.Start) → Checked (shapeOfSizes (s .args .s)) (s .args .words .now) (s .args .n) injectionQueue
-injection-checked s = network-checked (shapeOfSizes (s .args .s)) (s .args .words .now) (s .args .n) injectionQueue (s .pre .0) (s .pre .1 .0) (omega arith)
+injection-checked : (s : tie.Start) → Checked (shapeOf (s .args .s)) (s .args .words .now) (s .args .n) injectionQueue
+injection-checked s = network-checked (shapeOf (s .args .s)) (s .args .words .now) (s .args .n) injectionQueue (s .pre .0) (s .pre .1 .0) (omega arith)
 
 push-requires : tie.Need-push-requires
 push-requires c κs = let s = c .before .before .before in (injection-checked s, s .pre .1 .1 .1)
@@ -28,7 +27,7 @@ raise-requires c κs =
     let p = u .before .before in
     let s = p .before .before in
     let a = s .args in
-    let S = shapeOfSizes (a .s) in
+    let S = shapeOf (a .s) in
     arrives-may S (a .words .now) (u .push .last .0) (a .n) injectionQueue (p .offered .result) acceptedAt (u .push .ensures)
     (checked-fits S (a .words .now) (a .n) injectionQueue (injection-checked s)) (s .pre .1 .1 .1) (omega arith) (accepted-may (s .pre .0))
 
@@ -41,7 +40,7 @@ returns c =
     let u = x .before .before .before .before in
     let p = u .before .before in
     let a = p .before .before .args in
-    offered-words (shapeOfSizes (a .s)) (a .words .now) (u .push .last .0) (x .raise .last .0) (a .n) (a .destination) (a .tag) (p .offered .result)
+    offered-words (shapeOf (a .s)) (a .words .now) (u .push .last .0) (x .raise .last .0) (a .n) (a .destination) (a .tag) (p .offered .result)
     (p .offered .ensures) (u .push .ensures) (x .raise .ensures)
 
 pub accept-spec : {M : Type 1} → statement M

@@ -2,7 +2,7 @@
 -- record. Assumes nothing.
 use borrow.Author.Needs.{needs}
 use native.Mathlib.Omega.{arith}
-use Rattle.packet.specs.Geometry.{shapeOfSizes}
+use Rattle.network.specs.Sizes.{shapeOf}
 use Rattle.packet.specs.GeometryLaws.{inRange-rings, rings-torus}
 use Rattle.changes.proofs.Laws.{Left, network-checked, delivered-left, moves-handed, handed-words, target-checked, target-room, moves-arrived, moved-words}
 use Rattle.changes.proofs.make_move.Statement.{statement}
@@ -14,10 +14,10 @@ pop-requires c κs =
     let a = s .args in
     let P = s .pre .1 in
     let h = P .holds in
-    (network-checked (shapeOfSizes (a .s)) (a .words .now) (a .n) (a .q) (s .pre .0) (P .node) (P .queue), omega arith)
+    (network-checked (shapeOf (a .s)) (a .words .now) (a .n) (a .q) (s .pre .0) (P .node) (P .queue), omega arith)
 
 left : (c : tie.After-pop)
-    → let a = c .before .before .before .args in Left (shapeOfSizes (a .s)) (a .words .now) (c .pop .last .0) (a .n) (a .q) (a .o)
+    → let a = c .before .before .before .args in Left (shapeOf (a .s)) (a .words .now) (c .pop .last .0) (a .n) (a .q) (a .o)
 left c =
     let s = c .before .before .before in
     record {

@@ -3,18 +3,14 @@ use borrow.Author.Needs.{needs}
 use Prim.Native.Nat.{_≤_}
 use native.Mathlib.Omega.{arith}
 use lib.ListN.{length, length-set}
-use Rattle.packet.specs.Geometry.{shapeOfSizes}
-use Rattle.queue.specs.QueueLaws.{small}
+use Rattle.network.specs.Sizes.{shapeOf}
 use Rattle.network.specs.Layout.{headerWords}
 use Rattle.changes.proofs.Laws.{need-header, empty-words}
 use Rattle.changes.proofs.write_empty.Statement.{statement}
 use Rattle.changes.proofs.write_empty.Tie as tie
 
 need-requires : tie.Need-need-requires
-need-requires c κs =
-    let s = c .before .args .s in
-    let k = small (s .x) (s .y) (s .escape) (s .adaptive) (s .injection) (c .before .pre .0) in
-    (k .columns, k .rows, k .escape, k .adaptive, k .injection)
+need-requires c κs = c .before .pre .0
 
 clear-requires : tie.Need-clear-requires
 clear-requires c κs = search needs
@@ -22,7 +18,7 @@ clear-requires c κs = search needs
 long : (c : tie.After-clear) → headerWords ≤ length (c .clear .last .0)
 long c =
     let s = c .before .before .before .before in
-    let h = need-header (shapeOfSizes (s .args .s)) in
+    let h = need-header (shapeOf (s .args .s)) in
     let l = s .pre .1 in
     let k = c .clear .kept .0 in
     omega arith
@@ -50,8 +46,7 @@ returns c =
     let k = c .before .before in
     let n = k .before .before .need in
     let a = k .before .before .before .before .args in
-    let s = a .s in
-    empty-words (s .x) (s .y) (s .escape) (s .adaptive) (s .injection) (n .result) (a .words .now) (k .clear .last .0) (n .ensures) (k .clear .ensures)
+    empty-words (a .s) (n .result) (a .words .now) (k .clear .last .0) (n .ensures) (k .clear .ensures)
 
 pub write-empty-spec : {M : Type 1} → statement M
 write-empty-spec =

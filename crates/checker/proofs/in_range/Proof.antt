@@ -5,9 +5,7 @@ use mathlib.Core.Path.{_≡_, refl, sym, _∙_}
 use mathlib.Core.Bool.{Bool, true, false, _&&_}
 use Rattle.base.specs.Tests.{allOf}
 use Rattle.base.specs.Bools.{and-stop, and-on}
-use Rattle.network.specs.Sizes.{within, sizesInRange}
-use Rattle.network.specs.Calls.{shapeOf}
-use Rattle.packet.specs.Geometry.{shapeOfSizes}
+use Rattle.network.specs.Sizes.{shapeOf, within, sizesInRange}
 use Rattle.checker.proofs.in_range.Statement.{statement}
 use Rattle.checker.proofs.in_range.Tie as tie
 
@@ -18,7 +16,7 @@ and-all true false c = refl
 and-all false b c = refl
 
 -- the sizes in a row
-in-a-row : (c : tie.Start) → sizesInRange (shapeOfSizes (c .args .s))
+in-a-row : (c : tie.Start) → sizesInRange (shapeOf (c .args .s))
     ≡ within 1 16 (c .args .s .x) && (within 1 16 (c .args .s .y) && (within 2 8 (c .args .s .escape) && (within 1 8 (c .args .s .adaptive) && within 1 8 (c .args .s .injection))))
 unfolding sizesInRange allOf shapeOf
 in-a-row c = and-all (within 1 16 (c .args .s .x)) (within 1 16 (c .args .s .y)) _

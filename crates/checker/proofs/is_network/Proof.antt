@@ -9,10 +9,9 @@ use native.Mathlib.Omega.{arith}
 use lib.ListN.{length}
 use Rattle.base.specs.Tests.{T-true}
 use Rattle.base.specs.Bools.{and-stop, and-on}
-use Rattle.network.specs.Sizes.{Shape, sizesInRange}
+use Rattle.network.specs.Sizes.{Shape, shapeOf, sizesInRange}
 use Rattle.network.specs.Layout.{need}
 use Rattle.network.specs.Check.{queuesFit, packetsHeld, workLeft, ringsHaveRoom, countersFit, isNetwork}
-use Rattle.packet.specs.Geometry.{shapeOfSizes}
 use Rattle.queue.specs.Queue.{Enough}
 use Rattle.queue_check.specs.TallyLaws.{Passed, tally-yes, tally-no}
 use Rattle.checker.proofs.is_network.Statement.{statement}
@@ -31,9 +30,9 @@ returns c = sym (left _ _ (c .before .before .before .before .pre) ∙ and-stop 
 
 fitting : (c : tie.Else1)
     → Passed (c .before .before .queues-fit .result)
-    (queuesFit (shapeOfSizes (c .before .before .before .before .args .s)) (c .before .before .before .before .args .words .now))
-    (packetsHeld (shapeOfSizes (c .before .before .before .before .args .s)) (c .before .before .before .before .args .words .now))
-    (workLeft (shapeOfSizes (c .before .before .before .before .args .s)) (c .before .before .before .before .args .words .now))
+    (queuesFit (shapeOf (c .before .before .before .before .args .s)) (c .before .before .before .before .args .words .now))
+    (packetsHeld (shapeOf (c .before .before .before .before .args .s)) (c .before .before .before .before .args .words .now))
+    (workLeft (shapeOf (c .before .before .before .before .args .s)) (c .before .before .before .before .args .words .now))
 fitting c = tally-yes _ _ _ _ (c .before .before .queues-fit .ensures) (not-false _ (c .if1 .left))
 
 rings-have-room-requires : tie.Need-rings-have-room-requires

@@ -9,12 +9,10 @@ use native.Mathlib.Omega.{arith}
 use lib.Dec.{ltb}
 use lib.ListN.{length}
 use Rattle.base.specs.Tests.{true-T}
-use Rattle.network.specs.Sizes.{Shape, sizesInRange}
+use Rattle.network.specs.Sizes.{Shape, shapeOf, sizesInRange}
 use Rattle.network.specs.Layout.{shape, headerWords, need}
 use Rattle.network.specs.Check.{isNetwork}
 use Rattle.network.specs.Refusals.{refuse, networkRefusal, shortStore, wrongSize, noNetwork}
-use Rattle.packet.specs.Geometry.{shapeOfSizes}
-use Rattle.queue.specs.QueueLaws.{small}
 use Rattle.checker.proofs.network_refusal.Statement.{statement}
 use Rattle.checker.proofs.network_refusal.Tie as tie
 
@@ -66,14 +64,11 @@ returns-2 : tie.Need-returns-2
 returns-2 c =
     sym (second _ _ (c .before .before .sizes-of .ensures) (c .before .before .before .if1 .left) (sym (c .before .in-range .ensures) ∙ not-true _ (c .if2 .taken)))
 
-ranged : (c : tie.Else2) → sizesInRange (shapeOfSizes (c .before .before .sizes-of .result)) ≡ true
+ranged : (c : tie.Else2) → sizesInRange (shapeOf (c .before .before .sizes-of .result)) ≡ true
 ranged c = sym (c .before .in-range .ensures) ∙ not-false _ (c .if2 .left)
 
 need-requires : tie.Need-need-requires
-need-requires c κs =
-    let s = c .before .before .sizes-of .result in
-    let k = small (s .x) (s .y) (s .escape) (s .adaptive) (s .injection) (true-T _ (ranged c)) in
-    (k .columns, k .rows, k .escape, k .adaptive, k .injection)
+need-requires c κs = true-T _ (ranged c)
 
 returns-3 : tie.Need-returns-3
 returns-3 c =
@@ -81,7 +76,7 @@ returns-3 c =
     let e = c .before .need .ensures in
     sym (third _ _ (c .before .before .before .before .sizes-of .ensures) (c .before .before .before .before .before .if1 .left) (ranged (c .before .before)) (omega arith))
 
-long : (c : tie.Else3) → need (shapeOfSizes (c .before .before .before .before .sizes-of .result)) ≤ length (c .before .before .before .before .before .before .before .args .words .now)
+long : (c : tie.Else3) → need (shapeOf (c .before .before .before .before .sizes-of .result)) ≤ length (c .before .before .before .before .before .before .before .args .words .now)
 long c = let l = c .if3 .left in let e = c .before .need .ensures in omega arith
 
 is-network-requires : tie.Need-is-network-requires

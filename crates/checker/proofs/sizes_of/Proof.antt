@@ -1,8 +1,8 @@
 -- `checker::sizes_of` meets its contract. Assumes nothing.
 use borrow.Author.Needs.{needs}
 use mathlib.Core.Path.{refl}
+use Rattle.network.specs.Sizes.{shapeOf}
 use Rattle.network.specs.Layout.{shape}
-use Rattle.network.specs.Calls.{shapeOf}
 use Rattle.checker.proofs.sizes_of.Statement.{statement}
 use Rattle.checker.proofs.sizes_of.Tie as tie
 

@@ -1,12 +1,13 @@
 -- `drains::drain_network` meets its contract. Assumes nothing.
 use borrow.Author.Needs.{needs}
-use mathlib.Core.Path.{_≡_, refl, sym, subst}
+use mathlib.Core.Path.{refl, sym, subst}
 use Prim.Native.Nat.{ℕ, _≤_}
 use native.Mathlib.Omega.{arith}
 use denote.Ref.{now}
+use Rattle.network.specs.Sizes.{shapeOf}
 use Rattle.network.specs.declared.Stop.{Stop}
 use Rattle.network.specs.Layout.{accepted, delivered}
-use Rattle.packet.specs.Geometry.{shapeOfSizes, RingsFit}
+use Rattle.packet.specs.Geometry.{RingsFit}
 use Rattle.packet.specs.GeometryLaws.{inRange-rings, rings-torus, rings-nodes}
 use Rattle.headset.specs.Set.{Filled}
 use Rattle.ready.specs.Ready.{covered-filled}
@@ -28,14 +29,14 @@ rings c = inRange-rings (c .args .s) (c .pre .in-range)
 slice-read-accepted : tie.Need-slice-read-accepted
 slice-read-accepted c =
     let a = c .before .before .before in
-    let h = header-long (shapeOfSizes (a .args .s)) (now (a .args .words)) (a .pre) in
+    let h = header-long (shapeOf (a .args .s)) (now (a .args .words)) (a .pre) in
     omega arith
 
 -- src/lib.rt:226:20
 slice-read-delivered : tie.Need-slice-read-delivered
 slice-read-delivered c =
     let a = c .before .before .before .before in
-    let h = header-long (shapeOfSizes (a .args .s)) (now (a .args .words)) (a .pre) in
+    let h = header-long (shapeOf (a .args .s)) (now (a .args .words)) (a .pre) in
     omega arith
 
 -- src/lib.rt:227:9
@@ -43,7 +44,7 @@ returns : tie.Need-returns
 unfolding accepted delivered
 returns c =
     let a = c .before .before .before .before .before in
-    let S = shapeOfSizes (a .args .s) in
+    let S = shapeOf (a .args .s) in
     let w = now (a .args .words) in
     let l = now (a .args .ledger) in
     so-far-end S (rings-torus (a .args .s) (rings a)) w (a .args .budget) l w l 0 0 Stop.Emptied (so-far-start S w (a .args .budget) l (a .pre))
@@ -93,7 +94,7 @@ take-turns-requires c κs =
       a .pre,
       (
         f .fill .ensures,
-        covered-filled (shapeOfSizes (a .args .s)) (now (a .args .words)) (r .fill2 .last .0)
+        covered-filled (shapeOf (a .args .s)) (now (a .args .words)) (r .fill2 .last .0)
             (subst (λ (x : ℕ). Filled (r .fill2 .last .0) x) (n .nodes .ensures) (r .fill2 .ensures)),
       ),
     )

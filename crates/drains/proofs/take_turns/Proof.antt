@@ -4,11 +4,11 @@ use borrow.Author.Needs.{needs}
 use mathlib.Core.Path.{_≡_, refl, ap, sym, _∙_, subst}
 use mathlib.Core.List.{List}
 use mathlib.Core.Logic.{⊎-elim}
-use Prim.Native.Nat.{ℕ, _+_, _-_, _<_, _≤_}
+use Prim.Native.Nat.{ℕ, _+_, _-_, _<_}
 use native.Mathlib.Omega.{arith}
 use lib.ListN.{length, length-set}
 use denote.Ref.{now}
-use Rattle.packet.specs.Geometry.{shapeOfSizes}
+use Rattle.network.specs.Sizes.{shapeOf}
 use Rattle.packet.specs.GeometryLaws.{inRange-rings, rings-torus}
 use Rattle.ready.specs.Ready.{Covered}
 use Rattle.drains.specs.Drains.{SoFar, so-far-start, next-passed, next-delivered, end-of-it, passed-budget, delivered-budget}
@@ -20,8 +20,8 @@ use Rattle.turns.proofs.take_turn.Reads as take-turn-reads
 
 abbrev Inv-loop : tie.InvT-loop
 Inv-loop words₀ s near ready₀ budget ledger₀ limit total moves₀ delivered₀ words ready ledger moves delivered =
-    SoFar (shapeOfSizes s) words₀ budget ledger₀ words ledger moves delivered
-    × (Covered (shapeOfSizes s) words ready × ((length words ≡ length words₀) × (length ledger ≡ length ledger₀)))
+    SoFar (shapeOf s) words₀ budget ledger₀ words ledger moves delivered
+    × (Covered (shapeOf s) words ready × ((length words ≡ length words₀) × (length ledger ≡ length ledger₀)))
 
 abbrev μ-loop : tie.MeasureT-loop
 μ-loop words₀ s near ready₀ budget ledger₀ limit total moves₀ delivered₀ words ready ledger moves delivered =
@@ -34,7 +34,7 @@ less b m h = omega arith
 loop-holds : tie.Need-loop-holds Inv-loop μ-loop
 loop-holds c =
     let a = c .before .before .before .before in (
-      so-far-start (shapeOfSizes (a .args .s)) (now (a .args .words)) (a .args .budget) (now (a .args .ledger)) (a .pre .0),
+      so-far-start (shapeOf (a .args .s)) (now (a .args .words)) (a .args .budget) (now (a .args .ledger)) (a .pre .0),
       (a .pre .1 .1, (refl, refl)),
     )
 
@@ -72,7 +72,7 @@ returns c =
     let a = c .before .before .before .before .before .before .before .before .before .before .before .before .before .before .before in
     let l = c .before .before .before .before .before .before .before .before .before .before .loop in
     let t = c .before .before .before .before .before .before .before .take-turn in
-    end-of-it (shapeOfSizes (a .args .s)) (rings-torus (a .args .s) (inRange-rings (a .args .s) (a .pre .0 .in-range))) (now (a .args .words)) (a .args .budget) (now (a .args .ledger))
+    end-of-it (shapeOf (a .args .s)) (rings-torus (a .args .s) (inRange-rings (a .args .s) (a .pre .0 .in-range))) (now (a .args .words)) (a .args .budget) (now (a .args .ledger))
     (l .words) (l .ledger) (l .moves) (l .delivered) (c .before .turn .given .0 .0) (t .result) (t .last .0) (l .inv .0) (t .ensures .0) (t .ensures .1 .0) (c .before .turn .given .1)
 
 enum-told : tie.Need-enum-told Inv-loop μ-loop
@@ -92,7 +92,7 @@ slice-write-ledger c =
     let a = c .before .before .before .before .before .before .before .before .before .before .before .before .before .before .before in
     let l = c .before .before .before .before .before .before .before .before .before .before .loop in
     let t = c .before .before .before .before .before .before .before .take-turn in
-    let r = delivered-budget (shapeOfSizes (a .args .s)) (rings-torus (a .args .s) (inRange-rings (a .args .s) (a .pre .0 .in-range))) (now (a .args .words)) (a .args .budget)
+    let r = delivered-budget (shapeOf (a .args .s)) (rings-torus (a .args .s) (inRange-rings (a .args .s) (a .pre .0 .in-range))) (now (a .args .words)) (a .args .budget)
     (now (a .args .ledger)) (l .words) (l .ledger) (l .moves) (l .delivered) (c .before .turn2 .given .0 .0) (l .inv .0) (sym (t .ensures .0) ∙ c .before .turn2 .given .1) in
     subst (λ (x : ℕ). l .delivered < x) (sym (l .inv .1 .1 .1)) (r .1)
 
@@ -113,9 +113,9 @@ loop-less c =
     let tor = rings-torus (a .args .s) (inRange-rings (a .args .s) (a .pre .0 .in-range)) in
     less (a .args .budget) (l .moves)
     (⊎-elim
-    (λ x. passed-budget (shapeOfSizes (a .args .s)) tor (now (a .args .words)) (a .args .budget) (now (a .args .ledger)) (l .words) (l .ledger) (l .moves) (l .delivered) (l .inv .0)
+    (λ x. passed-budget (shapeOf (a .args .s)) tor (now (a .args .words)) (a .args .budget) (now (a .args .ledger)) (l .words) (l .ledger) (l .moves) (l .delivered) (l .inv .0)
     (sym (t .ensures .0) ∙ x .1 .given .1))
-    (λ x. delivered-budget (shapeOfSizes (a .args .s)) tor (now (a .args .words)) (a .args .budget) (now (a .args .ledger)) (l .words) (l .ledger) (l .moves) (l .delivered)
+    (λ x. delivered-budget (shapeOf (a .args .s)) tor (now (a .args .words)) (a .args .budget) (now (a .args .ledger)) (l .words) (l .ledger) (l .moves) (l .delivered)
     (x .1 .given .0 .0) (l .inv .0) (sym (t .ensures .0) ∙ x .1 .given .1) .0)
     (c .match .came))
 
@@ -127,13 +127,13 @@ loop-again c =
     let t = c .before .before .before .before .before .take-turn in
     let tor = rings-torus (a .args .s) (inRange-rings (a .args .s) (a .pre .0 .in-range)) in (
       ⊎-elim
-          (λ x. next-passed (shapeOfSizes (a .args .s)) tor (now (a .args .words)) (a .args .budget) (now (a .args .ledger)) (l .words) (l .ledger) (l .moves) (l .delivered) (t .result)
+          (λ x. next-passed (shapeOf (a .args .s)) tor (now (a .args .words)) (a .args .budget) (now (a .args .ledger)) (l .words) (l .ledger) (l .moves) (l .delivered) (t .result)
           (t .last .0) (c .match .ledger) (c .match .delivered) (l .inv .0) (t .ensures .0) (t .ensures .1 .0) (x .1 .given .1) (x .2) (x .3))
-          (λ x. next-delivered (shapeOfSizes (a .args .s)) tor (now (a .args .words)) (a .args .budget) (now (a .args .ledger)) (l .words) (l .ledger) (l .moves) (l .delivered)
+          (λ x. next-delivered (shapeOf (a .args .s)) tor (now (a .args .words)) (a .args .budget) (now (a .args .ledger)) (l .words) (l .ledger) (l .moves) (l .delivered)
           (x .1 .given .0 .0) (t .result) (t .last .0) (c .match .ledger) (c .match .delivered) (l .inv .0) (t .ensures .0) (t .ensures .1 .0) (x .1 .given .1) (x .3) (x .4))
           (c .match .came),
       (
-        subst (λ (x : List ℕ). Covered (shapeOfSizes (a .args .s)) x (t .last .1 .1 .1 .0)) (sym (t .ensures .1 .0)) (t .ensures .1 .1),
+        subst (λ (x : List ℕ). Covered (shapeOf (a .args .s)) x (t .last .1 .1 .1 .0)) (sym (t .ensures .1 .0)) (t .ensures .1 .1),
         (
           t .kept .0 ∙ l .inv .1 .1 .0,
           ⊎-elim (λ x. ap length (x .2) ∙ l .inv .1 .1 .1) (λ x. ap length (x .3) ∙ length-set (l .ledger) (l .delivered) (x .1 .given .0 .0) ∙ l .inv .1 .1 .1) (c .match .came),

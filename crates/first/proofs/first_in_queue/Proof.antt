@@ -31,7 +31,7 @@ two-words : (c : tie.After-queue-start Inv-loop μ-loop) → c .queue-start .res
 two-words c =
     let f = c .before .before .before in
     let a = f .args in
-    inside-at (a .s) (a .words .now) (a .n) (a .q) (f .pre .0) (c .queue-start .result) (c .queue-start .ensures (a .s .x) (a .s .y))
+    inside-at (a .s) (a .words .now) (a .n) (a .q) (f .pre .0) (c .queue-start .result) (c .queue-start .ensures)
 
 -- what was read of the queue
 reading : (c : tie.After-routes Inv-loop μ-loop)
@@ -39,7 +39,7 @@ reading : (c : tie.After-routes Inv-loop μ-loop)
 reading c =
     let f = c .before .before .before .before in
     let a = f .before .before .before in
-    record { queue = a .pre .0; at = f .queue-start .ensures (a .args .s .x) (a .args .s .y); some = c .before .before .if1 .left; are = c .routes .ensures }
+    record { queue = a .pre .0; at = f .queue-start .ensures; some = c .before .before .if1 .left; are = c .routes .ensures }
 
 queue-start-requires : tie.Need-queue-start-requires Inv-loop μ-loop
 queue-start-requires c κs =
@@ -58,7 +58,7 @@ returns c =
     let f = c .before .before in
     let b = f .before .before .before in
     let a = b .args in
-    sym (queue-none (a .s) (a .words .now) (a .n) (a .q) (f .queue-start .result) (b .pre .0) (f .queue-start .ensures (a .s .x) (a .s .y)) (c .if1 .taken))
+    sym (queue-none (a .s) (a .words .now) (a .n) (a .q) (f .queue-start .result) (b .pre .0) (f .queue-start .ensures) (c .if1 .taken))
 
 add-routes : tie.Need-add-routes Inv-loop μ-loop
 add-routes c = let f = c .before .before in omega (arith, two-words f, f .before .before .before .good)

@@ -8,10 +8,9 @@ use native.Mathlib.Omega.{arith}
 use borrow.Author.Needs.{needs}
 use lib.ListN.{length}
 use Rattle.network.specs.declared.Found.{Found}
-use Rattle.network.specs.Sizes.{nodes, queues}
+use Rattle.network.specs.Sizes.{shapeOf, nodes, queues}
 use Rattle.network.specs.Layout.{accepted, delivered}
 use Rattle.network.specs.Calls.{firstInQueue, firstMove}
-use Rattle.packet.specs.Geometry.{shapeOfSizes}
 use Rattle.packet.specs.GeometryLaws.{inRange-rings, rings-nodes}
 use Rattle.flow.specs.QueueOf.{QueueOf}
 use Rattle.flow.specs.Places.{header, inside-at}
@@ -43,7 +42,7 @@ abbrev μ-search : tie.MeasureT-search
 abbrev entry : tie.At-search Inv-loop2 μ-loop2 Inv-loop μ-loop Inv-search μ-search → tie.Start Inv-loop2 μ-loop2 Inv-loop μ-loop Inv-search μ-search
 entry c = c .before .before .before .before .before .before
 
-node-lt : (c : tie.In-search Inv-loop2 μ-loop2 Inv-loop μ-loop Inv-search μ-search) → c .before .search .n < nodes (shapeOfSizes (entry (c .before) .args .s))
+node-lt : (c : tie.In-search Inv-loop2 μ-loop2 Inv-loop μ-loop Inv-search μ-search) → c .before .search .n < nodes (shapeOf (entry (c .before) .args .s))
 node-lt c = let e = c .before .before .nodes .ensures in omega (arith, e, c .search-test .taken)
 
 queue-of : (c : tie.In-loop Inv-loop2 μ-loop2 Inv-loop μ-loop Inv-search μ-search)
@@ -67,20 +66,20 @@ two-words c =
 shared-slice-read-if1 : tie.Need-shared-slice-read-if1 Inv-loop2 μ-loop2 Inv-loop μ-loop Inv-search μ-search
 shared-slice-read-if1 c =
     let f = c .before .before in
-    let l = header (shapeOfSizes (f .args .s)) (f .args .words .now) (f .pre) in
+    let l = header (shapeOf (f .args .s)) (f .args .words .now) (f .pre) in
     omega arith
 
 shared-slice-read-if1-2 : tie.Need-shared-slice-read-if1-2 Inv-loop2 μ-loop2 Inv-loop μ-loop Inv-search μ-search
 shared-slice-read-if1-2 c =
     let f = c .before .before .before in
-    let l = header (shapeOfSizes (f .args .s)) (f .args .words .now) (f .pre) in
+    let l = header (shapeOf (f .args .s)) (f .args .words .now) (f .pre) in
     omega arith
 
 returns : tie.Need-returns Inv-loop2 μ-loop2 Inv-loop μ-loop Inv-search μ-search
 unfolding accepted delivered
 returns c =
     let f = c .before .before .before .before in
-    sym (nothing-held (shapeOfSizes (f .args .s)) (f .args .words .now) (f .pre) (c .if1 .taken))
+    sym (nothing-held (shapeOf (f .args .s)) (f .args .words .now) (f .pre) (c .if1 .taken))
 
 -- The search begins -------------------------------------------------------------------------------------------------------------------
 
@@ -155,7 +154,7 @@ loop2-again c =
 
 nothing-in-queue : (c : tie.Joined2 Inv-loop2 μ-loop2 Inv-loop μ-loop Inv-search μ-search)
     → (c .if2 .found ≡ false)
-    × (firstInQueue (shapeOfSizes (entry (c .before .before .before .before .before) .args .s)) (entry (c .before .before .before .before .before) .args .words .now) (c .before .before .before .before .before .search .n) (c .before .before .before .loop .q) ≡ Found.Nothing)
+    × (firstInQueue (shapeOf (entry (c .before .before .before .before .before) .args .s)) (entry (c .before .before .before .before .before) .args .words .now) (c .before .before .before .before .before .search .n) (c .before .before .before .loop .q) ≡ Found.Nothing)
 nothing-in-queue c =
     let f = c .before .before in
     let a = entry (f .before .before .before) .args in
@@ -177,7 +176,7 @@ next-start : (c : tie.After-capacity Inv-loop2 μ-loop2 Inv-loop μ-loop Inv-sea
 next-start c =
     let f = c .before .before .before in
     let a = entry (f .before .before .before) .args in
-    end-at (a .s) (a .words .now) (f .before .before .before .search .n) (f .before .loop .q) (queue-of f) (f .before .loop .start) (c .capacity .result) (f .before .loop .inv .place) (c .capacity .ensures (a .s .x) (a .s .y))
+    end-at (a .s) (a .words .now) (f .before .before .before .search .n) (f .before .loop .q) (queue-of f) (f .before .loop .start) (c .capacity .result) (f .before .loop .inv .place) (c .capacity .ensures)
 
 capacity-requires : tie.Need-capacity-requires Inv-loop2 μ-loop2 Inv-loop μ-loop Inv-search μ-search
 capacity-requires c κs = search needs
@@ -199,7 +198,7 @@ loop-again c =
     let f = c .before .before .before in
     let a = entry (f .before .before .before) .args in
     let none = nothing-in-queue (c .before) in
-    queue-next (f .before .loop .inv) (none .0) (f .loop-test .taken) (c .capacity .ensures (a .s .x) (a .s .y)) (none .1)
+    queue-next (f .before .loop .inv) (none .0) (f .loop-test .taken) (c .capacity .ensures) (none .1)
 
 -- The nodes ---------------------------------------------------------------------------------------------------------------------------
 
@@ -222,9 +221,9 @@ search-again c =
 -- The two answers ---------------------------------------------------------------------------------------------------------------------
 
 outcome : (c : tie.Left-search Inv-loop2 μ-loop2 Inv-loop μ-loop Inv-search μ-search)
-    → ((c .search-test .found ≡ false) × (firstMove (shapeOfSizes (entry (c .before) .args .s)) (entry (c .before) .args .words .now) ≡ Found.Nothing))
+    → ((c .search-test .found ≡ false) × (firstMove (shapeOf (entry (c .before) .args .s)) (entry (c .before) .args .words .now) ≡ Found.Nothing))
     ⊎ ((c .search-test .found ≡ true)
-    × (firstMove (shapeOfSizes (entry (c .before) .args .s)) (entry (c .before) .args .words .now) ≡ Found.Move (c .search-test .node) (c .search-test .queue) (c .search-test .output)))
+    × (firstMove (shapeOf (entry (c .before) .args .s)) (entry (c .before) .args .words .now) ≡ Found.Move (c .search-test .node) (c .search-test .queue) (c .search-test .output)))
 outcome c =
     let i = c .before .search .inv in
     let e = c .before .before .nodes .ensures in

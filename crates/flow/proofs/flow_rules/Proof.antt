@@ -6,10 +6,9 @@ use Prim.Native.Nat.{ℕ}
 use borrow.Author.Needs.{needs}
 use borrow.Author.Tests.{eq-eqb, ne-eqb, lt-ltb, le-ltb}
 use lib.Dec.{ltb, eqb}
-use Rattle.network.specs.Sizes.{Shape}
+use Rattle.network.specs.Sizes.{Shape, shapeOf}
 use Rattle.network.specs.Routes.{freeSlots, slotsNeeded}
 use Rattle.network.specs.Refusals.{refuse, flowRules, noSlot, noBubble}
-use Rattle.packet.specs.Geometry.{shapeOfSizes}
 use Rattle.flow.proofs.flow_rules.Statement.{statement}
 use Rattle.flow.proofs.flow_rules.Tie as tie
 
@@ -22,7 +21,7 @@ tested S w n q o free needed a b d ef en ea eb ed = cc
 returns : tie.Need-returns
 returns c =
     let a = c .before .before .args in
-    let S = shapeOfSizes (a .s) in
+    let S = shapeOf (a .s) in
     let w = a .words .now in
     tested S w (a .n) (a .q) (a .o) (freeSlots S w (a .n) (a .o)) (slotsNeeded (a .q) (a .o)) true _ _ refl refl (eq-eqb (a .o) 0 (c .if1 .taken)) refl refl
 
@@ -33,7 +32,7 @@ returns-2 : tie.Need-returns-2
 returns-2 c =
     let a = c .before .before .before .before .args in
     let free = c .before .free-slots in
-    tested (shapeOfSizes (a .s)) (a .words .now) (a .n) (a .q) (a .o) (free .result) (slotsNeeded (a .q) (a .o)) false true _
+    tested (shapeOf (a .s)) (a .words .now) (a .n) (a .q) (a .o) (free .result) (slotsNeeded (a .q) (a .o)) false true _
     (free .ensures) refl (ne-eqb (a .o) 0 (c .before .before .if1 .left)) (eq-eqb (free .result) 0 (c .if2 .taken)) refl
 
 slots-needed-requires : tie.Need-slots-needed-requires
@@ -45,7 +44,7 @@ returns-3 c =
     let f = c .before .before in
     let free = f .before .free-slots in
     let a = f .before .before .before .before .args in
-    tested (shapeOfSizes (a .s)) (a .words .now) (a .n) (a .q) (a .o) (free .result) (needed .result) false false true
+    tested (shapeOf (a .s)) (a .words .now) (a .n) (a .q) (a .o) (free .result) (needed .result) false false true
     (free .ensures) (needed .ensures) (ne-eqb (a .o) 0 (f .before .before .if1 .left)) (ne-eqb (free .result) 0 (f .if2 .left)) (lt-ltb (free .result) (needed .result) (c .if3 .taken))
 
 returns-4 : tie.Need-returns-4
@@ -54,7 +53,7 @@ returns-4 c =
     let f = c .before .before in
     let free = f .before .free-slots in
     let a = f .before .before .before .before .args in
-    tested (shapeOfSizes (a .s)) (a .words .now) (a .n) (a .q) (a .o) (free .result) (needed .result) false false false
+    tested (shapeOf (a .s)) (a .words .now) (a .n) (a .q) (a .o) (free .result) (needed .result) false false false
     (free .ensures) (needed .ensures) (ne-eqb (a .o) 0 (f .before .before .if1 .left)) (ne-eqb (free .result) 0 (f .if2 .left)) (le-ltb (free .result) (needed .result) (c .if3 .left))
 
 pub flow-rules-spec : {M : Type 1} → statement M

@@ -25,14 +25,14 @@ sub-result c =
     let f = c .before .before .before .before in
     let a = f .args in
     target-few (a .s) (a .words .now) (a .n) (a .o) (c .before .target .result) (f .pre .0) (c .before .target .ensures)
-    (c .before .before .capacity .result) (c .held-count .result) (c .before .before .capacity .ensures (a .s .x) (a .s .y)) (c .held-count .ensures)
+    (c .before .before .capacity .result) (c .held-count .result) (c .before .before .capacity .ensures) (c .held-count .ensures)
 
 returns : tie.Need-returns
 returns c =
     let f = c .before .before .before .before in
     let a = f .args in
     target-free (a .s) (a .words .now) (a .n) (a .o) (c .before .target .result) (f .pre .0) (c .before .target .ensures)
-    (c .before .before .capacity .result) (c .held-count .result) (c .before .before .capacity .ensures (a .s .x) (a .s .y)) (c .held-count .ensures)
+    (c .before .before .capacity .result) (c .held-count .result) (c .before .before .capacity .ensures) (c .held-count .ensures)
 
 pub free-slots-spec : {M : Type 1} → statement M
 free-slots-spec = tie.close (tie.spec capacity-requires target-requires held-count-requires sub-result returns)

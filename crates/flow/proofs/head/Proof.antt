@@ -14,28 +14,28 @@ add-result : tie.Need-add-result
 add-result c =
     let f = c .before .before in
     let a = f .args in
-    let i = inside-at (a .s) (a .words .now) (a .n) (a .q) (f .pre .0) (c .queue-start .result) (c .queue-start .ensures (a .s .x) (a .s .y)) in
+    let i = inside-at (a .s) (a .words .now) (a .n) (a .q) (f .pre .0) (c .queue-start .result) (c .queue-start .ensures) in
     omega arith
 
 mul-result : tie.Need-mul-result
 mul-result c =
     let f = c .before .before in
     let a = f .args in
-    let i = inside-at (a .s) (a .words .now) (a .n) (a .q) (f .pre .0) (c .queue-start .result) (c .queue-start .ensures (a .s .x) (a .s .y)) in
+    let i = inside-at (a .s) (a .words .now) (a .n) (a .q) (f .pre .0) (c .queue-start .result) (c .queue-start .ensures) in
     omega arith
 
 shared-slice-read-result : tie.Need-shared-slice-read-result
 shared-slice-read-result c =
     let f = c .before .before .before in
     let a = f .args in
-    let i = inside-at (a .s) (a .words .now) (a .n) (a .q) (f .pre .0) (c .before .queue-start .result) (c .before .queue-start .ensures (a .s .x) (a .s .y)) in
+    let i = inside-at (a .s) (a .words .now) (a .n) (a .q) (f .pre .0) (c .before .queue-start .result) (c .before .queue-start .ensures) in
     omega arith
 
 returns : tie.Need-returns
 returns c =
     let f = c .before .before .before in
     let a = f .args in
-    head-at (a .s) (a .words .now) (a .n) (a .q) (f .pre .0) (c .before .queue-start .result) (c .before .queue-start .ensures (a .s .x) (a .s .y)) (f .pre .1)
+    head-at (a .s) (a .words .now) (a .n) (a .q) (f .pre .0) (c .before .queue-start .result) (c .before .queue-start .ensures) (f .pre .1)
 
 pub head-spec : {M : Type 1} → statement M
 head-spec = tie.close (tie.spec queue-start-requires add-result mul-result shared-slice-read-result returns)

@@ -14,21 +14,21 @@ mul-result : tie.Need-mul-result
 mul-result c =
     let f = c .before .before in
     let a = f .args in
-    let i = inside-at (a .s) (a .words .now) (a .n) (a .q) (f .pre) (c .queue-start .result) (c .queue-start .ensures (a .s .x) (a .s .y)) in
+    let i = inside-at (a .s) (a .words .now) (a .n) (a .q) (f .pre) (c .queue-start .result) (c .queue-start .ensures) in
     omega arith
 
 shared-slice-read-result : tie.Need-shared-slice-read-result
 shared-slice-read-result c =
     let f = c .before .before .before in
     let a = f .args in
-    let i = inside-at (a .s) (a .words .now) (a .n) (a .q) (f .pre) (c .before .queue-start .result) (c .before .queue-start .ensures (a .s .x) (a .s .y)) in
+    let i = inside-at (a .s) (a .words .now) (a .n) (a .q) (f .pre) (c .before .queue-start .result) (c .before .queue-start .ensures) in
     omega arith
 
 returns : tie.Need-returns
 returns c =
     let f = c .before .before .before in
     let a = f .args in
-    count-at (a .s) (a .words .now) (a .n) (a .q) (f .pre) (c .before .queue-start .result) (c .before .queue-start .ensures (a .s .x) (a .s .y))
+    count-at (a .s) (a .words .now) (a .n) (a .q) (f .pre) (c .before .queue-start .result) (c .before .queue-start .ensures)
 
 pub held-count-spec : {M : Type 1} → statement M
 held-count-spec = tie.close (tie.spec queue-start-requires mul-result shared-slice-read-result returns)

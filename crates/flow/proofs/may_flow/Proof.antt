@@ -11,50 +11,50 @@ use borrow.Author.Needs.{needs}
 use borrow.Author.Tests.{eq-eqb, ne-eqb, le-leb, lt-leb}
 use lib.Dec.{leb, eqb}
 use lib.ListN.{length}
-use Rattle.network.specs.Sizes.{capacity, isEscape}
+use Rattle.network.specs.Sizes.{shapeOf, capacity, isEscape}
 use Rattle.network.specs.SizesLaws.{range-of, capacity-most}
 use Rattle.network.specs.Layout.{held}
 use Rattle.network.specs.Routes.{target, freeSlots, entersRing, slotsNeeded}
 use Rattle.network.specs.Refusals.{flowRules}
 use Rattle.network.specs.RefusalLaws.{flow-of, flow-by}
-use Rattle.packet.specs.Geometry.{shapeOfSizes}
-use Rattle.packet.specs.declared.torus.Sizes.{Sizes}
+use Rattle.network.specs.declared.Sizes.{Sizes}
 use Rattle.flow.specs.QueueOf.{QueueOf}
+use Rattle.queue.specs.QueueLaws.{nodes-small}
 use Rattle.flow.specs.Places.{asked}
 use Rattle.flow.proofs.Targets.{at-target, target-few, target-free}
 use Rattle.flow.proofs.may_flow.Statement.{statement}
 use Rattle.flow.proofs.may_flow.Tie as tie
 
 -- by the numbers that the code compares
-room : (s : Sizes) (w : List ℕ) (n q o there slots count needed : ℕ) → QueueOf s w n o → there ≡ target (shapeOfSizes s) n o
-    → slots ≡ capacity (shapeOfSizes s) o → count ≡ length (held (shapeOfSizes s) w there o) → needed ≡ slotsNeeded q o → o ≢ 0
-    → leb (count + needed) slots ≡ eqb (flowRules (shapeOfSizes s) w n q o) 0
+room : (s : Sizes) (w : List ℕ) (n q o there slots count needed : ℕ) → QueueOf s w n o → there ≡ target (shapeOf s) n o
+    → slots ≡ capacity (shapeOf s) o → count ≡ length (held (shapeOf s) w there o) → needed ≡ slotsNeeded q o → o ≢ 0
+    → leb (count + needed) slots ≡ eqb (flowRules (shapeOf s) w n q o) 0
 room s w n q o there slots count needed k et es ec en some = go (decLe (count + needed) slots)
   where
     few : count ≤ slots
     few = target-few s w n o there k et slots count es ec
 
-    free : slots - count ≡ freeSlots (shapeOfSizes s) w n o
+    free : slots - count ≡ freeSlots (shapeOf s) w n o
     free = target-free s w n o there k et slots count es ec
 
-    go : Dec (count + needed ≤ slots) → leb (count + needed) slots ≡ eqb (flowRules (shapeOfSizes s) w n q o) 0
+    go : Dec (count + needed ≤ slots) → leb (count + needed) slots ≡ eqb (flowRules (shapeOf s) w n q o) 0
     go (yes l) =
         le-leb (count + needed) slots l
-        ∙ sym (eq-eqb (flowRules (shapeOfSizes s) w n q o) 0 (flow-by (shapeOfSizes s) w n q o (λ ne. omega (arith, free, en, l))))
+        ∙ sym (eq-eqb (flowRules (shapeOf s) w n q o) 0 (flow-by (shapeOf s) w n q o (λ ne. omega (arith, free, en, l))))
     go (no l) =
         lt-leb (count + needed) slots (omega (arith, l))
-        ∙ sym (ne-eqb (flowRules (shapeOfSizes s) w n q o) 0 (λ z. l (let g = flow-of (shapeOfSizes s) w n q o z some in omega (arith, g, few, free, en))))
+        ∙ sym (ne-eqb (flowRules (shapeOf s) w n q o) 0 (λ z. l (let g = flow-of (shapeOf s) w n q o z some in omega (arith, g, few, free, en))))
 
 -- their sum is small
-small-sum : (s : Sizes) (w : List ℕ) (n q o there slots count needed : ℕ) → QueueOf s w n o → there ≡ target (shapeOfSizes s) n o
-    → slots ≡ capacity (shapeOfSizes s) o → count ≡ length (held (shapeOfSizes s) w there o) → needed ≡ slotsNeeded q o → count + needed ≤ 10
+small-sum : (s : Sizes) (w : List ℕ) (n q o there slots count needed : ℕ) → QueueOf s w n o → there ≡ target (shapeOf s) n o
+    → slots ≡ capacity (shapeOf s) o → count ≡ length (held (shapeOf s) w there o) → needed ≡ slotsNeeded q o → count + needed ≤ 10
 unfolding entersRing slotsNeeded
 small-sum s w n q o there slots count needed k et es ec en = go (isEscape o && not (eqb q o)) en
   where
     few : count ≤ 8
     few =
         let l = target-few s w n o there k et slots count es ec in
-        let m = capacity-most (shapeOfSizes s) o (range-of (shapeOfSizes s) (k .network .in-range)) in
+        let m = capacity-most (shapeOf s) o (range-of (shapeOf s) (k .network .in-range)) in
         omega (arith, es)
 
     go : (b : Bool) → needed ≡ cond b 2 1 → count + needed ≤ 10
@@ -63,16 +63,16 @@ small-sum s w n q o there slots count needed k et es ec en = go (isEscape o && n
 
 -- the node that the table names
 is-target : (c : tie.After-look-up)
-    → c .look-up .result ≡ target (shapeOfSizes (c .before .before .before .before .args .s)) (c .before .before .before .before .args .n) (c .before .before .before .before .args .o)
+    → c .look-up .result ≡ target (shapeOf (c .before .before .before .before .args .s)) (c .before .before .before .before .args .n) (c .before .before .before .before .args .o)
 unfolding target
 is-target c =
     let f = c .before .before .before .before in
-    c .look-up .ensures (shapeOfSizes (f .args .s)) (f .pre .1) (f .pre .0 .node)
+    c .look-up .ensures (shapeOf (f .args .s)) (f .pre .1) (f .pre .0 .node)
 
 returns : tie.Need-returns
 returns c =
     let a = c .before .before .before .args in
-    let S = shapeOfSizes (a .s) in
+    let S = shapeOf (a .s) in
     sym (eq-eqb (flowRules S (a .words .now) (a .n) (a .q) (a .o)) 0 (flow-by S (a .words .now) (a .n) (a .q) (a .o) (λ ne. absurd (ne (c .if1 .taken)))))
 
 sub-look-up : tie.Need-sub-look-up
@@ -82,8 +82,10 @@ look-up-requires : tie.Need-look-up-requires
 look-up-requires c κs =
     let f = c .before .before .before in
     let a = f .args in
-    let small = asked (a .s) (a .words .now) (a .n) (a .o) (f .pre .0) in
-    (omega arith, small .3, f .pre .1 .bytes)
+    let places = asked (a .s) (a .words .now) (a .n) (a .o) (f .pre .0) in
+    let h = places .1 in
+    let few = nodes-small (a .s) (places .0) in
+    (omega arith, omega arith, f .pre .1 .bytes)
 
 capacity-requires : tie.Need-capacity-requires
 capacity-requires c κs = search needs
@@ -104,7 +106,7 @@ add-result c =
     let slots = c .before .before .capacity in
     let l =
     small-sum (a .s) (a .words .now) (a .n) _ (a .o) (c .before .before .before .look-up .result) (slots .result) (c .before .held-count .result) (c .slots-needed .result)
-    (f .pre .0) (is-target (c .before .before .before)) (slots .ensures (a .s .x) (a .s .y)) (c .before .held-count .ensures) (c .slots-needed .ensures) in
+    (f .pre .0) (is-target (c .before .before .before)) (slots .ensures) (c .before .held-count .ensures) (c .slots-needed .ensures) in
     omega arith
 
 returns-2 : tie.Need-returns-2
@@ -113,7 +115,7 @@ returns-2 c =
     let a = f .args in
     let slots = c .before .before .capacity in
     room (a .s) (a .words .now) (a .n) (a .q) (a .o) (c .before .before .before .look-up .result) (slots .result) (c .before .held-count .result) (c .slots-needed .result)
-    (f .pre .0) (is-target (c .before .before .before)) (slots .ensures (a .s .x) (a .s .y)) (c .before .held-count .ensures) (c .slots-needed .ensures)
+    (f .pre .0) (is-target (c .before .before .before)) (slots .ensures) (c .before .held-count .ensures) (c .slots-needed .ensures)
     (c .before .before .before .before .if1 .left)
 
 pub may-flow-spec : {M : Type 1} → statement M

@@ -1,28 +1,28 @@
 -- `queue::capacity` meets its contract, a law for each kind of queue. Assumes nothing.
 use mathlib.Core.Path.{sym}
 use native.Mathlib.Omega.{arith}
-use Rattle.network.specs.Calls.{shapeOf}
 use Rattle.queue.proofs.Places.{capacity-injection, capacity-escape, capacity-adaptive}
 use Rattle.queue.proofs.capacity.Statement.{statement}
+use Rattle.network.specs.Sizes.{shapeOf}
 use Rattle.queue.proofs.capacity.Tie as tie
 
 returns : tie.Need-returns
 unfolding shapeOf
-returns c x y =
+returns c =
     let a = c .before .args in
-    sym (capacity-injection (shapeOf x y (a .e) (a .a) (a .j)) (a .q) (omega arith))
+    sym (capacity-injection (shapeOf (a .s)) (a .q) (omega arith))
 
 returns-2 : tie.Need-returns-2
 unfolding shapeOf
-returns-2 c x y =
+returns-2 c =
     let a = c .before .before .args in
-    sym (capacity-escape (shapeOf x y (a .e) (a .a) (a .j)) (a .q) (omega arith))
+    sym (capacity-escape (shapeOf (a .s)) (a .q) (omega arith))
 
 returns-3 : tie.Need-returns-3
 unfolding shapeOf
-returns-3 c x y =
+returns-3 c =
     let a = c .before .before .args in
-    sym (capacity-adaptive (shapeOf x y (a .e) (a .a) (a .j)) (a .q) (omega arith) (omega arith))
+    sym (capacity-adaptive (shapeOf (a .s)) (a .q) (omega arith) (omega arith))
 
 pub capacity-spec : {M : Type 1} → statement M
 capacity-spec = tie.close (tie.spec returns returns-2 returns-3)

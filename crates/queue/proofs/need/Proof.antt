@@ -4,41 +4,41 @@ use Prim.Native.Nat.{ℕ, _+_, _*_, _≤_}
 use native.Mathlib.Nat.{mul-one}
 use native.Mathlib.Omega.{arith}
 use Rattle.base.specs.Digits.{product}
-use Rattle.network.specs.Sizes.{nodes}
-use Rattle.network.specs.Layout.{need}
-use Rattle.network.specs.Calls.{shapeOf}
+use Rattle.network.specs.Sizes.{shapeOf, mostNodes, nodes}
+use Rattle.network.specs.Layout.{headerWords, need}
+use Rattle.queue.specs.QueueLaws.{small}
 use Rattle.queue.proofs.Places.{product-small, node-small}
-use borrow.Author.Needs.{needs}
 use Rattle.queue.proofs.need.Statement.{statement}
 use Rattle.queue.proofs.need.Tie as tie
 
 node-words-requires : tie.Need-node-words-requires
-node-words-requires c κs = search needs
+node-words-requires c κs = c .pre
 
-nodes-small : (c : tie.After-node-words) → c .before .args .x * c .before .args .y ≤ 256
-nodes-small c = product-small (c .before .args .x) (c .before .args .y) 16 16 (omega arith) (omega arith)
+nodes-few : (c : tie.Start) → c .args .s .x * c .args .s .y ≤ mostNodes
+nodes-few c = let k = small (c .args .s) (c .pre) in product-small (c .args .s .x) (c .args .s .y) 16 16 (k .columns) (k .rows)
 
-words-small : (c : tie.After-node-words) → c .before .args .x * c .before .args .y * c .node-words .result ≤ 256 * 81
+words-small : (c : tie.After-node-words) → c .before .args .s .x * c .before .args .s .y * c .node-words .result ≤ mostNodes * 81
 words-small c =
-    let a = c .before .args in
-    let w = c .node-words .ensures 0 0 in
-    let l = node-small 0 0 (a .e) (a .a) (a .j) (omega arith) (omega arith) (omega arith) in
-    product-small (a .x * a .y) (c .node-words .result) 256 81 (nodes-small c) (omega arith)
+    let s = c .before .args .s in
+    let w = c .node-words .ensures in
+    let l = node-small s (c .before .pre) in
+    product-small (s .x * s .y) (c .node-words .result) mostNodes 81 (nodes-few (c .before)) (omega arith)
 
 mul-result : tie.Need-mul-result
-mul-result c = omega (arith, nodes-small c)
+mul-result c = omega (arith, nodes-few (c .before .before))
 
 mul-result-2 : tie.Need-mul-result-2
-mul-result-2 c = omega (arith, words-small c)
+mul-result-2 c = omega (arith, words-small (c .before))
 
 add-result : tie.Need-add-result
-add-result c = omega (arith, words-small c)
+add-result c = omega (arith, words-small (c .before))
 
 returns : tie.Need-returns
 unfolding need nodes product shapeOf
 returns c =
-    let a = c .before .args in
-    ap (λ (k : ℕ). 8 + k) (ap₂ (λ (k m : ℕ). k * m) (ap (λ (k : ℕ). a .x * k) (sym (mul-one (a .y)))) (c .node-words .ensures (a .x) (a .y)))
+    let s = c .before .before .args .s in
+    ap (λ (k : ℕ). headerWords + k)
+    (ap₂ (λ (k m : ℕ). k * m) (ap (λ (k : ℕ). s .x * k) (sym (mul-one (s .y)))) (c .before .node-words .ensures))
 
 pub need-spec : {M : Type 1} → statement M
 need-spec = tie.close (tie.spec node-words-requires mul-result mul-result-2 add-result returns)

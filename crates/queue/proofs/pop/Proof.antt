@@ -7,22 +7,16 @@ use Rattle.queue.proofs.pop.Statement.{statement}
 use Rattle.queue.proofs.pop.Tie as tie
 
 queue-start-requires : tie.Need-queue-start-requires
-queue-start-requires c κs =
-    let s = c .before in
-    let a = s .args in
-    places (a .x) (a .y) (a .e) (a .a) (a .j) (s .pre .0)
+queue-start-requires c κs = places (c .before .pre .0)
 
 queue-end-requires : tie.Need-queue-end-requires
-queue-end-requires c κs =
-    let s = c .before .before in
-    let a = s .args in
-    places (a .x) (a .y) (a .e) (a .a) (a .j) (s .pre .0)
+queue-end-requires c κs = places (c .before .before .pre .0)
 
 remove-at-requires : tie.Need-remove-at-requires
 remove-at-requires c κs =
     let s = c .before .before .before .before in
     let a = s .args in
-    let at = placed (a .x) (a .y) (a .e) (a .a) (a .j) (s .pre .0) (c .before .before .queue-start .ensures) (c .before .queue-end .ensures) in
+    let at = placed (s .pre .0) (c .before .before .queue-start .ensures) (c .before .queue-end .ensures) in
     (queue-at at, some-at at (s .pre .1))
 
 same-length : tie.Need-same-length
@@ -34,7 +28,7 @@ returns c =
     let ends = c .before .before .before .before in
     let s = ends .before .before .before in
     let a = s .args in
-    let at = placed (a .x) (a .y) (a .e) (a .a) (a .j) (s .pre .0) (ends .before .queue-start .ensures) (ends .queue-end .ensures) in
+    let at = placed (s .pre .0) (ends .before .queue-start .ensures) (ends .queue-end .ensures) in
     (put-at at (drop 1) (c .before .before .remove-at .ensures .0), head-at at (c .before .before .remove-at .ensures .1))
 
 pub pop-spec : {M : Type 1} → statement M

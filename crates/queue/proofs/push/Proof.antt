@@ -8,22 +8,16 @@ use Rattle.queue.proofs.push.Statement.{statement}
 use Rattle.queue.proofs.push.Tie as tie
 
 queue-start-requires : tie.Need-queue-start-requires
-queue-start-requires c κs =
-    let s = c .before in
-    let a = s .args in
-    places (a .x) (a .y) (a .e) (a .a) (a .j) (s .pre .0)
+queue-start-requires c κs = places (c .before .pre .0)
 
 queue-end-requires : tie.Need-queue-end-requires
-queue-end-requires c κs =
-    let s = c .before .before in
-    let a = s .args in
-    places (a .x) (a .y) (a .e) (a .a) (a .j) (s .pre .0)
+queue-end-requires c κs = places (c .before .before .pre .0)
 
 append-at-requires : tie.Need-append-at-requires
 append-at-requires c κs =
     let s = c .before .before .before .before in
     let a = s .args in
-    let at = placed (a .x) (a .y) (a .e) (a .a) (a .j) (s .pre .0) (c .before .before .queue-start .ensures) (c .before .queue-end .ensures) in
+    let at = placed (s .pre .0) (c .before .before .queue-start .ensures) (c .before .queue-end .ensures) in
     (queue-at at, room-at at (s .pre .1))
 
 same-length : tie.Need-same-length
@@ -35,7 +29,7 @@ returns c =
     let ends = c .before .before .before .before in
     let s = ends .before .before .before in
     let a = s .args in
-    let at = placed (a .x) (a .y) (a .e) (a .a) (a .j) (s .pre .0) (ends .before .queue-start .ensures) (ends .queue-end .ensures) in
+    let at = placed (s .pre .0) (ends .before .queue-start .ensures) (ends .queue-end .ensures) in
     put-at at (λ (ps : List ℕ). ps ++ (a .p ∷ [])) (c .before .before .append-at .ensures)
 
 pub push-spec : {M : Type 1} → statement M

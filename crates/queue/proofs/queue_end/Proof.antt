@@ -17,9 +17,10 @@ sum-small : (c : tie.After-capacity) → c .before .queue-start .result + (1 + c
 unfolding queueEnd queueLength
 sum-small c =
     let a = c .before .before .args in
-    let s = c .before .queue-start .ensures 0 0 in
-    let k = c .capacity .ensures 0 0 in
-    let l = end-small 0 0 (a .e) (a .a) (a .j) (a .n) (a .q) (omega arith) (omega arith) (omega arith) (omega arith) (omega arith) in
+    let p = c .before .before .pre in
+    let s = c .before .queue-start .ensures in
+    let k = c .capacity .ensures in
+    let l = end-small (a .s) (a .n) (a .q) (p .0) (p .1) (p .2) in
     omega arith
 
 add-result : tie.Need-add-result
@@ -30,9 +31,9 @@ add-result-2 c = omega (arith, sum-small c)
 
 returns : tie.Need-returns
 unfolding queueEnd queueLength
-returns c x y =
-    let s = c .before .queue-start .ensures x y in
-    let k = c .capacity .ensures x y in
+returns c =
+    let s = c .before .queue-start .ensures in
+    let k = c .capacity .ensures in
     omega arith
 
 pub queue-end-spec : {M : Type 1} → statement M

@@ -4,6 +4,7 @@ use Prim.Native.Nat.{ℕ, _+_, _*_, _≤_}
 use borrow.Author.Needs.{needs}
 use native.Mathlib.Omega.{arith}
 use Rattle.network.specs.Layout.{queueStart}
+use Rattle.queue.specs.QueueLaws.{nodes-small}
 use Rattle.queue.proofs.Places.{product-small, node-small, before-small}
 use Rattle.queue.proofs.queue_start.Statement.{statement}
 use Rattle.queue.proofs.queue_start.Tie as tie
@@ -17,11 +18,14 @@ words-before-requires c κs = search needs
 sum-small : (c : tie.After-words-before) → c .before .before .args .n * c .before .node-words .result + c .words-before .result ≤ 255 * 81 + 81
 sum-small c =
     let a = c .before .before .args in
-    let w = c .before .node-words .ensures 0 0 in
-    let l = node-small 0 0 (a .e) (a .a) (a .j) (omega arith) (omega arith) (omega arith) in
+    let p = c .before .before .pre in
+    let w = c .before .node-words .ensures in
+    let l = node-small (a .s) (p .0) in
+    let h = p .1 in
+    let few = nodes-small (a .s) (p .0) in
     let m = product-small (a .n) (c .before .node-words .result) 255 81 (omega arith) (omega arith) in
-    let b = c .words-before .ensures 0 0 in
-    let k = before-small 0 0 (a .e) (a .a) (a .j) (a .q) (omega arith) (omega arith) (omega arith) (omega arith) in
+    let b = c .words-before .ensures in
+    let k = before-small (a .s) (a .q) (p .0) (p .2) in
     omega arith
 
 mul-result : tie.Need-mul-result
@@ -35,9 +39,9 @@ add-result-2 c = omega (arith, sum-small c)
 
 returns : tie.Need-returns
 unfolding queueStart
-returns c x y =
-    let w = ap (λ (k : ℕ). c .before .before .args .n * k) (c .before .node-words .ensures x y) in
-    let b = c .words-before .ensures x y in
+returns c =
+    let w = ap (λ (k : ℕ). c .before .before .args .n * k) (c .before .node-words .ensures) in
+    let b = c .words-before .ensures in
     omega arith
 
 pub queue-start-spec : {M : Type 1} → statement M

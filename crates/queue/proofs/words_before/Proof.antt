@@ -2,63 +2,71 @@
 use Prim.Native.Nat.{_*_, _-_, _≤_}
 use borrow.Author.Needs.{needs}
 use native.Mathlib.Omega.{arith}
-use Rattle.network.specs.Calls.{shapeOf}
+use Rattle.network.specs.Sizes.{shapeOf}
+use Rattle.queue.specs.QueueLaws.{Small, small}
 use Rattle.queue.proofs.Places.{before-none, before-few, before-many, product-small}
 use Rattle.queue.proofs.words_before.Statement.{statement}
 use Rattle.queue.proofs.words_before.Tie as tie
 
+few : (c : tie.Start) → Small (c .args .s)
+few c = small (c .args .s) (c .pre .0)
+
 returns : tie.Need-returns
-returns c x y =
+returns c =
     let a = c .before .args in
-    before-none (shapeOf x y (a .e) (a .a) (a .j)) (a .q) (omega arith)
+    before-none (shapeOf (a .s)) (a .q) (omega arith)
 
 add-result : tie.Need-add-result
-add-result c = search needs
+add-result c = omega (arith, few (c .before .before .before) .injection)
 
 sub-result : tie.Need-sub-result
 sub-result c = search needs
 
-adaptive : (c : tie.Then2) → (c .before .before .args .q - 1) * c .before .before .args .a ≤ 64
-adaptive c = product-small (c .before .before .args .q - 1) (c .before .before .args .a) 8 8 (omega arith) (omega arith)
+adaptive : (c : tie.Then2) → (c .before .before .args .q - 1) * c .before .before .args .s .adaptive ≤ 64
+adaptive c =
+    let a = c .before .before .args in
+    product-small (a .q - 1) (a .s .adaptive) 8 8 (omega arith) (few (c .before .before) .adaptive)
 
 mul-result : tie.Need-mul-result
-mul-result c = omega (arith, adaptive c)
+mul-result c = omega (arith, adaptive (c .before .before))
 
 add-result-2 : tie.Need-add-result-2
-add-result-2 c = omega (arith, adaptive c)
+add-result-2 c = omega (arith, few (c .before .before .before .before) .injection, adaptive (c .before .before))
 
 returns-2 : tie.Need-returns-2
 unfolding shapeOf
-returns-2 c x y =
-    let a = c .before .before .args in
-    before-few (shapeOf x y (a .e) (a .a) (a .j)) (a .q) (omega arith) (omega arith)
+returns-2 c =
+    let a = c .before .before .before .before .args in
+    before-few (shapeOf (a .s)) (a .q) (omega arith) (omega arith)
 
 add-result-3 : tie.Need-add-result-3
-add-result-3 c = search needs
+add-result-3 c = omega (arith, few (c .before .before .before) .injection)
 
 mul-result-2 : tie.Need-mul-result-2
-mul-result-2 c = search needs
+mul-result-2 c = omega (arith, few (c .before .before .before .before) .adaptive)
 
 add-result-4 : tie.Need-add-result-4
-add-result-4 c = search needs
+add-result-4 c = let k = few (c .before .before .before .before) in omega (arith, k .injection, k .adaptive)
 
 sub-result-2 : tie.Need-sub-result-2
 sub-result-2 c = search needs
 
-escape : (c : tie.Else2) → (c .before .before .args .q - 5) * c .before .before .args .e ≤ 64
-escape c = product-small (c .before .before .args .q - 5) (c .before .before .args .e) 8 8 (omega arith) (omega arith)
+escape : (c : tie.Else2) → (c .before .before .args .q - 5) * c .before .before .args .s .escape ≤ 64
+escape c =
+    let a = c .before .before .args in
+    product-small (a .q - 5) (a .s .escape) 8 8 (omega arith) (few (c .before .before) .escape)
 
 mul-result-3 : tie.Need-mul-result-3
-mul-result-3 c = omega (arith, escape c)
+mul-result-3 c = omega (arith, escape (c .before .before .before))
 
 add-result-5 : tie.Need-add-result-5
-add-result-5 c = omega (arith, escape c)
+add-result-5 c = let k = few (c .before .before .before .before .before) in omega (arith, k .injection, k .adaptive, escape (c .before .before .before))
 
 returns-3 : tie.Need-returns-3
 unfolding shapeOf
-returns-3 c x y =
-    let a = c .before .before .args in
-    before-many (shapeOf x y (a .e) (a .a) (a .j)) (a .q) (omega arith)
+returns-3 c =
+    let a = c .before .before .before .before .before .args in
+    before-many (shapeOf (a .s)) (a .q) (omega arith)
 
 pub words-before-spec : {M : Type 1} → statement M
 words-before-spec =

@@ -7,10 +7,10 @@ use Prim.Native.Nat.{ℕ, _+_, _-_, _<_, _≤_}
 use native.Mathlib.Omega.{arith}
 use lib.ListN.{length}
 use Rattle.base.specs.Parts.{span}
-use Rattle.network.specs.Sizes.{Shape, nodes, capacity}
+use Rattle.network.specs.Sizes.{Shape, shapeOf, nodes, capacity}
 use Rattle.network.specs.Layout.{queuePart}
 use Rattle.packet.specs.GeometryLaws.{node-lt}
-use Rattle.packet.specs.Geometry.{shapeOfSizes, nodeAt}
+use Rattle.packet.specs.Geometry.{nodeAt}
 use Rattle.queue_check.specs.declared.Tally.{Tally}
 use Rattle.queue_check.specs.QueueTally.{tally}
 use Rattle.queue_check.proofs.Walks.{NodeWalk, node-start, node-end, node-part, node-tally, node-more, node-small, node-stop, node-done, part-length, part-small, part-end, fits, holds, works}
@@ -18,7 +18,7 @@ use Rattle.queue_check.proofs.node_fits.Statement.{statement}
 use Rattle.queue_check.proofs.node_fits.Tie as tie
 
 abbrev Inv-loop : tie.InvT-loop
-Inv-loop words columns rows s x y start held₀ work₀ at₀ q₀ held work at q = NodeWalk (shapeOfSizes s) words (nodeAt s x y) q at held work
+Inv-loop words columns rows s x y start held₀ work₀ at₀ q₀ held work at q = NodeWalk (shapeOf s) words (nodeAt s x y) q at held work
 
 abbrev μ-loop : tie.MeasureT-loop
 μ-loop words columns rows s x y start held₀ work₀ at₀ q₀ held work at q = 9 - q
@@ -34,7 +34,7 @@ abbrev start : tie.At-loop Inv-loop μ-loop → tie.Start Inv-loop μ-loop
 start c = c .before .before .before .before
 
 abbrev S : tie.Start Inv-loop μ-loop → Shape
-S st = shapeOfSizes (st .args .s)
+S st = shapeOf (st .args .s)
 
 abbrev w : tie.Start Inv-loop μ-loop → List ℕ
 w st = st .args .words .now
@@ -54,7 +54,7 @@ is-node st = node-lt (st .args .s) (st .args .x) (st .args .y) (st .pre .0)
 
 -- its capacity
 slots : (c : tie.After-capacity Inv-loop μ-loop) → c .capacity .result ≡ capacity (S (start (c .before .before))) (c .before .before .loop .q)
-slots c = c .capacity .ensures (start (c .before .before) .args .s .x) (start (c .before .before) .args .s .y)
+slots c = c .capacity .ensures
 
 -- its words end among the words
 ends : (c : tie.After-capacity Inv-loop μ-loop) → c .before .before .loop .at + c .capacity .result + 1 ≤ length (w (start (c .before .before)))

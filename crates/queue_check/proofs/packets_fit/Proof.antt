@@ -8,9 +8,10 @@ use mathlib.Core.List.{List}
 use Prim.Native.Nat.{ℕ, _+_, _-_, _≤_}
 use native.Mathlib.Omega.{arith}
 use lib.ListN.{getD}
+use Rattle.network.specs.Sizes.{shapeOf}
 use Rattle.network.specs.Packet.{work}
 use Rattle.network.specs.Layout.{countOf, packetsOf}
-use Rattle.packet.specs.Geometry.{shapeOfSizes, nodeAt}
+use Rattle.packet.specs.Geometry.{nodeAt}
 use Rattle.packet_check.specs.PacketLimits.{fitsWithin}
 use Rattle.queue_check.specs.TallyLaws.{tally-fails}
 use Rattle.queue_check.proofs.Tallies.{Left, left-start, packets-stop, packets-more, packets-small, packets-end}
@@ -18,7 +19,7 @@ use Rattle.queue_check.proofs.packets_fit.Statement.{statement}
 use Rattle.queue_check.proofs.packets_fit.Tie as tie
 
 abbrev Inv-loop : tie.InvT-loop
-Inv-loop part columns rows s x y l count sum₀ i₀ sum i = Left (fitsWithin (shapeOfSizes s) (nodeAt s x y) l) work (packetsOf part) i sum × (i ≤ count)
+Inv-loop part columns rows s x y l count sum₀ i₀ sum i = Left (fitsWithin (shapeOf s) (nodeAt s x y) l) work (packetsOf part) i sum × (i ≤ count)
 
 abbrev μ-loop : tie.MeasureT-loop
 μ-loop part columns rows s x y l count sum₀ i₀ sum i = count - i
@@ -31,7 +32,7 @@ abbrev part : tie.Start Inv-loop μ-loop → List ℕ
 part st = st .args .part .now
 
 abbrev test : tie.Start Inv-loop μ-loop → ℕ → Bool
-test st = fitsWithin (shapeOfSizes (st .args .s)) (nodeAt (st .args .s) (st .args .x) (st .args .y)) (st .args .l)
+test st = fitsWithin (shapeOf (st .args .s)) (nodeAt (st .args .s) (st .args .x) (st .args .y)) (st .args .l)
 
 shared-slice-read-count : tie.Need-shared-slice-read-count Inv-loop μ-loop
 unfolding countOf

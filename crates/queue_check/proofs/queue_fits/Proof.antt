@@ -8,9 +8,9 @@ use native.Mathlib.Omega.{arith}
 use lib.Dec.{eqb}
 use lib.ListN.{drop}
 use Rattle.base.specs.Tests.{allOf}
-use Rattle.network.specs.Sizes.{Shape}
+use Rattle.network.specs.Sizes.{Shape, shapeOf}
 use Rattle.network.specs.Layout.{countOf, packetsOf, queueLength}
-use Rattle.packet.specs.Geometry.{shapeOfSizes, nodeAt}
+use Rattle.packet.specs.Geometry.{nodeAt}
 use Rattle.packet.specs.GeometryLaws.{rings-torus, node-lt}
 use Rattle.packet_check.specs.PacketLimits.{LimitsFit, fitsWithin}
 use Rattle.packet_check.specs.LimitLaws.{limits-fit}
@@ -25,7 +25,7 @@ abbrev start : tie.After-shared-slice-known4 → tie.Start
 start c = c .before .before .before .before
 
 abbrev S : tie.Start → Shape
-S st = shapeOfSizes (st .args .s)
+S st = shapeOf (st .args .s)
 
 abbrev n : tie.Start → ℕ
 n st = nodeAt (st .args .s) (st .args .x) (st .args .y)

@@ -4,11 +4,10 @@ use borrow.Author.Tests.{not-true, not-false}
 use mathlib.Core.Path.{_≡_, refl}
 use Prim.Native.Nat.{_+_, _-_, _<_, _≤_}
 use native.Mathlib.Omega.{arith}
-use Rattle.network.specs.Sizes.{nodes}
+use Rattle.network.specs.Sizes.{shapeOf, nodes}
 use Rattle.network.specs.Layout.{nodeWords}
-use Rattle.packet.specs.Geometry.{shapeOfSizes, RingsFit, OnTorus}
+use Rattle.packet.specs.Geometry.{RingsFit, OnTorus}
 use Rattle.packet.specs.GeometryLaws.{inRange-rings, rings-nodes}
-use Rattle.queue.specs.QueueLaws.{small}
 use Rattle.packet_check.specs.Tables.{Tables}
 use Rattle.queue_check.proofs.Walks.{NetWalk, net-start, net-on, net-first, net-tally, net-within, net-more, net-small, net-stop, net-done}
 use Rattle.queue_check.proofs.queues_fit.Statement.{statement}
@@ -47,11 +46,7 @@ tables : (c : tie.After-nodes Inv-loop μ-loop)
 tables c = record { along-x = c .before .before .before .before .before .fill-ring .ensures; along-y = c .before .before .fill-ring2 .ensures }
 
 node-words-requires : tie.Need-node-words-requires Inv-loop μ-loop
-node-words-requires c κs =
-    let st = start c in
-    let s = st .args .s in
-    let k = small (s .x) (s .y) (s .escape) (s .adaptive) (s .injection) (st .pre .sizes) in
-    (k .escape, k .adaptive, k .injection)
+node-words-requires c κs = start c .pre .sizes
 
 loop-holds : tie.Need-loop-holds Inv-loop μ-loop
 loop-holds c = net-start _ _ (rings (start (c .before)))
@@ -63,11 +58,11 @@ slice-aggregate-node-fits-2 : tie.Need-slice-aggregate-node-fits-2 Inv-loop μ-l
 slice-aggregate-node-fits-2 c = search needs
 
 -- n is a node, and how many words it takes
-is-node : (c : tie.In-loop Inv-loop μ-loop) → c .before .loop .n < nodes (shapeOfSizes (start (c .before .before .before) .args .s))
+is-node : (c : tie.In-loop Inv-loop μ-loop) → c .before .loop .n < nodes (shapeOf (start (c .before .before .before) .args .s))
 is-node c = let e = c .before .before .before .nodes .ensures in let h = c .loop-test .taken in omega arith
 
-words-is : (c : tie.After-node-words Inv-loop μ-loop) → c .node-words .result ≡ nodeWords (shapeOfSizes (start (c .before) .args .s))
-words-is c = c .node-words .ensures (start (c .before) .args .s .x) (start (c .before) .args .s .y)
+words-is : (c : tie.After-node-words Inv-loop μ-loop) → c .node-words .result ≡ nodeWords (shapeOf (start (c .before) .args .s))
+words-is c = c .node-words .ensures
 
 on : (c : tie.In-loop Inv-loop μ-loop) → OnTorus (start (c .before .before .before) .args .s) (c .before .loop .place .x) (c .before .loop .place .y)
 on c = net-on _ _ (rings (start (c .before .before .before))) _ _ _ _ _ _ (c .before .loop .inv) (is-node c)

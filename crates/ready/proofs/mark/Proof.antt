@@ -1,9 +1,9 @@
 -- `ready::mark` meets its contract. Assumes nothing.
 use borrow.Author.Needs.{needs}
 use denote.Ref.{now}
-use Rattle.packet.specs.Geometry.{shapeOfSizes}
 use Rattle.ready.specs.Ready.{marked}
 use Rattle.ready.proofs.mark.Statement.{statement}
+use Rattle.network.specs.Sizes.{shapeOf}
 use Rattle.ready.proofs.mark.Tie as tie
 use Rattle.ready.proofs.mark.Reads as reads
 use Rattle.ready.proofs.mark.Lts as lts
@@ -34,7 +34,7 @@ returns c =
     let r = f .before .before .before .before in
     let h = r .before .before .before .before in
     let a = h .before .before .before .before in
-    marked (shapeOfSizes (a .args .s)) (a .args .n) (a .args .q) (a .args .o) (now (a .args .ready)) _ _ (f .mark-feeder .last .0) (h .mark-head .ensures) (r .mark-arrival .ensures)
+    marked (shapeOf (a .args .s)) (a .args .n) (a .args .q) (a .args .o) (now (a .args .ready)) _ _ (f .mark-feeder .last .0) (h .mark-head .ensures) (r .mark-arrival .ensures)
     (f .mark-feeder .ensures)
 
 pub mark-spec : {M : Type 1} → statement M

@@ -1,13 +1,12 @@
 -- `ready::mark_arrival` meets its contract. Assumes nothing.
 use borrow.Author.Needs.{needs}
 use mathlib.Core.Path.{_≡_}
-use Prim.Native.Nat.{ℕ, _-_, _%_, _<_}
+use Prim.Native.Nat.{_-_, _%_}
 use native.Mathlib.Nat.{lt-of-lt-of-le}
 use native.Mathlib.Omega.{arith}
 use denote.Ref.{now}
-use Rattle.network.specs.Sizes.{nodes}
+use Rattle.network.specs.Sizes.{shapeOf}
 use Rattle.network.specs.Torus.{neighbour}
-use Rattle.packet.specs.Geometry.{shapeOfSizes}
 use Rattle.packet.specs.GeometryLaws.{rings-nodes, rings-torus}
 use Rattle.ready.specs.Ready.{neighbour-node, target-is, arrival-marked}
 use Rattle.ready.proofs.mark_arrival.Statement.{statement}
@@ -36,10 +35,10 @@ abbrev start : tie.After-look-up → tie.Start
 start c = c .before .before .before .before
 
 there-is : (c : tie.After-look-up)
-    → c .look-up .result ≡ neighbour (shapeOfSizes (start c .args .s)) ((start c .args .o - 1) % 4) (start c .args .n)
+    → c .look-up .result ≡ neighbour (shapeOf (start c .args .s)) ((start c .args .o - 1) % 4) (start c .args .n)
 there-is c =
     let a = start c in
-    c .look-up .ensures (shapeOfSizes (a .args .s)) (a .pre .1 .1) (a .pre .1 .0 .1)
+    c .look-up .ensures (shapeOf (a .args .s)) (a .pre .1 .1) (a .pre .1 .0 .1)
 
 -- src/lib.rt:50:5
 mark-head-requires : tie.Need-mark-head-requires
@@ -49,7 +48,7 @@ mark-head-requires c κs =
       a .pre .0,
       (
         a .pre .1 .0 .0,
-        neighbour-node (shapeOfSizes (a .args .s)) ((a .args .o - 1) % 4) (a .args .n) (l .look-up .result) (rings-torus (a .args .s) (a .pre .1 .0 .0)) (a .pre .1 .0 .1) (omega arith) (there-is l),
+        neighbour-node (shapeOf (a .args .s)) ((a .args .o - 1) % 4) (a .args .n) (l .look-up .result) (rings-torus (a .args .s) (a .pre .1 .0 .0)) (a .pre .1 .0 .1) (omega arith) (there-is l),
         a .pre .1 .0 .2,
       ),
     )
@@ -64,8 +63,8 @@ returns-2 c =
     let m = c .before .before in
     let l = m .before .before in
     let a = start l in
-    arrival-marked (shapeOfSizes (a .args .s)) (a .args .n) (a .args .o) (l .look-up .result) (now (a .args .ready)) (m .mark-head .last .0)
-    (target-is (shapeOfSizes (a .args .s)) (a .args .n) (a .args .o) (l .look-up .result) (there-is l)) (m .mark-head .ensures)
+    arrival-marked (shapeOf (a .args .s)) (a .args .n) (a .args .o) (l .look-up .result) (now (a .args .ready)) (m .mark-head .last .0)
+    (target-is (shapeOf (a .args .s)) (a .args .n) (a .args .o) (l .look-up .result) (there-is l)) (m .mark-head .ensures)
 
 pub mark-arrival-spec : {M : Type 1} → statement M
 mark-arrival-spec =

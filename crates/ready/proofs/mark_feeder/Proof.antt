@@ -5,9 +5,8 @@ use Prim.Native.Nat.{ℕ, _+_, _*_, _-_, _/_, _%_, _<_}
 use native.Mathlib.Nat.{lt-of-lt-of-le}
 use native.Mathlib.Omega.{arith}
 use denote.Ref.{now}
-use Rattle.network.specs.Sizes.{nodes}
+use Rattle.network.specs.Sizes.{shapeOf, nodes}
 use Rattle.network.specs.Torus.{neighbour}
-use Rattle.packet.specs.Geometry.{shapeOfSizes}
 use Rattle.packet.specs.GeometryLaws.{rings-nodes, rings-torus}
 use Rattle.ready.specs.Ready.{neighbour-node, before-is, feeder-marked}
 use Rattle.ready.proofs.mark_feeder.Statement.{statement}
@@ -51,15 +50,15 @@ abbrev start : tie.After-look-up → tie.Start
 start c = c .before .before .before .before
 
 there-is : (c : tie.After-look-up)
-    → c .look-up .result ≡ neighbour (shapeOfSizes (start c .args .s)) (back (start c .args .q)) (start c .args .n)
+    → c .look-up .result ≡ neighbour (shapeOf (start c .args .s)) (back (start c .args .q)) (start c .args .n)
 there-is c =
     let a = start c in
-    c .look-up .ensures (shapeOfSizes (a .args .s)) (a .pre .1 .1) (a .pre .1 .0 .1)
+    c .look-up .ensures (shapeOf (a .args .s)) (a .pre .1 .1) (a .pre .1 .0 .1)
 
-is-node : (c : tie.After-look-up) → c .look-up .result < nodes (shapeOfSizes (start c .args .s))
+is-node : (c : tie.After-look-up) → c .look-up .result < nodes (shapeOf (start c .args .s))
 is-node c =
     let a = start c in
-    neighbour-node (shapeOfSizes (a .args .s)) (back (a .args .q)) (a .args .n) (c .look-up .result) (rings-torus (a .args .s) (a .pre .1 .0 .0)) (a .pre .1 .0 .1) (omega arith) (there-is c)
+    neighbour-node (shapeOf (a .args .s)) (back (a .args .q)) (a .args .n) (c .look-up .result) (rings-torus (a .args .s) (a .pre .1 .0 .0)) (a .pre .1 .0 .1) (omega arith) (there-is c)
 
 -- src/lib.rt:66:5
 insert-node-requires : tie.Need-insert-node-requires
@@ -78,8 +77,8 @@ returns-2 c =
     let i = c .before .before in
     let l = i .before .before in
     let a = start l in
-    feeder-marked (shapeOfSizes (a .args .s)) (a .args .n) (a .args .q) (l .look-up .result) (now (a .args .ready)) (i .insert-node .last .0) (is-node l)
-    (before-is (shapeOfSizes (a .args .s)) (a .args .n) (a .args .q) (l .look-up .result) (there-is l)) (i .insert-node .ensures)
+    feeder-marked (shapeOf (a .args .s)) (a .args .n) (a .args .q) (l .look-up .result) (now (a .args .ready)) (i .insert-node .last .0) (is-node l)
+    (before-is (shapeOf (a .args .s)) (a .args .n) (a .args .q) (l .look-up .result) (there-is l)) (i .insert-node .ensures)
 
 pub mark-feeder-spec : {M : Type 1} → statement M
 mark-feeder-spec =

@@ -1,10 +1,10 @@
 -- `ready::mark_head` meets its contract. Assumes nothing.
 use borrow.Author.Needs.{needs}
-use Prim.Native.Nat.{ℕ, _<_}
+use Prim.Native.Nat.{_<_}
 use native.Mathlib.Nat.{lt-of-lt-of-le}
 use native.Mathlib.Omega.{arith}
 use denote.Ref.{now}
-use Rattle.packet.specs.Geometry.{shapeOfSizes}
+use Rattle.network.specs.Sizes.{shapeOf}
 use Rattle.packet.specs.GeometryLaws.{rings-nodes}
 use Rattle.ready.specs.Ready.{source-marked}
 use Rattle.ready.proofs.mark_head.Statement.{statement}
@@ -36,7 +36,7 @@ same-length c = search needs
 returns : tie.Need-returns
 returns c =
     let a = c .before .before .before .before .before in
-    source-marked (shapeOfSizes (a .args .s)) (a .args .n) (a .args .q) (now (a .args .ready)) (c .before .before .insert .last .0) (a .pre .1 .1) (a .pre .1 .2)
+    source-marked (shapeOf (a .args .s)) (a .args .n) (a .args .q) (now (a .args .ready)) (c .before .before .insert .last .0) (a .pre .1 .1) (a .pre .1 .2)
     (c .before .before .insert .ensures)
 
 pub mark-head-spec : {M : Type 1} → statement M

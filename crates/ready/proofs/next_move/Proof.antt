@@ -6,8 +6,7 @@ use Prim.Native.Nat.{ℕ, _+_, _-_, _<_, _≤_}
 use native.Mathlib.Omega.{arith}
 use lib.ListN.{length}
 use denote.Ref.{now}
-use Rattle.network.specs.Sizes.{nodes}
-use Rattle.packet.specs.Geometry.{shapeOfSizes}
+use Rattle.network.specs.Sizes.{shapeOf, nodes}
 use Rattle.packet.specs.GeometryLaws.{inRange-rings, rings-nodes}
 use Rattle.ready.specs.Ready.{Searched, searched-start, searched-next, searched-up, searched-all, lowest-first, lowest-none, refused-some, move-some}
 use Rattle.ready.proofs.next_move.Statement.{statement}
@@ -19,7 +18,7 @@ use Rattle.headset.proofs.remove.Reads as remove-reads
 use Rattle.first.proofs.first_in_queue.Reads as first-in-queue-reads
 
 abbrev Inv-loop : tie.InvT-loop
-Inv-loop words s near ready₀ from₀ ready from = Searched (shapeOfSizes s) words ready from × (length ready ≡ length ready₀)
+Inv-loop words s near ready₀ from₀ ready from = Searched (shapeOf s) words ready from × (length ready ≡ length ready₀)
 
 abbrev μ-loop : tie.MeasureT-loop
 μ-loop words s near ready₀ from₀ ready from = 4096 - from
@@ -28,14 +27,14 @@ less : (t x n : ℕ) → x ≤ n → n < t → t - (n + 1) < t - x
 less t x n a b = omega arith
 
 -- there are at most 256 nodes
-few : (c : tie.Start Inv-loop μ-loop) → nodes (shapeOfSizes (c .args .s)) ≤ 256
+few : (c : tie.Start Inv-loop μ-loop) → nodes (shapeOf (c .args .s)) ≤ 256
 few c = rings-nodes (c .args .s) (inRange-rings (c .args .s) (c .pre .0 .in-range))
 
 -- src/lib.rt:77:5
 loop-holds : tie.Need-loop-holds Inv-loop μ-loop
 loop-holds c =
     let a = c .before .before .before in
-    (searched-start (shapeOfSizes (a .args .s)) (now (a .args .words)) (now (a .args .ready)) (a .pre .1 .1), refl)
+    (searched-start (shapeOf (a .args .s)) (now (a .args .words)) (now (a .args .ready)) (a .pre .1 .1), refl)
 
 -- src/lib.rt:78:13
 lowest-requires : tie.Need-lowest-requires Inv-loop μ-loop
@@ -50,7 +49,7 @@ returns : tie.Need-returns Inv-loop μ-loop
 returns c =
     let l = c .before .before .before .before in
     let a = l .before .before .before .before in (
-      sym (lowest-none (shapeOfSizes (a .args .s)) (now (a .args .words)) (l .loop .ready) (c .before .lowest .result) (l .loop .inv .0 .covers) (c .before .lowest .ensures) (few a) (c .if1 .taken)),
+      sym (lowest-none (shapeOf (a .args .s)) (now (a .args .words)) (l .loop .ready) (c .before .lowest .result) (l .loop .inv .0 .covers) (c .before .lowest .ensures) (few a) (c .if1 .taken)),
       l .loop .inv .0 .covers,
     )
 
@@ -77,7 +76,7 @@ returns-2 c =
     let l = f .before .before .before .before .before in
     let a = l .before .before .before .before in (
       sym
-          (lowest-first (shapeOfSizes (a .args .s)) (now (a .args .words)) (l .loop .ready) (f .before .before .lowest .result) (f .first-in-queue .result) (l .loop .inv .0 .covers)
+          (lowest-first (shapeOf (a .args .s)) (now (a .args .words)) (l .loop .ready) (f .before .before .lowest .result) (f .first-in-queue .result) (l .loop .inv .0 .covers)
           (f .before .before .lowest .ensures) (f .before .if1 .left) (sym (f .first-in-queue .ensures)) (refused-some (f .first-in-queue .result) _ (c .enum-told .given .1))),
       l .loop .inv .0 .covers,
     )
@@ -100,7 +99,7 @@ returns-3 c =
     let l = f .before .before .before .before .before in
     let a = l .before .before .before .before in (
       sym
-          (lowest-first (shapeOfSizes (a .args .s)) (now (a .args .words)) (l .loop .ready) (f .before .before .lowest .result) (f .first-in-queue .result) (l .loop .inv .0 .covers)
+          (lowest-first (shapeOf (a .args .s)) (now (a .args .words)) (l .loop .ready) (f .before .before .lowest .result) (f .first-in-queue .result) (l .loop .inv .0 .covers)
           (f .before .before .lowest .ensures) (f .before .if1 .left) (sym (f .first-in-queue .ensures)) (move-some (f .first-in-queue .result) _ _ _ (c .enum-told3 .given .1))),
       l .loop .inv .0 .covers,
     )
@@ -125,7 +124,7 @@ loop-less c =
     let a = l .before .before .before .before in
     let h = f .before .before .lowest .result in
     let up : l .loop .from ≤ h =
-    searched-up (shapeOfSizes (a .args .s)) (now (a .args .words)) (l .loop .ready) (l .loop .from) h (l .loop .inv .0) (f .before .before .lowest .ensures) (f .before .if1 .left) in
+    searched-up (shapeOf (a .args .s)) (now (a .args .words)) (l .loop .ready) (l .loop .from) h (l .loop .inv .0) (f .before .before .lowest .ensures) (f .before .if1 .left) in
     less 4096 (l .loop .from) h up (f .before .if1 .left)
 
 -- src/lib.rt:77:5
@@ -136,7 +135,7 @@ loop-again c =
     let a = l .before .before .before .before in
     let r = c .before .before in
     let e = c .before .before .before .before in (
-      searched-next (shapeOfSizes (a .args .s)) (now (a .args .words)) (l .loop .ready) (r .remove .last .0) (l .loop .from) (f .before .before .lowest .result) (l .loop .inv .0)
+      searched-next (shapeOf (a .args .s)) (now (a .args .words)) (l .loop .ready) (r .remove .last .0) (l .loop .from) (f .before .before .lowest .result) (l .loop .inv .0)
           (f .before .before .lowest .ensures) (sym (f .first-in-queue .ensures) ∙ e .enum-told2 .given .1) (r .remove .ensures),
       r .remove .ensures .set .words ∙ sym (l .loop .inv .0 .covers .set-of .words) ∙ l .loop .inv .1,
     )
@@ -150,7 +149,7 @@ returns-4 : tie.Need-returns-4 Inv-loop μ-loop
 returns-4 c =
     let l = c .before in
     let a = l .before .before .before .before in
-    (sym (searched-all (shapeOfSizes (a .args .s)) (now (a .args .words)) (l .loop .ready) (l .loop .from) (l .loop .inv .0) (few a) (c .loop-test .left)), l .loop .inv .0 .covers)
+    (sym (searched-all (shapeOf (a .args .s)) (now (a .args .words)) (l .loop .ready) (l .loop .from) (l .loop .inv .0) (few a) (c .loop-test .left)), l .loop .inv .0 .covers)
 
 pub next-move-spec : {M : Type 1} → statement M
 next-move-spec =

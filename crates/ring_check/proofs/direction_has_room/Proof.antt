@@ -4,10 +4,10 @@ use mathlib.Core.Path.{_≡_, refl}
 use Prim.Native.Nat.{_*_, _≤_}
 use native.Mathlib.Nat.{mul-le-mul}
 use native.Mathlib.Omega.{arith}
+use Rattle.network.specs.Sizes.{shapeOf}
 use Rattle.network.specs.Layout.{nodeWords}
-use Rattle.network.specs.Calls.{shapeOf}
-use Rattle.packet.specs.Geometry.{shapeOfSizes, RingsFit}
-use Rattle.packet.specs.GeometryLaws.{inRange-rings}
+use Rattle.packet.specs.Geometry.{RingsFit}
+use Rattle.packet.specs.GeometryLaws.{inRange-rings, nodes-some}
 use Rattle.queue.specs.QueueLaws.{Small, small}
 use Rattle.ring_check.proofs.Lines.{Found, rows-in, rows-are, columns-in, columns-are}
 use Rattle.ring_check.proofs.direction_has_room.Statement.{statement}
@@ -16,14 +16,14 @@ use Rattle.ring_check.proofs.direction_has_room.Tie as tie
 rings : (c : tie.Start) → RingsFit (c .args .s)
 rings c = inRange-rings (c .args .s) (c .pre .0 .sizes)
 
-few : (c : tie.Start) → Small (c .args .s .x) (c .args .s .y) (c .args .s .escape) (c .args .s .adaptive) (c .args .s .injection)
-few c = small (c .args .s .x) (c .args .s .y) (c .args .s .escape) (c .args .s .adaptive) (c .args .s .injection) (c .pre .0 .sizes)
+few : (c : tie.Start) → Small (c .args .s)
+few c = small (c .args .s) (c .pre .0 .sizes)
 
 node-words-requires : tie.Need-node-words-requires
-node-words-requires c κs = let k = few (c .before) in (k .escape, k .adaptive, k .injection)
+node-words-requires c κs = c .before .pre .0 .sizes
 
-words-is : (c : tie.After-node-words) → c .node-words .result ≡ nodeWords (shapeOfSizes (c .before .before .args .s))
-words-is c = c .node-words .ensures (c .before .before .args .s .x) (c .before .before .args .s .y)
+words-is : (c : tie.After-node-words) → c .node-words .result ≡ nodeWords (shapeOf (c .before .before .args .s))
+words-is c = c .node-words .ensures
 
 node-small : (c : tie.After-node-words) → c .node-words .result ≤ 81
 unfolding nodeWords shapeOf
@@ -40,16 +40,16 @@ add-queue-start c = search needs
 
 queue-start-requires : tie.Need-queue-start-requires
 queue-start-requires c κs =
-    let k = few (c .before .before .before) in
-    let h = c .before .before .before .pre .1 in
-    (k .escape, k .adaptive, k .injection, omega arith, omega arith)
+    let st = c .before .before .before in
+    let h = st .pre .1 in
+    (st .pre .0 .sizes, nodes-some (st .args .s) (rings st), omega arith)
 
 found : (c : tie.After-queue-start)
     → Found (c .before .before .before .before .args .s) (c .before .before .before .before .args .d) (c .queue-start .result) (c .before .before .node-words .result)
     (c .before .before .before .before .args .s .x * c .before .before .node-words .result)
 found c =
     let s = c .before .before .before .before .args .s in
-    record { start = c .queue-start .ensures (s .x) (s .y); one = words-is (c .before .before); all = refl }
+    record { start = c .queue-start .ensures; one = words-is (c .before .before); all = refl }
 
 lines-room-requires : tie.Need-lines-room-requires
 lines-room-requires c κs =

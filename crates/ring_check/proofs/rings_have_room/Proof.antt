@@ -7,9 +7,8 @@ use Prim.Native.Nat.{ℕ, _-_, _≤_}
 use native.Mathlib.Omega.{arith}
 use Rattle.base.specs.Tests.{allBelow}
 use Rattle.base.specs.Bools.{fails-at, all-more}
-use Rattle.network.specs.Sizes.{Shape, directions, nodes}
+use Rattle.network.specs.Sizes.{Shape, shapeOf, directions, nodes}
 use Rattle.network.specs.Check.{ringHasRoom, ringsHaveRoom}
-use Rattle.packet.specs.Geometry.{shapeOfSizes}
 use Rattle.ring_check.proofs.rings_have_room.Statement.{statement}
 use Rattle.ring_check.proofs.rings_have_room.Tie as tie
 
@@ -18,7 +17,7 @@ rooms : Shape → List ℕ → ℕ → Bool
 rooms S w d = allBelow (nodes S) (λ n. ringHasRoom S w d n)
 
 abbrev Inv-loop : tie.InvT-loop
-Inv-loop words s d₀ d = (allBelow d (rooms (shapeOfSizes s) words) ≡ true) × (d ≤ directions)
+Inv-loop words s d₀ d = (allBelow d (rooms (shapeOf s) words) ≡ true) × (d ≤ directions)
 
 abbrev μ-loop : tie.MeasureT-loop
 μ-loop words s d₀ d = directions - d
@@ -32,7 +31,7 @@ direction-has-room-requires c κs = (c .before .before .before .pre, c .loop-tes
 
 -- what the call says
 found : (c : tie.After-direction-has-room Inv-loop μ-loop)
-    → c .direction-has-room .result ≡ rooms (shapeOfSizes (c .before .before .before .before .args .s)) (c .before .before .before .before .args .words .now) (c .before .before .loop .d)
+    → c .direction-has-room .result ≡ rooms (shapeOf (c .before .before .before .before .args .s)) (c .before .before .before .before .args .words .now) (c .before .before .loop .d)
 unfolding rooms
 found c = c .direction-has-room .ensures
 
@@ -54,7 +53,7 @@ returns-2 : tie.Need-returns-2 Inv-loop μ-loop
 unfolding ringsHaveRoom rooms
 returns-2 c =
     let e : c .before .loop .d ≡ directions = omega arith in
-    sym (ap (λ (k : ℕ). allBelow k (rooms (shapeOfSizes (c .before .before .before .args .s)) (c .before .before .before .args .words .now))) (sym e) ∙ c .before .loop .inv .0)
+    sym (ap (λ (k : ℕ). allBelow k (rooms (shapeOf (c .before .before .before .args .s)) (c .before .before .before .args .words .now))) (sym e) ∙ c .before .loop .inv .0)
 
 pub rings-have-room-spec : {M : Type 1} → statement M
 rings-have-room-spec =

@@ -5,9 +5,8 @@ use Prim.Native.Nat.{ℕ}
 use borrow.Author.Needs.{needs}
 use borrow.Author.Tests.{eq-eqb, ne-eqb, le-leb, lt-leb}
 use lib.Dec.{leb, eqb}
-use Rattle.network.specs.Sizes.{Shape, nodes, queues}
+use Rattle.network.specs.Sizes.{Shape, shapeOf, nodes, queues}
 use Rattle.network.specs.Refusals.{refuse, creditRules, noSuchNode, noSuchOutput}
-use Rattle.packet.specs.Geometry.{shapeOfSizes}
 use Rattle.rules.proofs.credit_rules.Statement.{statement}
 use Rattle.rules.proofs.credit_rules.Tie as tie
 
@@ -24,27 +23,27 @@ returns : tie.Need-returns
 returns c =
     let a = c .before .before .args in
     let count = c .before .nodes in
-    tested (shapeOfSizes (a .s)) (a .n) (a .o) (count .result) true _ _ (count .ensures) (le-leb (count .result) (a .n) (c .if1 .taken)) refl refl
+    tested (shapeOf (a .s)) (a .n) (a .o) (count .result) true _ _ (count .ensures) (le-leb (count .result) (a .n) (c .if1 .taken)) refl refl
 
 returns-2 : tie.Need-returns-2
 returns-2 c =
     let a = c .before .before .before .args in
     let count = c .before .before .nodes in
-    tested (shapeOfSizes (a .s)) (a .n) (a .o) (count .result) false true _ (count .ensures)
+    tested (shapeOf (a .s)) (a .n) (a .o) (count .result) false true _ (count .ensures)
     (lt-leb (count .result) (a .n) (c .before .if1 .left)) (eq-eqb (a .o) 0 (c .if2 .taken)) refl
 
 returns-3 : tie.Need-returns-3
 returns-3 c =
     let a = c .before .before .before .before .args in
     let count = c .before .before .before .nodes in
-    tested (shapeOfSizes (a .s)) (a .n) (a .o) (count .result) false false true (count .ensures)
+    tested (shapeOf (a .s)) (a .n) (a .o) (count .result) false false true (count .ensures)
     (lt-leb (count .result) (a .n) (c .before .before .if1 .left)) (ne-eqb (a .o) 0 (c .before .if2 .left)) (le-leb queues (a .o) (c .if3 .taken))
 
 returns-4 : tie.Need-returns-4
 returns-4 c =
     let a = c .before .before .before .before .args in
     let count = c .before .before .before .nodes in
-    tested (shapeOfSizes (a .s)) (a .n) (a .o) (count .result) false false false (count .ensures)
+    tested (shapeOf (a .s)) (a .n) (a .o) (count .result) false false false (count .ensures)
     (lt-leb (count .result) (a .n) (c .before .before .if1 .left)) (ne-eqb (a .o) 0 (c .before .if2 .left)) (lt-leb queues (a .o) (c .if3 .left))
 
 pub credit-rules-spec : {M : Type 1} → statement M

@@ -8,11 +8,10 @@ use borrow.Author.Tests.{eq-eqb, ne-eqb, le-leb, lt-leb, not-true, not-false}
 use lib.Dec.{leb, eqb}
 use lib.ListN.{length}
 use Rattle.base.specs.Tests.{elem}
-use Rattle.network.specs.Sizes.{Shape, nodes, queues}
+use Rattle.network.specs.Sizes.{Shape, shapeOf, nodes, queues}
 use Rattle.network.specs.Layout.{held}
 use Rattle.network.specs.Routes.{routes}
 use Rattle.network.specs.Refusals.{refuse, head, flowRules, moveRules, noSuchNode, noSuchQueue, noSuchOutput, queueEmpty, noRoute}
-use Rattle.packet.specs.Geometry.{shapeOfSizes}
 use Rattle.packet.specs.GeometryLaws.{inRange-rings}
 use Rattle.rules.proofs.move_rules.Statement.{statement}
 use Rattle.rules.proofs.move_rules.Tie as tie
@@ -40,21 +39,21 @@ returns : tie.Need-returns
 returns c =
     let a = c .before .before .before .args in
     let count = c .before .nodes in
-    tested (shapeOfSizes (a .s)) (a .words .now) (a .n) (a .q) (a .o) (count .result) _ _ _ _ true _ _ _ (count .ensures) refl refl refl refl
+    tested (shapeOf (a .s)) (a .words .now) (a .n) (a .q) (a .o) (count .result) _ _ _ _ true _ _ _ (count .ensures) refl refl refl refl
     (le-leb (count .result) (a .n) (c .if1 .taken)) refl refl refl
 
 returns-2 : tie.Need-returns-2
 returns-2 c =
     let a = c .before .before .before .before .args in
     let count = c .before .before .nodes in
-    tested (shapeOfSizes (a .s)) (a .words .now) (a .n) (a .q) (a .o) (count .result) _ _ _ _ false true _ _ (count .ensures) refl refl refl refl
+    tested (shapeOf (a .s)) (a .words .now) (a .n) (a .q) (a .o) (count .result) _ _ _ _ false true _ _ (count .ensures) refl refl refl refl
     (lt-leb (count .result) (a .n) (c .before .if1 .left)) (le-leb queues (a .q) (c .if2 .taken)) refl refl
 
 returns-3 : tie.Need-returns-3
 returns-3 c =
     let a = c .before .before .before .before .before .args in
     let count = c .before .before .before .nodes in
-    tested (shapeOfSizes (a .s)) (a .words .now) (a .n) (a .q) (a .o) (count .result) _ _ _ _ false false true _ (count .ensures) refl refl refl refl
+    tested (shapeOf (a .s)) (a .words .now) (a .n) (a .q) (a .o) (count .result) _ _ _ _ false false true _ (count .ensures) refl refl refl refl
     (lt-leb (count .result) (a .n) (c .before .before .if1 .left)) (lt-leb queues (a .q) (c .before .if2 .left)) (le-leb queues (a .o) (c .if3 .taken)) refl
 
 held-count-requires : tie.Need-held-count-requires
@@ -67,7 +66,7 @@ returns-4 c =
     let count = f .before .before .before .nodes in
     let k = c .before .held-count in
     let t = there f in
-    tested (shapeOfSizes (a .s)) (a .words .now) (a .n) (a .q) (a .o) (count .result) (k .result) _ _ _ false false false true
+    tested (shapeOf (a .s)) (a .words .now) (a .n) (a .q) (a .o) (count .result) (k .result) _ _ _ false false false true
     (count .ensures) (k .ensures) refl refl refl (t .0) (t .1) (t .2) (eq-eqb (k .result) 0 (c .if4 .taken))
 
 head-requires : tie.Need-head-requires
@@ -85,7 +84,7 @@ returns-5 c =
     let k = h .before .held-count in
     let p = c .before .before .head in
     let t = there f in
-    tested (shapeOfSizes (a .s)) (a .words .now) (a .n) (a .q) (a .o) (count .result) (k .result) (p .result) _ false false false false false
+    tested (shapeOf (a .s)) (a .words .now) (a .n) (a .q) (a .o) (count .result) (k .result) (p .result) _ false false false false false
     (count .ensures) (k .ensures) (p .ensures) (sym (not-true (c .before .is-route .result) (c .if5 .taken)) ∙ c .before .is-route .ensures) refl (t .0) (t .1) (t .2) (ne-eqb (k .result) 0 (h .if4 .left))
 
 flow-rules-requires : tie.Need-flow-rules-requires
@@ -101,7 +100,7 @@ returns-6 c =
     let k = h .before .held-count in
     let p = g .before .before .head in
     let t = there f in
-    tested (shapeOfSizes (a .s)) (a .words .now) (a .n) (a .q) (a .o) (count .result) (k .result) (p .result) (c .flow-rules .result) true false false false false
+    tested (shapeOf (a .s)) (a .words .now) (a .n) (a .q) (a .o) (count .result) (k .result) (p .result) (c .flow-rules .result) true false false false false
     (count .ensures) (k .ensures) (p .ensures) (sym (not-false (g .before .is-route .result) (g .if5 .left)) ∙ g .before .is-route .ensures) (c .flow-rules .ensures) (t .0) (t .1) (t .2) (ne-eqb (k .result) 0 (h .if4 .left))
 
 pub move-rules-spec : {M : Type 1} → statement M

@@ -8,11 +8,10 @@ use borrow.Author.Needs.{needs}
 use borrow.Author.Tests.{eq-eqb, ne-eqb, le-leb, lt-leb}
 use lib.Dec.{leb, eqb}
 use lib.ListN.{length}
-use Rattle.network.specs.Sizes.{Shape, nodes, capacity, injectionQueue}
+use Rattle.network.specs.Sizes.{Shape, shapeOf, nodes, capacity, injectionQueue}
 use Rattle.network.specs.Layout.{accepted, held}
 use Rattle.network.specs.Check.{mostAccepted}
 use Rattle.network.specs.Refusals.{refuse, offerRules, noSuchNode, countSpent, injectionFull}
-use Rattle.packet.specs.Geometry.{shapeOfSizes}
 use Rattle.packet.specs.GeometryLaws.{inRange-rings}
 use Rattle.flow.specs.Places.{header}
 use Rattle.rules.proofs.offer_rules.Statement.{statement}
@@ -32,7 +31,7 @@ nodes-requires c κs = let f = c .before in inRange-rings (f .args .s) (f .pre .
 returns : tie.Need-returns
 returns c =
     let a = c .before .before .before .args in
-    let S = shapeOfSizes (a .s) in
+    let S = shapeOf (a .s) in
     let count = c .before .nodes in
     tested S (a .words .now) (a .n) (a .destination) (count .result) _ _ true _ _ _ (count .ensures) refl refl
     (le-leb (count .result) (a .n) (c .if1 .taken)) refl refl refl
@@ -40,7 +39,7 @@ returns c =
 returns-2 : tie.Need-returns-2
 returns-2 c =
     let a = c .before .before .before .before .args in
-    let S = shapeOfSizes (a .s) in
+    let S = shapeOf (a .s) in
     let count = c .before .before .nodes in
     tested S (a .words .now) (a .n) (a .destination) (count .result) _ _ false true _ _ (count .ensures) refl refl
     (lt-leb (count .result) (a .n) (c .before .if1 .left)) (le-leb (count .result) (a .destination) (c .if2 .taken)) refl refl
@@ -48,7 +47,7 @@ returns-2 c =
 shared-slice-read-accepted : tie.Need-shared-slice-read-accepted
 shared-slice-read-accepted c =
     let f = c .before .before .before .before .before in
-    let l = header (shapeOfSizes (f .args .s)) (f .args .words .now) (f .pre) in
+    let l = header (shapeOf (f .args .s)) (f .args .words .now) (f .pre) in
     omega arith
 
 capacity-requires : tie.Need-capacity-requires
@@ -62,15 +61,15 @@ by-last : (c : tie.After-held-count) (d e : Bool)
     → eqb (accepted (c .before .before .before .before .before .before .before .args .words .now)) mostAccepted ≡ d
     → eqb (c .held-count .result) (c .before .capacity .result) ≡ e
     → refuse d countSpent (refuse e injectionFull 0)
-    ≡ offerRules (shapeOfSizes (c .before .before .before .before .before .before .before .args .s)) (c .before .before .before .before .before .before .before .args .words .now) (c .before .before .before .before .before .before .before .args .n) (c .before .before .before .before .before .before .before .args .destination)
+    ≡ offerRules (shapeOf (c .before .before .before .before .before .before .before .args .s)) (c .before .before .before .before .before .before .before .args .words .now) (c .before .before .before .before .before .before .before .args .n) (c .before .before .before .before .before .before .before .args .destination)
 by-last c d e ed ee =
     let held = c .held-count in
     let slots = c .before .capacity in
     let f = c .before .before .before in
     let a = f .before .before .before .before .args in
     let count = f .before .before .nodes in
-    tested (shapeOfSizes (a .s)) (a .words .now) (a .n) (a .destination) (count .result) (held .result) (slots .result) false false d e
-    (count .ensures) (held .ensures) (slots .ensures (a .s .x) (a .s .y))
+    tested (shapeOf (a .s)) (a .words .now) (a .n) (a .destination) (count .result) (held .result) (slots .result) false false d e
+    (count .ensures) (held .ensures) (slots .ensures)
     (lt-leb (count .result) (a .n) (f .before .if1 .left)) (lt-leb (count .result) (a .destination) (f .if2 .left)) ed ee
 
 returns-3 : tie.Need-returns-3

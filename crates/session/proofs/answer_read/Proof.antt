@@ -1,7 +1,7 @@
 -- `session::answer_read` meets its contract, by whether the read has bytes. Assumes nothing.
 use denote.Ref.{now}
 use borrow.Author.Needs.{needs}
-use Rattle.session.specs.Reads.{sheet, carryOut, endCutting, cutter}
+use Rattle.session.specs.Reads.{sheet}
 use Rattle.session.specs.Places.{read-none, read-some, read-answered}
 use Rattle.session.proofs.answer_read.Statement.{statement}
 use Rattle.session.proofs.answer_read.Tie as tie

@@ -1,6 +1,6 @@
 -- `session::run_drain` meets its contract: the ledger has a word for every packet that the Drain delivers. Assumes nothing.
 use mathlib.Core.Path.{_≡_, sym}
-use Prim.Native.Nat.{_+_, _≤_}
+use Prim.Native.Nat.{_≤_}
 use denote.Ref.{now}
 use lib.ListN.{length}
 use Rattle.network.specs.Calls.{drainedDelivered}

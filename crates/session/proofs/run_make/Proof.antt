@@ -2,8 +2,8 @@
 use mathlib.Core.Path.{sym}
 use denote.Ref.{now}
 use borrow.Author.Needs.{needs}
+use Rattle.network.specs.Sizes.{shapeOf, sized}
 use Rattle.network.specs.Refusals.{makeRefusal}
-use Rattle.network.specs.Calls.{shapeOf}
 use Rattle.session.specs.Session.{perform}
 use Rattle.session.proofs.run_make.Statement.{statement}
 use Rattle.session.proofs.run_make.Tie as tie
@@ -26,7 +26,7 @@ returns c =
     let line = c .before .before .put-answer .ensures in
     let call = c .before .before .before .before .before .before .make .ensures in
     let a = c .before .before .before .before .before .before .before .before .before .before .args in
-    let told = sym {b = makeRefusal (shapeOf (a .x) (a .y) (a .e) (a .a) (a .j)) (now (a .store))} (call .0) in
+    let told = sym {b = makeRefusal (shapeOf (sized (a .x) (a .y) (a .e) (a .a) (a .j))) (now (a .store))} (call .0) in
     (call .1, rw told line)
 
 pub run-make-spec : {M : Type 1} → statement M

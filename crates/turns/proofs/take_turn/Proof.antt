@@ -1,11 +1,11 @@
 -- `turns::take_turn` meets its contract. Assumes nothing.
 use borrow.Author.Needs.{needs}
-use mathlib.Core.Path.{_≡_, sym, _∙_}
+use mathlib.Core.Path.{sym, _∙_}
 use native.Mathlib.Omega.{arith}
 use denote.Ref.{now}
+use Rattle.network.specs.Sizes.{shapeOf}
 use Rattle.network.specs.Layout.{accepted, delivered}
 use Rattle.network.specs.declared.Found.{Found}
-use Rattle.packet.specs.Geometry.{shapeOfSizes}
 use Rattle.turns.specs.Turns.{first-permitted}
 use Rattle.turns.specs.Turned.{turned-emptied, turned-spent, turned-nowhere, turned-by, by-nothing, by-refused, header-long}
 use Rattle.turns.proofs.take_turn.Statement.{statement}
@@ -19,14 +19,14 @@ use Rattle.turns.proofs.turn_by_move.Reads as turn-by-move-reads
 slice-read-if1 : tie.Need-slice-read-if1
 slice-read-if1 c =
     let a = c .before .before .before .before in
-    let h = header-long (shapeOfSizes (a .args .s)) (now (a .args .words)) (a .pre .0) in
+    let h = header-long (shapeOf (a .args .s)) (now (a .args .words)) (a .pre .0) in
     omega arith
 
 -- src/lib.rt:141:20
 slice-read-if1-2 : tie.Need-slice-read-if1-2
 slice-read-if1-2 c =
     let a = c .before .before .before .before .before in
-    let h = header-long (shapeOfSizes (a .args .s)) (now (a .args .words)) (a .pre .0) in
+    let h = header-long (shapeOf (a .args .s)) (now (a .args .words)) (a .pre .0) in
     omega arith
 
 -- src/lib.rt:142:9
@@ -34,14 +34,14 @@ returns : tie.Need-returns
 unfolding accepted delivered
 returns c =
     let a = c .before .before .before .before .before .before in
-    turned-emptied (shapeOfSizes (a .args .s)) (now (a .args .words)) (now (a .args .ready)) (a .pre .0) (a .pre .1 .1) (a .args .budget) (a .args .room) (c .if1 .taken)
+    turned-emptied (shapeOf (a .args .s)) (now (a .args .words)) (now (a .args .ready)) (a .pre .0) (a .pre .1 .1) (a .args .budget) (a .args .room) (c .if1 .taken)
 
 -- src/lib.rt:145:9
 returns-2 : tie.Need-returns-2
 unfolding accepted delivered
 returns-2 c =
     let a = c .before .before .before .before .before .before .before in
-    turned-spent (shapeOfSizes (a .args .s)) (now (a .args .words)) (now (a .args .ready)) (a .pre .0) (a .pre .1 .1) (a .args .budget) (a .args .room) (c .before .if1 .left) (c .if2 .taken)
+    turned-spent (shapeOf (a .args .s)) (now (a .args .words)) (now (a .args .ready)) (a .pre .0) (a .pre .1 .1) (a .args .budget) (a .args .room) (c .before .if1 .left) (c .if2 .taken)
 
 -- src/lib.rt:147:9
 next-move-requires : tie.Need-next-move-requires
@@ -70,7 +70,7 @@ turn-by-move-requires c κs =
         a .pre .1 .0,
         (
           m .ensures .1,
-          first-permitted (shapeOfSizes (a .args .s)) (now (a .args .words)) (f .given .0 .0) (f .given .0 .1 .0) (f .given .0 .1 .1 .0) (sym (f .given .1) ∙ m .ensures .0),
+          first-permitted (shapeOf (a .args .s)) (now (a .args .words)) (f .given .0 .0) (f .given .0 .1 .0) (f .given .0 .1 .1 .0) (sym (f .given .1) ∙ m .ensures .0),
         ),
       ),
     )
@@ -89,8 +89,8 @@ unfolding accepted delivered
 returns-3 c =
     let a = c .before .before .before .before .before .before .before .before .before .before .before .before .before .before in
     let m = c .before .before .before .before .next-move in
-    turned-nowhere (shapeOfSizes (a .args .s)) (now (a .args .words)) (now (a .args .ready)) (a .pre .0) (a .pre .1 .1) (a .args .budget) (a .args .room) (m .result) (m .last .1 .1 .1 .0)
-    (c .before .before .before .before .before .before .before .before .if1 .left) (c .before .before .before .before .before .before .before .if2 .left) (m .ensures .0) (by-refused (shapeOfSizes (a .args .s)) (now (a .args .words)) (a .args .room) _ (m .result) (c .enum-told .given .1)) (m .ensures .1)
+    turned-nowhere (shapeOf (a .args .s)) (now (a .args .words)) (now (a .args .ready)) (a .pre .0) (a .pre .1 .1) (a .args .budget) (a .args .room) (m .result) (m .last .1 .1 .1 .0)
+    (c .before .before .before .before .before .before .before .before .if1 .left) (c .before .before .before .before .before .before .before .if2 .left) (m .ensures .0) (by-refused (shapeOf (a .args .s)) (now (a .args .words)) (a .args .room) _ (m .result) (c .enum-told .given .1)) (m .ensures .1)
 
 -- src/lib.rt:134:1
 same-length-3 : tie.Need-same-length-3
@@ -106,8 +106,8 @@ unfolding accepted delivered
 returns-4 c =
     let a = c .before .before .before .before .before .before .before .before .before .before .before .before .before .before in
     let m = c .before .before .before .before .next-move in
-    turned-nowhere (shapeOfSizes (a .args .s)) (now (a .args .words)) (now (a .args .ready)) (a .pre .0) (a .pre .1 .1) (a .args .budget) (a .args .room) (m .result) (m .last .1 .1 .1 .0)
-    (c .before .before .before .before .before .before .before .before .if1 .left) (c .before .before .before .before .before .before .before .if2 .left) (m .ensures .0) (by-nothing (shapeOfSizes (a .args .s)) (now (a .args .words)) (a .args .room) (m .result) (c .enum-told2 .given .1)) (m .ensures .1)
+    turned-nowhere (shapeOf (a .args .s)) (now (a .args .words)) (now (a .args .ready)) (a .pre .0) (a .pre .1 .1) (a .args .budget) (a .args .room) (m .result) (m .last .1 .1 .1 .0)
+    (c .before .before .before .before .before .before .before .before .if1 .left) (c .before .before .before .before .before .before .before .if2 .left) (m .ensures .0) (by-nothing (shapeOf (a .args .s)) (now (a .args .words)) (a .args .room) (m .result) (c .enum-told2 .given .1)) (m .ensures .1)
 
 -- src/lib.rt:134:1
 same-length-5 : tie.Need-same-length-5
@@ -125,7 +125,7 @@ returns-5 c =
     let t = c .before .before .before .before .turn-by-move in
     let f = c .before .before .before .before .before .before .before .before .found in
     let m = c .before .before .before .before .before .before .before .before .before .before .before .before .next-move in
-    turned-by (shapeOfSizes (a .args .s)) (now (a .args .words)) (now (a .args .ready)) (a .pre .0) (a .pre .1 .1) (a .args .budget) (a .args .room)
+    turned-by (shapeOf (a .args .s)) (now (a .args .words)) (now (a .args .ready)) (a .pre .0) (a .pre .1 .1) (a .args .budget) (a .args .room)
     (Found.Move (f .given .0 .0) (f .given .0 .1 .0) (f .given .0 .1 .1 .0)) (t .result) (t .last .0) (t .last .1 .1 .1 .0)
     (c .before .before .before .before .before .before .before .before .before .before .before .before .before .before .before .before .if1 .left) (c .before .before .before .before .before .before .before .before .before .before .before .before .before .before .before .if2 .left) (sym (f .given .1) ∙ m .ensures .0) (t .ensures)
 

@@ -1,8 +1,9 @@
 -- `writer::put_packet` meets its contract: the letter and the tag, the destination, the end. Assumes nothing.
+use mathlib.Core.Path.{_≡_, refl}
 use mathlib.Core.List.{List, [], _∷_, _++_}
 use Prim.Native.Nat.{ℕ, _/_, _%_, _^_}
 use borrow.Author.Needs.{needs}
-use Rattle.network.specs.Packet.{tag, destination}
+use Rattle.network.specs.PacketLaws.{tag-is, destination-is}
 use Rattle.sheet.specs.Text.{comma, cr, lf}
 use Rattle.sheet.specs.Output.{decimal, fieldsAndEnd, line, packetLine, Room}
 use Rattle.sheet.specs.Puts.{first-room, second-room, third-room, put-three}
@@ -18,9 +19,12 @@ ys p = comma ∷ decimal (p / 2 ^ 16 % 2 ^ 16)
 abbrev zs : List ℕ
 zs = cr ∷ lf ∷ []
 
+line-is : (p : ℕ) → packetLine p ≡ xs p ++ (ys p ++ zs)
+unfolding packetLine line fieldsAndEnd
+line-is p = rw (tag-is p, destination-is p) refl
+
 room : (s : tie.Start) → Room (s .args .out .now) (s .args .at) (xs (s .args .p) ++ (ys (s .args .p) ++ zs))
-unfolding packetLine line fieldsAndEnd tag destination
-room s = s .pre
+room s = rw (line-is (s .args .p)) at (s .pre)
 
 put-head-requires : tie.Need-put-head-requires
 put-head-requires c κs =
@@ -44,14 +48,14 @@ same-length : tie.Need-same-length
 same-length c = search needs
 
 returns : tie.Need-returns
-unfolding packetLine line fieldsAndEnd tag destination
 returns c =
     let end = c .before .before in
     let field = end .before .before .before .before in
     let head = field .before .before .before .before in
     let s = head .before .before .before in
-    put-three (s .args .out .now) (s .args .at) (xs (s .args .p)) (ys (s .args .p)) zs (room s) (head .put-head .ensures) (field .put-field .ensures)
-    (end .put-end .ensures)
+    rw (line-is (s .args .p))
+    (put-three (s .args .out .now) (s .args .at) (xs (s .args .p)) (ys (s .args .p)) zs (room s) (head .put-head .ensures) (field .put-field .ensures)
+    (end .put-end .ensures))
 
 pub put-packet-spec : {M : Type 1} → statement M
 put-packet-spec =

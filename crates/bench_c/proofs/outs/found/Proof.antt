@@ -1,6 +1,6 @@
 -- `bench_c::outs::found` meets its contract: each case of the answer by its definition. Assumes nothing.
 use borrow.Author.Needs.{needs}
-use mathlib.Core.Path.{_≡_, ap, sym, _∙_}
+use mathlib.Core.Path.{ap, sym}
 use Rattle.network.specs.Calls.{foundNumber, foundMove}
 use Rattle.bench_c.specs.Outs.{foundOut}
 use Rattle.bench_c.proofs.outs.found.Statement.{statement}

@@ -1,6 +1,6 @@
 -- `bench_c::outs::stop_number` meets its contract: each case of the stop by its definition. Assumes nothing.
 use borrow.Author.Needs.{needs}
-use mathlib.Core.Path.{_≡_, ap, sym, _∙_}
+use mathlib.Core.Path.{ap, sym}
 use Rattle.bench_c.specs.Outs.{stopNumber}
 use Rattle.bench_c.proofs.outs.stop_number.Statement.{statement}
 use Rattle.bench_c.proofs.outs.stop_number.Tie as tie

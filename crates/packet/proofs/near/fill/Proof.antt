@@ -1,11 +1,10 @@
 -- `packet::near::fill` meets its contract. The loop's invariant: the bytes of the nodes before n are there, and n stands at the place. Assumes nothing.
 use borrow.Author.Needs.{needs}
-use mathlib.Core.Path.{_≡_, ap, sym, subst, _∙_}
+use mathlib.Core.Path.{_≡_, ap, subst, _∙_}
 use Prim.Native.Nat.{ℕ, _+_, _*_, _-_, _<_, _≤_}
 use native.Mathlib.Omega.{arith}
-use lib.ListN.{length}
-use Rattle.network.specs.Sizes.{nodes}
-use Rattle.packet.specs.Geometry.{shapeOfSizes, nodeAt, OnTorus}
+use Rattle.network.specs.Sizes.{shapeOf, nodes}
+use Rattle.packet.specs.Geometry.{nodeAt, OnTorus}
 use Rattle.packet.specs.GeometryLaws.{rings-nodes, stands}
 use Rattle.packet.specs.Near.{NearTo, near-none}
 use Rattle.packet.proofs.near.fill.Statement.{statement}
@@ -18,7 +17,7 @@ use Rattle.packet.proofs.torus.nodes.Reads as nodes-reads
 
 abbrev Inv-loop : tie.InvT-loop
 Inv-loop near₀ s count place₀ n₀ near place n =
-    NearTo (shapeOfSizes s) (4 * n) near × (nodeAt s (place .x) (place .y) ≡ n) × (place .x < s .x) × (n ≤ nodes (shapeOfSizes s))
+    NearTo (shapeOf s) (4 * n) near × (nodeAt s (place .x) (place .y) ≡ n) × (place .x < s .x) × (n ≤ nodes (shapeOf s))
 
 abbrev μ-loop : tie.MeasureT-loop
 μ-loop near₀ s count place₀ n₀ near place n = count - n
@@ -28,7 +27,7 @@ nodes-requires : tie.Need-nodes-requires Inv-loop μ-loop
 nodes-requires c κs = search needs
 
 -- n is a node, and where it stands
-is-node : (c : tie.In-loop Inv-loop μ-loop) → c .before .loop .n < nodes (shapeOfSizes (c .before .before .before .before .args .s))
+is-node : (c : tie.In-loop Inv-loop μ-loop) → c .before .loop .n < nodes (shapeOf (c .before .before .before .before .args .s))
 is-node c = let e = c .before .before .nodes .ensures in let h = c .loop-test .taken in omega arith
 
 on : (c : tie.In-loop Inv-loop μ-loop) → OnTorus (c .before .before .before .before .args .s) (c .before .loop .place .x) (c .before .loop .place .y)
@@ -40,7 +39,7 @@ on c =
 loop-holds : tie.Need-loop-holds Inv-loop μ-loop
 loop-holds c =
     let a = c .before .before in
-    (near-none (shapeOfSizes (a .args .s)) (a .args .near .now) (a .pre .1), omega arith, a .pre .0 .x-least, omega arith)
+    (near-none (shapeOf (a .args .s)) (a .args .near .now) (a .pre .1), omega arith, a .pre .0 .x-least, omega arith)
 
 -- src/near.rt:43:9
 fill-node-requires : tie.Need-fill-node-requires Inv-loop μ-loop
@@ -84,8 +83,8 @@ returns c =
     let e = c .before .before .nodes .ensures in
     let k = c .loop-test .left in
     let l = c .before .loop .inv .3 in
-    let all : 4 * c .before .loop .n ≡ 4 * nodes (shapeOfSizes (c .before .before .before .before .args .s)) = omega arith in
-    subst (λ (i : ℕ). NearTo (shapeOfSizes (c .before .before .before .before .args .s)) i (c .before .loop .near)) all (c .before .loop .inv .0)
+    let all : 4 * c .before .loop .n ≡ 4 * nodes (shapeOf (c .before .before .before .before .args .s)) = omega arith in
+    subst (λ (i : ℕ). NearTo (shapeOf (c .before .before .before .before .args .s)) i (c .before .loop .near)) all (c .before .loop .inv .0)
 
 pub fill-spec : {M : Type 1} → statement M
 fill-spec =

@@ -1,10 +1,10 @@
 -- `packet::near::fill_byte` meets its contract. Assumes nothing.
 use borrow.Author.Needs.{needs}
 use mathlib.Core.Path.{refl}
-use Prim.Native.Nat.{_+_, _*_, _<_}
+use Prim.Native.Nat.{_+_, _*_}
 use native.Mathlib.Omega.{arith}
+use Rattle.network.specs.Sizes.{shapeOf}
 use Rattle.network.specs.TorusLaws.{neighbour-lt}
-use Rattle.packet.specs.Geometry.{shapeOfSizes}
 use Rattle.packet.specs.GeometryLaws.{rings-torus, rings-nodes}
 use Rattle.packet.specs.Near.{near-more}
 use Rattle.packet.proofs.near.fill_byte.Statement.{statement}
@@ -22,7 +22,7 @@ cast-near : tie.Need-cast-near
 cast-near c =
     let a = c .before .before in
     let e = c .step-from .ensures in
-    let l = neighbour-lt (shapeOfSizes (a .args .s)) (a .args .d) (a .args .n) (rings-torus (a .args .s) (a .pre .0 .0)) (a .pre .0 .1) (a .pre .0 .2) in
+    let l = neighbour-lt (shapeOf (a .args .s)) (a .args .d) (a .args .n) (rings-torus (a .args .s) (a .pre .0 .0)) (a .pre .0 .1) (a .pre .0 .2) in
     let m = rings-nodes (a .args .s) (a .pre .0 .0) in
     omega arith
 

@@ -2,12 +2,11 @@
 use borrow.Author.Needs.{needs}
 use mathlib.Core.Path.{_≡_, ap, subst, _∙_}
 use mathlib.Core.List.{List}
-use Prim.Native.Nat.{ℕ, _+_, _*_, _<_}
+use Prim.Native.Nat.{ℕ, _<_}
 use native.Mathlib.Nat.{lt-of-lt-of-le}
 use native.Mathlib.Omega.{arith}
-use Rattle.network.specs.Sizes.{Shape, nodes, directions, dimensionOf}
+use Rattle.network.specs.Sizes.{Shape, shapeOf, nodes}
 use Rattle.network.specs.Torus.{coordinate}
-use Rattle.packet.specs.Geometry.{shapeOfSizes, RingsFit}
 use Rattle.packet.specs.GeometryLaws.{rings-nodes, node-lt, column-is, row-is}
 use Rattle.packet.specs.Near.{NearTo}
 use Rattle.packet.proofs.near.fill_node.Statement.{statement}
@@ -16,18 +15,18 @@ use Rattle.packet.proofs.near.fill_node.Reads as reads
 use Rattle.packet.proofs.near.fill_node.Lts as lts
 use Rattle.packet.proofs.near.fill_byte.Reads as fill-byte-reads
 
-is-node : (c : tie.Start) → c .args .n < nodes (shapeOfSizes (c .args .s))
+is-node : (c : tie.Start) → c .args .n < nodes (shapeOf (c .args .s))
 is-node c =
-    subst (λ (k : ℕ). k < nodes (shapeOfSizes (c .args .s))) (c .pre .1) (node-lt (c .args .s) (c .args .x) (c .args .y) (c .pre .0))
+    subst (λ (k : ℕ). k < nodes (shapeOf (c .args .s))) (c .pre .1) (node-lt (c .args .s) (c .args .x) (c .args .y) (c .pre .0))
 
 few : (c : tie.Start) → c .args .n < 256
 few c = lt-of-lt-of-le (is-node c) (rings-nodes (c .args .s) (c .pre .0 .rings))
 
-column : (c : tie.Start) → c .args .x ≡ coordinate (shapeOfSizes (c .args .s)) 0 (c .args .n)
-column c = column-is (c .args .s) (c .args .x) (c .args .y) (c .pre .0) ∙ ap (coordinate (shapeOfSizes (c .args .s)) 0) (c .pre .1)
+column : (c : tie.Start) → c .args .x ≡ coordinate (shapeOf (c .args .s)) 0 (c .args .n)
+column c = column-is (c .args .s) (c .args .x) (c .args .y) (c .pre .0) ∙ ap (coordinate (shapeOf (c .args .s)) 0) (c .pre .1)
 
-row : (c : tie.Start) → c .args .y ≡ coordinate (shapeOfSizes (c .args .s)) 1 (c .args .n)
-row c = row-is (c .args .s) (c .args .x) (c .args .y) (c .pre .0) ∙ ap (coordinate (shapeOfSizes (c .args .s)) 1) (c .pre .1)
+row : (c : tie.Start) → c .args .y ≡ coordinate (shapeOf (c .args .s)) 1 (c .args .n)
+row c = row-is (c .args .s) (c .args .x) (c .args .y) (c .pre .0) ∙ ap (coordinate (shapeOf (c .args .s)) 1) (c .pre .1)
 
 -- the same bytes, counted otherwise
 counted : {S : Shape} {a b : ℕ} {near : List ℕ} → a ≡ b → NearTo S a near → NearTo S b near

@@ -3,13 +3,13 @@ use mathlib.Core.Path.{_≡_}
 use Prim.Native.Nat.{_<_}
 use native.Mathlib.Omega.{arith}
 use borrow.Author.Needs.{needs}
-use Rattle.base.specs.Sums.{sumBelow}
-use Rattle.network.specs.Packet.{byte, place, packetWord}
+use Rattle.network.specs.Sizes.{shapeOf}
+use Rattle.network.specs.Packet.{byte}
 use Rattle.network.specs.PacketLaws.{byte-lt}
 use Rattle.network.specs.Calls.{offered}
 use Rattle.network.specs.OfferLaws.{offeredWay}
-use Rattle.packet.specs.Geometry.{shapeOfSizes}
 use Rattle.packet.specs.GeometryLaws.{rings-nodes, rings-way}
+use Rattle.packet.proofs.Words.{word-of}
 use Rattle.packet.proofs.torus.offered.Statement.{statement}
 use Rattle.packet.proofs.torus.offered.Tie as tie
 
@@ -17,13 +17,13 @@ use Rattle.packet.proofs.torus.offered.Tie as tie
 x-small : (c : tie.After-way-byte2) → c .before .way-byte .result < 256
 x-small c =
     let a = c .before .before .args in
-    let e : c .before .way-byte .result ≡ byte (offeredWay (shapeOfSizes (a .s)) (a .n) (a .destination) 0) = c .before .way-byte .ensures in
+    let e : c .before .way-byte .result ≡ byte (offeredWay (shapeOf (a .s)) (a .n) (a .destination) 0) = c .before .way-byte .ensures in
     omega (arith, byte-lt (rings-way (a .n) (a .destination) 0 (c .before .before .pre .0) (omega arith)))
 
 y-small : (c : tie.After-way-byte2) → c .way-byte2 .result < 256
 y-small c =
     let a = c .before .before .args in
-    let e : c .way-byte2 .result ≡ byte (offeredWay (shapeOfSizes (a .s)) (a .n) (a .destination) 1) = c .way-byte2 .ensures in
+    let e : c .way-byte2 .result ≡ byte (offeredWay (shapeOf (a .s)) (a .n) (a .destination) 1) = c .way-byte2 .ensures in
     omega (arith, byte-lt (rings-way (a .n) (a .destination) 1 (c .before .before .pre .0) (omega arith)))
 
 destination-small : (c : tie.After-way-byte2) → c .before .before .args .destination < 256
@@ -54,12 +54,11 @@ add-result-3 : tie.Need-add-result-3
 add-result-3 c = omega (arith, destination-small c, x-small c, y-small c)
 
 returns : tie.Need-returns
-unfolding offered packetWord sumBelow place
+unfolding offered
 returns c =
     let a = c .before .before .args in
-    let x : c .before .way-byte .result ≡ byte (offeredWay (shapeOfSizes (a .s)) (a .n) (a .destination) 0) = c .before .way-byte .ensures in
-    let y : c .way-byte2 .result ≡ byte (offeredWay (shapeOfSizes (a .s)) (a .n) (a .destination) 1) = c .way-byte2 .ensures in
-    omega arith
+    word-of (a .tag) (a .destination) (offeredWay (shapeOf (a .s)) (a .n) (a .destination)) (c .before .way-byte .result) (c .way-byte2 .result)
+    (c .before .way-byte .ensures) (c .way-byte2 .ensures) (x-small c) (y-small c) (let d = destination-small c in omega arith)
 
 pub offered-spec : {M : Type 1} → statement M
 offered-spec =

@@ -2,9 +2,8 @@
 use native.Mathlib.Omega.{arith}
 use native.Mathlib.Nat.{le-trans, le-of-eq}
 use borrow.Author.Needs.{needs}
-use Rattle.network.specs.Sizes.{dimensionOf}
+use Rattle.network.specs.Sizes.{shapeOf, dimensionOf}
 use Rattle.network.specs.PacketLaws.{dimension-lt}
-use Rattle.packet.specs.Geometry.{shapeOfSizes}
 use Rattle.packet.specs.GeometryLaws.{Ring, rings-torus, rings-nodes, size-most, within-ring, neighbour-small, step-on, step-round, step-back, step-back-round}
 use Rattle.packet.proofs.torus.step_from.Statement.{statement}
 use Rattle.packet.proofs.torus.step_from.Tie as tie
@@ -15,7 +14,7 @@ start c = c .before .before
 
 -- what is known after the two calls
 ring : (c : tie.After-weight)
-    → Ring (shapeOfSizes (start c .args .s)) (start c .args .d) (start c .args .n)
+    → Ring (shapeOf (start c .args .s)) (start c .args .d) (start c .args .n)
     (start c .args .c) (c .before .size .result) (c .weight .result)
 ring c =
     let a = start c .args in

@@ -2,9 +2,9 @@
 use mathlib.Core.Path.{_≡_, ap, _∙_}
 use Prim.Native.Nat.{ℕ}
 use borrow.Author.Needs.{needs}
+use Rattle.network.specs.Sizes.{shapeOf}
 use Rattle.network.specs.Packet.{byte, shorterWay}
 use Rattle.network.specs.OfferLaws.{offeredWay}
-use Rattle.packet.specs.Geometry.{shapeOfSizes}
 use Rattle.packet.specs.GeometryLaws.{on-ring, rings-way}
 use Rattle.packet.proofs.Numbers.{back, range-back}
 use Rattle.packet.proofs.torus.way_byte.Statement.{statement}
@@ -20,7 +20,7 @@ start c = c .before .before .before .before
 -- what the call of `shorter_way` gave
 way-is : (c : tie.After-shorter-way)
     → c .shorter-way .result
-    ≡ offeredWay (shapeOfSizes (start c .args .s)) (start c .args .n) (start c .args .destination) (start c .args .i)
+    ≡ offeredWay (shapeOf (start c .args .s)) (start c .args .n) (start c .args .destination) (start c .args .i)
 way-is c =
     c .shorter-way .ensures
     ∙ same-way (c .before .before .before .size .ensures) (c .before .before .coordinate .ensures) (c .before .coordinate2 .ensures)
