@@ -1,16 +1,16 @@
 // A Drain of a network: turn after turn until one stops, with the set of heads and the table of neighbours that the turns use.
 use headset::SET_WORDS;
+use near::TABLE_BYTES;
 use network::ACCEPTED_AT;
 use network::DELIVERED_AT;
 use network::Drained;
 use network::Sizes;
 use network::Stop;
-use packet::near::TABLE_BYTES;
 use turns::Turn;
 use turns::take_turn;
 ghost use Rattle.network.specs.Sizes.{shapeOf};
 ghost use Rattle.network.specs.CheckLaws.{Network};
-ghost use Rattle.packet.specs.Near.{Near};
+ghost use Rattle.near.specs.Table.{Near};
 ghost use Rattle.ready.specs.Ready.{Covered};
 ghost use Rattle.drains.specs.Drains.{DrainedTo};
 
@@ -69,7 +69,7 @@ pub fn drain_network(words: &mut [u64], s: Sizes, budget: u32, ledger: &mut [u64
         };
     }
     let mut near = [0u8; TABLE_BYTES];
-    packet::near::fill(&mut near, s);
+    near::fill(&mut near, s);
     let mut ready = [0u64; SET_WORDS];
     headset::fill(&mut ready, packet::torus::nodes(s));
     take_turns(words, s, &near, &mut ready, budget, ledger)

@@ -16,7 +16,7 @@ ghost use mathlib.Core.Path.{_≡_};
 ghost use Rattle.network.specs.Sizes.{shapeOf};
 ghost use Rattle.network.specs.CheckLaws.{Network};
 ghost use Rattle.network.specs.Calls.{firstInQueue, firstMove};
-ghost use Rattle.packet.specs.Near.{Near};
+ghost use Rattle.near.specs.Table.{Near};
 ghost use Rattle.flow.specs.QueueOf.{QueueOf};
 
 // The first permitted move of the network. Where as many packets were delivered as accepted, none is held. The place of the words

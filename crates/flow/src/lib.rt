@@ -1,10 +1,10 @@
 // The flow rule (R150 to R152), on words that have passed the check: what a queue holds, the target of an output, its free slots, and how
 // many a move needs. The contracts say each answer by the definitions of the crate `network` (specs/Layout.antt, Routes.antt, Refusals.antt).
+use near::look_up;
 use network::DIRECTIONS;
 use network::NO_BUBBLE;
 use network::NO_SLOT;
 use network::Sizes;
-use packet::near::look_up;
 use packet::torus::neighbour;
 use queue::capacity;
 use queue::queue_start;
@@ -16,7 +16,7 @@ ghost use Rattle.network.specs.Layout.{held};
 ghost use Rattle.network.specs.Routes.{target, freeSlots, slotsNeeded};
 ghost use Rattle.network.specs.Refusals.{head, flowRules};
 ghost use Rattle.packet.specs.Geometry.{RingsFit};
-ghost use Rattle.packet.specs.Near.{Near};
+ghost use Rattle.near.specs.Table.{Near};
 ghost use Rattle.network.specs.Sizes.{shapeOf, nodes, queues};
 ghost use Rattle.flow.specs.QueueOf.{QueueOf};
 

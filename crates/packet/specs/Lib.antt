@@ -1,4 +1,3 @@
 -- What the contracts of this crate cite besides the definitions of `network`, and its laws.
 pub mod Geometry
 pub mod GeometryLaws
-pub mod Near

@@ -1,7 +1,5 @@
 // The packet word in code: its offsets as signed numbers, its fields, and a hop. Every function equals the definition of its
-// name in the crate `network` (specs/Packet.antt). The torus that packets cross is in the module `torus`, a table of its
-// neighbours in `near`.
-pub mod near;
+// name in the crate `network` (specs/Packet.antt). The torus that packets cross is in the module `torus`.
 pub mod torus;
 
 ghost use mathlib.Core.Path.{_≡_};

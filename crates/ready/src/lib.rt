@@ -1,5 +1,5 @@
 // The set of heads that may have a permitted move (specs/Ready.antt), as a Drain keeps it: what a move adds to it, and First's move found from it. The
-// set is words of the crate `headset`; the neighbours come out of a table (`packet::near`).
+// set is words of the crate `headset`; the neighbours come out of a table (crate `near`).
 use network::DIRECTIONS;
 use network::Found;
 use network::Sizes;
@@ -9,7 +9,7 @@ ghost use Rattle.network.specs.Sizes.{shapeOf, nodes, queues};
 ghost use Rattle.network.specs.CheckLaws.{Network};
 ghost use Rattle.network.specs.Calls.{firstMove};
 ghost use Rattle.packet.specs.Geometry.{RingsFit};
-ghost use Rattle.packet.specs.Near.{Near};
+ghost use Rattle.near.specs.Table.{Near};
 ghost use Rattle.headset.specs.Set.{IsSet};
 ghost use Rattle.ready.specs.Ready.{Covered, Marked, SourceMarked, ArrivalMarked, FeederMarked};
 
@@ -32,7 +32,7 @@ fn mark_arrival(ready: &mut [u64], s: Sizes, near: &[u8], n: u64, o: u64)
     if o == 0 {
         return;
     }
-    let there = packet::near::look_up(near, (o - 1) % DIRECTIONS, n);
+    let there = near::look_up(near, (o - 1) % DIRECTIONS, n);
     mark_head(ready, s, there, o);
 }
 
@@ -48,7 +48,7 @@ fn mark_feeder(ready: &mut [u64], s: Sizes, near: &[u8], n: u64, q: u64)
     }
     let d = (q - 1) % DIRECTIONS;
     let back = d / 2 * 2 + (1 - d % 2);
-    let there = packet::near::look_up(near, back, n);
+    let there = near::look_up(near, back, n);
     headset::insert_node(ready, there);
 }
 

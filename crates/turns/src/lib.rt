@@ -11,7 +11,7 @@ ghost use Rattle.network.specs.Sizes.{shapeOf};
 ghost use Rattle.network.specs.declared.Found.{Found};
 ghost use Rattle.network.specs.CheckLaws.{Network};
 ghost use Rattle.network.specs.RefusalLaws.{Permitted};
-ghost use Rattle.packet.specs.Near.{Near};
+ghost use Rattle.near.specs.Table.{Near};
 ghost use Rattle.ready.specs.Ready.{Covered};
 ghost use Rattle.turns.specs.Turns.{turnBy, byWords, turnAnswer, turnWords};
 

@@ -19,7 +19,7 @@ use Rattle.drains.proofs.drain_network.Tie as tie
 use Rattle.drains.proofs.drain_network.Reads as reads
 use Rattle.drains.proofs.drain_network.Lts as lts
 use Rattle.headset.proofs.fill.Reads as fill-reads
-use Rattle.packet.proofs.near.fill.Reads as near-fill-reads
+use Rattle.near.proofs.fill.Reads as near-fill-reads
 use Rattle.packet.proofs.torus.nodes.Reads as nodes-reads
 use Rattle.drains.proofs.take_turns.Reads as take-turns-reads
 

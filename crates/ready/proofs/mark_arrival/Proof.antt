@@ -13,7 +13,7 @@ use Rattle.ready.proofs.mark_arrival.Statement.{statement}
 use Rattle.ready.proofs.mark_arrival.Tie as tie
 use Rattle.ready.proofs.mark_arrival.Reads as reads
 use Rattle.ready.proofs.mark_arrival.Lts as lts
-use Rattle.packet.proofs.near.look_up.Reads as look-up-reads
+use Rattle.near.proofs.look_up.Reads as look-up-reads
 use Rattle.ready.proofs.mark_head.Reads as mark-head-reads
 
 -- src/lib.rt:47:9

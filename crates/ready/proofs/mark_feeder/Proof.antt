@@ -14,7 +14,7 @@ use Rattle.ready.proofs.mark_feeder.Tie as tie
 use Rattle.ready.proofs.mark_feeder.Reads as reads
 use Rattle.ready.proofs.mark_feeder.Lts as lts
 use Rattle.headset.proofs.insert_node.Reads as insert-node-reads
-use Rattle.packet.proofs.near.look_up.Reads as look-up-reads
+use Rattle.near.proofs.look_up.Reads as look-up-reads
 
 -- src/lib.rt:61:9
 returns : tie.Need-returns

@@ -1,18 +1,18 @@
 // A table of neighbours, for a search that asks for them again and again: byte DIRECTIONS * n + d of as many lent bytes as there can be is the neighbour of node n in
 // direction d. It is filled without a division.
-use super::torus::Place;
-use super::torus::next_place;
-use super::torus::nodes;
-use super::torus::step_from;
 use network::DIRECTIONS;
 use network::Sizes;
+use packet::torus::Place;
+use packet::torus::next_place;
+use packet::torus::nodes;
+use packet::torus::step_from;
 ghost use mathlib.Core.Path.{_≡_};
 ghost use Prim.Native.Nat.{_+_, _*_, _<_};
 ghost use lib.ListN.{length};
 ghost use Rattle.network.specs.Sizes.{Shape, shapeOf, directions, dimensionOf, nodes, mostNodes};
 ghost use Rattle.network.specs.Torus.{coordinate, neighbour};
 ghost use Rattle.packet.specs.Geometry.{RingsFit, nodeAt, OnTorus};
-ghost use Rattle.packet.specs.Near.{Near, NearTo};
+ghost use Rattle.near.specs.Table.{Near, NearTo};
 
 // A byte for each direction of each node of the largest network.
 pub const TABLE_BYTES: usize = 1024;

@@ -1,13 +1,13 @@
--- `packet::near::look_up` meets its contract. Assumes nothing.
+-- `near::look_up` meets its contract. Assumes nothing.
 use borrow.Author.Needs.{needs}
 use Prim.Native.Nat.{_+_, _*_}
 use native.Mathlib.Omega.{arith}
 use denote.Ref.{now}
-use Rattle.packet.specs.Near.{near-at}
-use Rattle.packet.proofs.near.look_up.Statement.{statement}
-use Rattle.packet.proofs.near.look_up.Tie as tie
-use Rattle.packet.proofs.near.look_up.Reads as reads
-use Rattle.packet.proofs.near.look_up.Lts as lts
+use Rattle.near.specs.Table.{near-at}
+use Rattle.near.proofs.look_up.Statement.{statement}
+use Rattle.near.proofs.look_up.Tie as tie
+use Rattle.near.proofs.look_up.Reads as reads
+use Rattle.near.proofs.look_up.Lts as lts
 
 -- src/near.rt:57:11
 mul-result : tie.Need-mul-result

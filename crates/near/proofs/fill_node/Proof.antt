@@ -1,4 +1,4 @@
--- `packet::near::fill_node` meets its contract. Assumes nothing.
+-- `near::fill_node` meets its contract. Assumes nothing.
 use borrow.Author.Needs.{needs}
 use mathlib.Core.Path.{_≡_, ap, subst, _∙_}
 use mathlib.Core.List.{List}
@@ -7,13 +7,13 @@ use native.Mathlib.Nat.{lt-of-lt-of-le}
 use native.Mathlib.Omega.{arith}
 use Rattle.network.specs.Sizes.{Shape, shapeOf, nodes}
 use Rattle.network.specs.Torus.{coordinate}
 use Rattle.packet.specs.GeometryLaws.{rings-nodes, node-lt, column-is, row-is}
-use Rattle.packet.specs.Near.{NearTo}
-use Rattle.packet.proofs.near.fill_node.Statement.{statement}
-use Rattle.packet.proofs.near.fill_node.Tie as tie
-use Rattle.packet.proofs.near.fill_node.Reads as reads
-use Rattle.packet.proofs.near.fill_node.Lts as lts
-use Rattle.packet.proofs.near.fill_byte.Reads as fill-byte-reads
+use Rattle.near.specs.Table.{NearTo}
+use Rattle.near.proofs.fill_node.Statement.{statement}
+use Rattle.near.proofs.fill_node.Tie as tie
+use Rattle.near.proofs.fill_node.Reads as reads
+use Rattle.near.proofs.fill_node.Lts as lts
+use Rattle.near.proofs.fill_byte.Reads as fill-byte-reads
 
 is-node : (c : tie.Start) → c .args .n < nodes (shapeOf (c .args .s))
 is-node c =

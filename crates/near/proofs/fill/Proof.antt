@@ -1,19 +1,19 @@
--- `packet::near::fill` meets its contract. The loop's invariant: the bytes of the nodes before n are there, and n stands at the place. Assumes nothing.
+-- `near::fill` meets its contract. The loop's invariant: the bytes of the nodes before n are there, and n stands at the place. Assumes nothing.
 use borrow.Author.Needs.{needs}
 use mathlib.Core.Path.{_≡_, ap, subst, _∙_}
 use Prim.Native.Nat.{ℕ, _+_, _*_, _-_, _<_, _≤_}
 use native.Mathlib.Omega.{arith}
 use Rattle.network.specs.Sizes.{shapeOf, nodes}
 use Rattle.packet.specs.Geometry.{nodeAt, OnTorus}
 use Rattle.packet.specs.GeometryLaws.{rings-nodes, stands}
-use Rattle.packet.specs.Near.{NearTo, near-none}
-use Rattle.packet.proofs.near.fill.Statement.{statement}
-use Rattle.packet.proofs.near.fill.Tie as tie
-use Rattle.packet.proofs.near.fill.Reads as reads
-use Rattle.packet.proofs.near.fill.Lts as lts
-use Rattle.packet.proofs.near.fill_node.Reads as fill-node-reads
+use Rattle.near.specs.Table.{NearTo, near-none}
+use Rattle.near.proofs.fill.Statement.{statement}
+use Rattle.near.proofs.fill.Tie as tie
+use Rattle.near.proofs.fill.Reads as reads
+use Rattle.near.proofs.fill.Lts as lts
+use Rattle.near.proofs.fill_node.Reads as fill-node-reads
 use Rattle.packet.proofs.torus.next_place.Reads as next-place-reads
 use Rattle.packet.proofs.torus.nodes.Reads as nodes-reads
 
 abbrev Inv-loop : tie.InvT-loop
 Inv-loop near₀ s count place₀ n₀ near place n =

@@ -1,17 +1,17 @@
--- `packet::near::fill_byte` meets its contract. Assumes nothing.
+-- `near::fill_byte` meets its contract. Assumes nothing.
 use borrow.Author.Needs.{needs}
 use mathlib.Core.Path.{refl}
 use Prim.Native.Nat.{_+_, _*_}
 use native.Mathlib.Omega.{arith}
 use Rattle.network.specs.Sizes.{shapeOf}
 use Rattle.network.specs.TorusLaws.{neighbour-lt}
 use Rattle.packet.specs.GeometryLaws.{rings-torus, rings-nodes}
-use Rattle.packet.specs.Near.{near-more}
-use Rattle.packet.proofs.near.fill_byte.Statement.{statement}
-use Rattle.packet.proofs.near.fill_byte.Tie as tie
-use Rattle.packet.proofs.near.fill_byte.Reads as reads
-use Rattle.packet.proofs.near.fill_byte.Lts as lts
+use Rattle.near.specs.Table.{near-more}
+use Rattle.near.proofs.fill_byte.Statement.{statement}
+use Rattle.near.proofs.fill_byte.Tie as tie
+use Rattle.near.proofs.fill_byte.Reads as reads
+use Rattle.near.proofs.fill_byte.Lts as lts
 use Rattle.packet.proofs.torus.step_from.Reads as step-from-reads
 
 -- src/near.rt:22:9
 step-from-requires : tie.Need-step-from-requires

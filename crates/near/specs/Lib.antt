@@ -1,0 +1,2 @@
+-- What a table of neighbours holds, and its laws.
+pub mod Table
