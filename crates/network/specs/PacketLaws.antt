@@ -127,9 +127,6 @@ pub label-with : (i : ℕ) (z : ℤ) (p : ℕ) → i < dimensions → ByteRange 
 unfolding label
 label-with i z p h r = ap (λ (q : ℕ). q * 2 ^ 16) (above-with i z p h (byte-lt r))
 
-pub with-lt : (i : ℕ) (z : ℤ) (p : ℕ) → i < dimensions → ByteRange z → p < 2 ^ 64 → withOffset i z p < 2 ^ 64
-with-lt i z p h r l = let e = above-with i z p h (byte-lt r) in omega arith
-
 -- A hop -------------------------------------------------------------------------------------------------------------------------------
 
 hop-range : (i p : ℕ) → ByteRange (shrunk (offset i p))
@@ -366,14 +363,6 @@ pub offset-packet : (i t dest : ℕ) (offs : ℕ → ℤ) → i < dimensions →
     → offset i (packetWord t dest offs) ≡ offs i
 unfolding offset
 offset-packet i t dest offs k h r = ap signed (byte-packet i t dest offs k h r) ∙ byte-signed (offs i) (r i k)
-
-pub packet-lt : (t dest : ℕ) (offs : ℕ → ℤ) → t < 2 ^ 32 → dest < 2 ^ 16 → ((i : ℕ) → i < dimensions → ByteRange (offs i))
-    → packetWord t dest offs < 2 ^ 64
-unfolding packetWord sumBelow place
-packet-lt t dest offs l h r =
-    let x = byte-lt (r 0 (omega arith)) in
-    let y = byte-lt (r 1 (omega arith)) in
-    omega arith
 
 -- The shorter way round ---------------------------------------------------------------------------------------------------------------
 

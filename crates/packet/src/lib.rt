@@ -5,7 +5,7 @@ pub mod near;
 pub mod torus;
 
 ghost use mathlib.Core.Path.{_≡_};
-ghost use Prim.Native.Nat.{_<_, _≤_, _^_};
+ghost use Prim.Native.Nat.{_<_, _≤_};
 ghost use lib.IntN.{natAbs};
 ghost use Rattle.network.specs.Sizes.{dimensions, largestRing};
 ghost use Rattle.network.specs.Packet.{signed, byte, offset, withOffset, distance, heading, shrunk, hop, hopsLeft, work, destination, shorterWay};
