@@ -5,7 +5,6 @@ use mathlib.Core.Path.{_≡_, ap, ap₂, sym, _∙_}
 use mathlib.Core.List.{List, _++_}
 use mathlib.Core.Logic.{_⊎_, inl, inr}
 use Prim.Native.Nat.{ℕ, _+_, _-_, _<_, _≤_}
-use native.Mathlib.Decide.{decLt}
 use native.Mathlib.Omega.{arith}
 use lib.ListN.{length, getD, take, drop, set, length-append, length-drop, List·getD-append}
 use lib.Seq.{length-take-le, getD-take, getD-drop, getD-append-add, ext-getD, drop-set-lt, take-at, drop-at}
@@ -90,24 +89,6 @@ drop-splice w a e p f l h k b =
     let ls : length (splice w a e p) ≡ length w = length-splice w a e p l h k in
     ext-getD 0 (drop f (splice w a e p)) (drop f w) (length-drop f (splice w a e p) ∙ ap (λ (n : ℕ). n - f) ls ∙ sym (length-drop f w))
     (λ i c. getD-drop f (splice w a e p) i 0 ∙ getD-behind w a e p (f + i) l h k (omega arith) ∙ sym (getD-drop f w i 0))
-
--- a part put back as it was
-pub splice-span : (w : List ℕ) (a e : ℕ) → a ≤ e → e ≤ length w → splice w a e (span w a e) ≡ w
-splice-span w a e h k =
-    let l : length (span w a e) ≡ e - a = length-span w a e h k in
-    let ls : length (splice w a e (span w a e)) ≡ length w = length-splice w a e (span w a e) l h k in
-    ext-getD 0 (splice w a e (span w a e)) w ls (λ i b. at i (native.Mathlib.Decide.decLt i a) (native.Mathlib.Decide.decLt i e))
-  where
-    at : (i : ℕ) → Dec (i < a) → Dec (i < e) → getD (splice w a e (span w a e)) i 0 ≡ getD w i 0
-    at i (yes b) d = getD-before w a e (span w a e) i (omega arith) b
-    at i (no b) (yes c) =
-        let l : length (span w a e) ≡ e - a = length-span w a e h k in
-        let i′ : i ≡ a + (i - a) = omega arith in
-        ap (λ (n : ℕ). getD (splice w a e (span w a e)) n 0) i′
-        ∙ getD-in w a e (span w a e) (i - a) (omega arith) (omega arith)
-        ∙ getD-span w a e (i - a) (omega arith)
-        ∙ ap (λ (n : ℕ). getD w n 0) (sym i′)
-    at i (no b) (no c) = getD-behind w a e (span w a e) i (length-span w a e h k) h k (omega arith)
 
 -- one word set before a part, or behind it
 pub span-set-before : (w : List ℕ) (i v a e : ℕ) → i < a → span (set w i v) a e ≡ span w a e

@@ -3,6 +3,7 @@
 // caller but what bench.h says of the memory.
 pub mod outs;
 
+use checker::Opened;
 use network::Sizes;
 ghost use mathlib.Core.Path.{_≡_};
 ghost use lib.ListN.{length};
@@ -74,17 +75,25 @@ pub extern "C" fn bench_look(words: &[u64], node: u64, queue: u64, out: &mut [u6
     ensures answer { λ r. ⌜ r ≡ lookRefusal (now (words .entry)) node queue ⌝ }
     ensures out { λ _. ⌜ now (out .exit) ≡ lookOut (now (words .entry)) node queue ⌝ }
 {
-    let refusal = calls::look_refusal(words, node, queue);
-    if refusal != 0 {
-        *out = [0, 0];
-        return refusal;
+    let opened = checker::open(words);
+    match opened {
+        Opened::Refused(broken) => {
+            *out = [0, 0];
+            broken
+        }
+        Opened::Network(s) => {
+            let unknown = rules::look_rules(s, node, queue);
+            if unknown != 0 {
+                *out = [0, 0];
+                return unknown;
+            }
+            let start = queue::queue_start(s, node, queue);
+            let count = flow::held_count(words, s, node, queue);
+            let from = (start + 1) as u64;
+            *out = [from, count];
+            0
+        }
     }
-    let s = checker::sizes_of(words);
-    let start = queue::queue_start(s, node, queue);
-    let count = flow::held_count(words, s, node, queue);
-    let from = (start + 1) as u64;
-    *out = [from, count];
-    0
 }
 
 // out: whether there is a move, then its node, queue and output.

@@ -4,7 +4,7 @@ use mathlib.Core.Path.{_≡_, refl, ap, ap₂, sym, _∙_, subst}
 use mathlib.Core.Logic.{_≢_}
 use mathlib.Core.Bool.{Bool, true, false, _||_}
 use mathlib.Core.List.{List, [], _∷_, _++_, map}
-use Prim.Native.Nat.{ℕ, zero, suc, _+_, _*_, _-_, _<_, _≤_}
+use Prim.Native.Nat.{ℕ, zero, suc, _+_, _-_, _<_, _≤_}
 use native.Mathlib.Omega.{arith}
 use borrow.Author.Tests.{eq-eqb, ne-eqb, lt-ltb, le-ltb, leb-false, eqb-false}
 use lib.Dec.{eqb, leb}
@@ -16,7 +16,7 @@ use Rattle.network.specs.declared.Found.{Found}
 use Rattle.network.specs.declared.Drained.{Drained}
 use Rattle.network.specs.declared.Stop.{Stop}
 use Rattle.network.specs.Sizes.{Shape, sizesInRange, nodes, queues, capacity}
-use Rattle.network.specs.Layout.{shape, nodeWords, need, queueStart, queueEnd, queueLength, queuePart, countOf, packetsOf, held}
+use Rattle.network.specs.Layout.{shape, need, queueStart, queueEnd, queueLength, queuePart, countOf, packetsOf, held}
 use Rattle.network.specs.LayoutLaws.{Fits, length-queuePart, length-packetsOf, end-length}
 use Rattle.network.specs.CheckLaws.{Network, QueueFits}
 use Rattle.network.specs.Routes.{deliver, freeSlots}
@@ -178,18 +178,6 @@ drain-done S w budget ledger v written ms ds why z e r x =
 
 -- what the code has shown where it goes on ----------------------------------------------------------------------------------------------
 
-pub still-broken : (w : List ℕ) (r : ℕ) → r ≡ networkRefusal w → r ≢ 0 → networkRefusal w ≢ 0
-still-broken w r e ne z = ne (e ∙ z)
-
-pub sound : (S : Shape) (w : List ℕ) (r : ℕ) → r ≡ networkRefusal w → r ≡ 0 → S ≡ shape w → Network S w
-sound S w r e z s = subst (λ (T : Shape). Network T w) (sym s) (network-passed w (sym e ∙ z))
-
-pub long-enough : (w : List ℕ) (r : ℕ) → r ≡ networkRefusal w → r ≡ 0 → 8 ≤ length w
-unfolding need
-long-enough w r e z =
-    let l : 8 + nodes (shape w) * nodeWords (shape w) ≤ length w = network-passed w (sym e ∙ z) .long in
-    omega arith
-
 pub credit-place : (S : Shape) (n o : ℕ) → creditRules S n o ≡ 0 → (n < nodes S) × (0 < o) × (o < queues)
 unfolding creditRules
 credit-place S n o e =
@@ -221,6 +209,9 @@ pub record Looking (S : Shape) (w : List ℕ) (n q : ℕ) : Type 0 where
   pub node : n < nodes S
   pub queue : q < queues
 
+pub looks : {S : Shape} {w : List ℕ} {n q r : ℕ} → Network S w → r ≡ lookRules S n q → r ≡ 0 → Looking S w n q
+looks {S} {w} {n} {q} N e z = let (hn, hq) = look-place S n q (sym e ∙ z) in record { network = N; node = hn; queue = hq }
+
 pub looking : (S : Shape) (w : List ℕ) (n q r : ℕ) → r ≡ lookRefusal w n q → r ≡ 0 → S ≡ shape w → Looking S w n q
 unfolding lookRefusal
 looking S w n q r e z s =
@@ -231,10 +222,6 @@ looking S w n q r e z s =
       node = subst (λ (T : Shape). n < nodes T) (sym s) hn;
       queue = hq;
     }
-
-pub looking-long : (w : List ℕ) (n q r : ℕ) → r ≡ lookRefusal w n q → r ≡ 0 → 8 ≤ length w
-unfolding lookRefusal
-looking-long w n q r e z = long-enough w (networkRefusal w) refl (neither (networkRefusal w) (lookRules (shape w) n q) (sym e ∙ z) .0)
 
 -- a part of a part
 part-of : (start count a b c : ℕ) (w : List ℕ) → start ≡ a → count ≡ b → b ≤ c - 1

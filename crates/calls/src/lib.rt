@@ -3,6 +3,7 @@
 // the answer is an enum, `told` is the number and every value that it stands for (specs/Answers.antt there). All tests come first, then
 // one change that cannot fail. No call asks anything of its caller.
 
+use checker::Opened;
 use network::Credit;
 use network::Drained;
 use network::Found;
@@ -46,17 +47,18 @@ pub fn offer(words: &mut [u64], node: u64, destination: u64, tag: u32) -> u64
     ensures answer { λ r. ⌜ r ≡ offerRefusal (now (words .entry)) node destination ⌝ }
     ensures words { λ _. ⌜ now (words .exit) ≡ offerWords (now (words .entry)) node destination tag ⌝ }
 {
-    let broken = checker::network_refusal(words);
-    if broken != 0 {
-        return broken;
+    let opened = checker::open(words);
+    match opened {
+        Opened::Refused(broken) => broken,
+        Opened::Network(s) => {
+            let turned_away = rules::offer_rules(words, s, node, destination);
+            if turned_away != 0 {
+                return turned_away;
+            }
+            changes::accept(words, s, node, destination, tag);
+            0
+        }
     }
-    let s = checker::sizes_of(words);
-    let turned_away = rules::offer_rules(words, s, node, destination);
-    if turned_away != 0 {
-        return turned_away;
-    }
-    changes::accept(words, s, node, destination, tag);
-    0
 }
 
 // Move (R106 to R112): the head of a queue goes to the target that the output names, or is delivered by output 0.
@@ -65,20 +67,21 @@ pub fn move_packet(words: &mut [u64], node: u64, queue: u64, output: u64) -> Mov
     ensures words { λ _. ⌜ now (words .exit) ≡ moveWords (now (words .entry)) node queue output ⌝ }
     ensures told { λ r. ⌜ MoveTells (now (words .entry)) node queue output r ⌝ }
 {
-    let broken = checker::network_refusal(words);
-    if broken != 0 {
-        return Moved::Refused(broken);
+    let opened = checker::open(words);
+    match opened {
+        Opened::Refused(broken) => Moved::Refused(broken),
+        Opened::Network(s) => {
+            let barred = rules::move_rules(words, s, node, queue, output);
+            if barred != 0 {
+                return Moved::Refused(barred);
+            }
+            let p = changes::make_move(words, s, node, queue, output);
+            if output == 0 {
+                return Moved::Delivered(p);
+            }
+            Moved::Passed
+        }
     }
-    let s = checker::sizes_of(words);
-    let barred = rules::move_rules(words, s, node, queue, output);
-    if barred != 0 {
-        return Moved::Refused(barred);
-    }
-    let p = changes::make_move(words, s, node, queue, output);
-    if output == 0 {
-        return Moved::Delivered(p);
-    }
-    Moved::Passed
 }
 
 // Credit (R116): the free slots of the target that the output names.
@@ -86,27 +89,28 @@ pub fn credit(words: &[u64], node: u64, output: u64) -> Credit
     ensures answer { λ r. ⌜ r ≡ creditAnswer (now (words .entry)) node output ⌝ }
     ensures told { λ r. ⌜ CreditTells (now (words .entry)) node output r ⌝ }
 {
-    let broken = checker::network_refusal(words);
-    if broken != 0 {
-        return Credit::Refused(broken);
+    let opened = checker::open(words);
+    match opened {
+        Opened::Refused(broken) => Credit::Refused(broken),
+        Opened::Network(s) => {
+            let unknown = rules::credit_rules(s, node, output);
+            if unknown != 0 {
+                return Credit::Refused(unknown);
+            }
+            Credit::Free(flow::free_slots(words, s, node, output))
+        }
     }
-    let s = checker::sizes_of(words);
-    let unknown = rules::credit_rules(s, node, output);
-    if unknown != 0 {
-        return Credit::Refused(unknown);
-    }
-    Credit::Free(flow::free_slots(words, s, node, output))
 }
 
 // Look's companion (R121): by which rule Look is refused, or 0.
 pub fn look_refusal(words: &[u64], node: u64, queue: u64) -> u64
     ensures { λ r. ⌜ r ≡ lookRefusal (now (words .entry)) node queue ⌝ }
 {
-    let broken = checker::network_refusal(words);
-    if broken != 0 {
-        return broken;
+    let opened = checker::open(words);
+    match opened {
+        Opened::Refused(broken) => broken,
+        Opened::Network(s) => rules::look_rules(s, node, queue),
     }
-    rules::look_rules(checker::sizes_of(words), node, queue)
 }
 
 // Look (R119, R120): the held words of a queue, as the part of the lent words where they stand; an empty part on a refusal, and where that one
@@ -115,15 +119,20 @@ pub fn look(words: &[u64], node: u64, queue: u64) -> &[u64]
     ensures part { λ r. ⌜ now r ≡ lookPart (now (words .entry)) node queue ⌝ }
     ensures place { λ r. ⌜ LookPlace (words .entry) node queue r ⌝ }
 {
-    if look_refusal(words, node, queue) != 0 {
-        return &words[0..0];
+    let opened = checker::open(words);
+    match opened {
+        Opened::Refused(_) => &words[0..0],
+        Opened::Network(s) => {
+            if rules::look_rules(s, node, queue) != 0 {
+                return &words[0..0];
+            }
+            let start = queue::queue_start(s, node, queue);
+            let count = flow::held_count(words, s, node, queue);
+            let from = start + 1;
+            let to = from + count as usize;
+            between(words, from, to)
+        }
     }
-    let s = checker::sizes_of(words);
-    let start = queue::queue_start(s, node, queue);
-    let count = flow::held_count(words, s, node, queue);
-    let from = start + 1;
-    let to = from + count as usize;
-    between(words, from, to)
 }
 
 // The words from one index up to another, where they stand.
@@ -140,11 +149,11 @@ pub fn first(words: &[u64]) -> Found
     ensures answer { λ r. ⌜ r ≡ firstAnswer (now (words .entry)) ⌝ }
     ensures told { λ r. ⌜ FirstTells (now (words .entry)) r ⌝ }
 {
-    let broken = checker::network_refusal(words);
-    if broken != 0 {
-        return Found::Refused(broken);
+    let opened = checker::open(words);
+    match opened {
+        Opened::Refused(broken) => Found::Refused(broken),
+        Opened::Network(s) => first::first_move(words, s),
     }
-    first::first_move(words, checker::sizes_of(words))
 }
 
 // Drain (R127 to R134): First's move again and again, the packets that it delivers into the ledger, until nothing is held, or the budget
@@ -155,10 +164,9 @@ pub fn drain(words: &mut [u64], budget: u32, ledger: &mut [u64]) -> Drained
     ensures ledger { λ _. ⌜ now (ledger .exit) ≡ drainLedger (now (words .entry)) budget (now (ledger .entry)) ⌝ }
     ensures told { λ r. ⌜ DrainTells (now (words .entry)) budget (length (now (ledger .entry))) r ⌝ }
 {
-    let broken = checker::network_refusal(words);
-    if broken != 0 {
-        return Drained::Refused(broken);
+    let opened = checker::open(words);
+    match opened {
+        Opened::Refused(broken) => Drained::Refused(broken),
+        Opened::Network(s) => drains::drain_network(words, s, budget, ledger),
     }
-    let s = checker::sizes_of(words);
-    drains::drain_network(words, s, budget, ledger)
 }

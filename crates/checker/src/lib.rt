@@ -1,5 +1,5 @@
 // The call Check: are these words a network, and if not, which test refuses them. Every other call but Make makes these tests first.
-// Order: the refusal; the sizes; the clauses of the check; the counters. The queues' clauses are in the crate `queue_check`,
+// Order: the refusal; the words opened; the sizes; the clauses of the check; the counters. The queues' clauses are in the crate `queue_check`,
 // a packet's in `packet_check`, the rings' in `ring_check`.
 use network::ACCEPTED_AT;
 use network::DELIVERED_AT;
@@ -20,10 +20,11 @@ ghost use mathlib.Core.Path.{_≡_};
 ghost use Prim.Native.Nat.{_≤_};
 ghost use lib.ListN.{length};
 ghost use Rattle.network.specs.Sizes.{Shape, shapeOf, within, sizesInRange};
-ghost use Rattle.network.specs.Layout.{shape, headerWords};
+ghost use Rattle.network.specs.Layout.{headerWords};
 ghost use Rattle.network.specs.Check.{packetsHeld, workLeft, countersFit, isNetwork};
 ghost use Rattle.network.specs.Refusals.{networkRefusal};
 ghost use Rattle.queue.specs.Queue.{Enough};
+ghost use Rattle.checker.specs.Opening.{sizesIn, opened};
 
 // The number of the first test that refuses the words, 0 if they are a network.
 pub fn network_refusal(words: &[u64]) -> u64
@@ -45,10 +46,26 @@ pub fn network_refusal(words: &[u64]) -> u64
     0
 }
 
+// What the words are, for every call that goes on from there: refused by that number, or a network of these sizes.
+pub enum Opened {
+    Refused(u64),
+    Network(Sizes),
+}
+
+pub fn open(words: &[u64]) -> Opened
+    ensures { λ r. ⌜ r ≡ opened (now (words .entry)) ⌝ }
+{
+    let refusal = network_refusal(words);
+    if refusal != 0 {
+        return Opened::Refused(refusal);
+    }
+    Opened::Network(sizes_of(words))
+}
+
 // The sizes that the words begin with.
-pub fn sizes_of(words: &[u64]) -> Sizes
+fn sizes_of(words: &[u64]) -> Sizes
     requires { ⌜ headerWords ≤ length (now words) ⌝ }
-    ensures { λ r. ⌜ shapeOf r ≡ shape (now (words .entry)) ⌝ }
+    ensures { λ r. ⌜ r ≡ sizesIn (now (words .entry)) ⌝ }
 {
     Sizes {
         x: words[0],

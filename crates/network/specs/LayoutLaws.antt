@@ -257,12 +257,6 @@ rest-put S w n q ps fits h =
     drop-splice w (queueStart S n q) (queueEnd S n q) (queueWords (capacity S q) ps) (need S)
     (put-length S n q ps h) (start-end S n q) (end-length S w n q fits) (end-need S n q (fits .node) (fits .queue))
 
--- a queue that holds no more than its capacity, with its unused words 0, is the words of its packets
-pub queueWords-held : (S : Shape) (w : List ℕ) (n q : ℕ) → Fits S w n q → countOf (queuePart S w n q) ≤ capacity S q
-    → T (allOf (eqb 0) (unusedOf (queuePart S w n q))) → queueWords (capacity S q) (held S w n q) ≡ queuePart S w n q
-unfolding held queueLength
-queueWords-held S w n q fits h t = queueWords-packetsOf (capacity S q) (queuePart S w n q) (length-queuePart S w n q fits) h t
-
 -- of two contents put into one queue the later stays
 pub put-put : (S : Shape) (w : List ℕ) (n q : ℕ) (ps qs : List ℕ) → Fits S w n q → length ps ≤ capacity S q
     → putQueue S (putQueue S w n q ps) n q qs ≡ putQueue S w n q qs

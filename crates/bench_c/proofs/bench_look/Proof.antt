@@ -6,82 +6,93 @@ use Prim.Native.Nat.{_+_, _≤_}
 use native.Mathlib.Omega.{arith}
 use lib.ListN.{length}
 use Rattle.network.specs.Sizes.{shapeOf}
-use Rattle.calls.specs.Answers.{Looking, looking, looking-long, held-end}
+use Rattle.packet.specs.GeometryLaws.{inRange-rings}
+use Rattle.checker.specs.Opening.{broken, is-open, is-shut}
+use Rattle.calls.specs.Answers.{look-broken, look-rules, Looking, looks, held-end}
 use Rattle.bench_c.specs.OutLaws.{look-cleared, look-told}
 use Rattle.bench_c.proofs.bench_look.Statement.{statement}
 use Rattle.bench_c.proofs.bench_look.Tie as tie
-use Rattle.bench_c.proofs.bench_look.Reads as reads
-use Rattle.bench_c.proofs.bench_look.Lts as lts
-use Rattle.calls.proofs.look_refusal.Reads as look-refusal-reads
-use Rattle.checker.proofs.sizes_of.Reads as sizes-of-reads
-use Rattle.queue.proofs.queue_start.Reads as queue-start-reads
-use Rattle.flow.proofs.held_count.Reads as held-count-reads
 
--- src/lib.rt:62:9
-look-refusal-requires : tie.Need-look-refusal-requires
-look-refusal-requires c κs = search needs
+open-requires : tie.Need-open-requires
+open-requires c κs = search needs
 
--- src/lib.rt:65:9
+enum-known-opened : tie.Need-enum-known-opened
+enum-known-opened c = search needs
+
+enum-known-opened-2 : tie.Need-enum-known-opened-2
+enum-known-opened-2 c = search needs
+
+look-rules-requires : tie.Need-look-rules-requires
+look-rules-requires c κs =
+    let o = c .before in
+    let k = is-open (o .before .before .«open» .ensures) (o .opened2 .given .1) in
+    inRange-rings (o .opened2 .given .0 .0) (k .network .in-range)
+
 returns : tie.Need-returns
 returns c =
-    let a = c .before .before .before .before in
-    let r = c .before .before .look-refusal in
-    (r .ensures, look-cleared (now (a .args .words)) (a .args .node) (a .args .queue) (λ z. c .before .if1 .taken (r .ensures ∙ z)))
+    let t = c .before .before .look-rules in
+    let o = c .before .before .before .before in
+    let a = o .before .before .before .before .args in
+    let k = is-open (o .before .before .«open» .ensures) (o .opened2 .given .1) in
+    let e = t .ensures ∙ look-rules (shapeOf (o .opened2 .given .0 .0)) (now (a .words)) (a .node) (a .queue) (k .passed) (k .sizes) in
+    (e, look-cleared (now (a .words)) (a .node) (a .queue) (λ z. c .before .if1 .taken (e ∙ z)))
 
--- src/lib.rt:67:9
-sizes-of-requires : tie.Need-sizes-of-requires
-sizes-of-requires c κs =
-    let a = c .before .before .before in
-    let r = c .before .look-refusal in
-    looking-long (now (a .args .words)) (a .args .node) (a .args .queue) (r .result) (r .ensures) (c .if1 .left)
-
--- src/lib.rt:68:9
 -- the look is not refused
-look : (c : tie.After-sizes-of)
-    → Looking (shapeOf (c .sizes-of .result)) (now (c .before .before .before .before .args .words)) (c .before .before .before .before .args .node) (c .before .before .before .before .args .queue)
+look : (c : tie.Else1)
+    → Looking (shapeOf (c .before .before .before .opened2 .given .0 .0)) (now (c .before .before .before .before .before .before .before .args .words)) (c .before .before .before .before .before .before .before .args .node) (c .before .before .before .before .before .before .before .args .queue)
 look c =
-    let a = c .before .before .before .before in
-    let r = c .before .before .look-refusal in
-    looking (shapeOf (c .sizes-of .result)) (now (a .args .words)) (a .args .node) (a .args .queue) (r .result) (r .ensures) (c .before .if1 .left) (c .sizes-of .ensures)
+    let t = c .before .look-rules in
+    let o = c .before .before .before in
+    let k = is-open (o .before .before .«open» .ensures) (o .opened2 .given .1) in
+    looks (k .network) (t .ensures) (c .if1 .left)
 
 queue-start-requires : tie.Need-queue-start-requires
-queue-start-requires c κs =
-    let k = look c in
-    (k .network .in-range, k .node, k .queue)
+queue-start-requires c κs = let k = look c in (k .network .in-range, k .node, k .queue)
 
--- src/lib.rt:69:9
 held-count-requires : tie.Need-held-count-requires
 held-count-requires c κs = let k = look (c .before) in record { network = k .network; node = k .node; queue = k .queue }
 
--- src/lib.rt:70:17
 add-from : tie.Need-add-from
 add-from c =
-    let a = c .before .before .before .before .before .before in
-    let z = c .before .before .sizes-of in
+    let f = c .before .before in
+    let o = f .before .before .before in
+    let a = o .before .before .before .before in
     let q = c .before .queue-start in
     let e : q .result + 1 + c .held-count .result ≤ length (now (a .args .words)) =
-    held-end (shapeOf (z .result)) (now (a .args .words)) (a .args .node) (a .args .queue) (q .result) (c .held-count .result) (look (c .before .before)) (q .ensures) (c .held-count .ensures) in
+    held-end (shapeOf (o .opened2 .given .0 .0)) (now (a .args .words)) (a .args .node) (a .args .queue) (q .result) (c .held-count .result) (look f) (q .ensures) (c .held-count .ensures) in
     omega (arith, a .good .0)
 
--- src/lib.rt:57:1
 returns-2 : tie.Need-returns-2
 returns-2 c =
-    let a = c .before .before .before .before .before .before .before in
-    let r = c .before .before .before .before .before .look-refusal in
-    let none = sym (r .ensures) ∙ c .before .before .before .before .if1 .left in
-    let z = c .before .before .before .sizes-of in
-    let q = c .before .before .queue-start in
+    let o = c .before .before in
+    let a = o .before .before .before .before .args in
+    let k = is-shut (o .before .before .«open» .ensures) (o .opened .given .1) in
+    let e = look-broken (now (a .words)) (a .node) (a .queue) (broken k) in
+    (sym (k .says) ∙ e, look-cleared (now (a .words)) (a .node) (a .queue) (λ z. broken k (e ∙ z)))
+
+returns-3 : tie.Need-returns-3
+returns-3 c =
     let h = c .before .held-count in
-    (sym none, look-told (shapeOf (z .result)) (now (a .args .words)) (a .args .node) (a .args .queue) (q .result) (h .result) (z .ensures) none (q .ensures) (h .ensures))
+    let q = c .before .before .queue-start in
+    let f = c .before .before .before in
+    let t = f .before .look-rules in
+    let o = f .before .before .before in
+    let a = o .before .before .before .before .args in
+    let k = is-open (o .before .before .«open» .ensures) (o .opened2 .given .1) in
+    let none = sym (look-rules (shapeOf (o .opened2 .given .0 .0)) (now (a .words)) (a .node) (a .queue) (k .passed) (k .sizes)) ∙ sym (t .ensures) ∙ f .if1 .left in
+    (sym none, look-told (shapeOf (o .opened2 .given .0 .0)) (now (a .words)) (a .node) (a .queue) (q .result) (h .result) (k .sizes) none (q .ensures) (h .ensures))
 
 pub bench-look-spec : {M : Type 1} → statement M
 bench-look-spec =
     tie.close
     (tie.spec
-    look-refusal-requires
+    open-requires
+    enum-known-opened
+    enum-known-opened-2
+    look-rules-requires
     returns
-    sizes-of-requires
     queue-start-requires
     held-count-requires
     add-from
-    returns-2)
+    returns-2
+    returns-3)

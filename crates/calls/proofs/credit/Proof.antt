@@ -1,93 +1,82 @@
 -- `calls::credit` meets its contract. Assumes nothing.
 use borrow.Author.Needs.{needs}
-use mathlib.Core.Path.{_≡_, sym, _∙_, subst}
-use denote.Ref.{now}
-use Rattle.network.specs.Sizes.{shapeOf}
-use Rattle.packet.specs.GeometryLaws.{inRange-rings}
-use Rattle.calls.specs.Answers.{still-broken, sound, long-enough, credit-broken, credit-refused, credit-free, credit-place}
-use mathlib.Core.Path.{ap}
+use mathlib.Core.Path.{_≡_, ap, sym, _∙_, subst}
 use mathlib.Core.List.{List}
 use Prim.Native.Nat.{ℕ}
+use denote.Ref.{now}
+use Rattle.network.specs.Sizes.{shapeOf}
 use Rattle.network.specs.declared.Credit.{Credit}
 use Rattle.network.specs.Calls.{creditAnswer}
 use Rattle.network.specs.Answers.{CreditTells, credit-tells}
+use Rattle.packet.specs.GeometryLaws.{inRange-rings}
+use Rattle.calls.specs.Answers.{credit-broken, credit-refused, credit-free, credit-place}
+use Rattle.checker.specs.Opening.{broken, is-open, is-shut}
 use Rattle.calls.proofs.credit.Statement.{statement}
 use Rattle.calls.proofs.credit.Tie as tie
-use Rattle.calls.proofs.credit.Reads as reads
-use Rattle.calls.proofs.credit.Lts as lts
-use Rattle.checker.proofs.network_refusal.Reads as network-refusal-reads
-use Rattle.checker.proofs.sizes_of.Reads as sizes-of-reads
-use Rattle.flow.proofs.free_slots.Reads as free-slots-reads
-use Rattle.rules.proofs.credit_rules.Reads as credit-rules-reads
 
 with-values : {w : List ℕ} {n o : ℕ} {said : Credit} → said ≡ creditAnswer w n o → (said ≡ creditAnswer w n o) × CreditTells w n o said
 with-values {w} {n} {o} e = (e, subst (λ (r : Credit). CreditTells w n o r) (sym e) (credit-tells w n o))
 
--- src/lib.rt:88:9
-network-refusal-requires : tie.Need-network-refusal-requires
-network-refusal-requires c κs = search needs
+open-requires : tie.Need-open-requires
+open-requires c κs = search needs
 
--- src/lib.rt:90:9
-returns : tie.Need-returns
-returns c =
-    let a = c .before .before .before in
-    let r = c .before .network-refusal in
-    with-values (ap Credit.Refused (r .ensures) ∙ credit-broken (now (a .args .words)) (a .args .node) (a .args .output) (still-broken (now (a .args .words)) (r .result) (r .ensures) (c .if1 .taken)))
+enum-known-opened : tie.Need-enum-known-opened
+enum-known-opened c = search needs
 
--- src/lib.rt:92:9
-sizes-of-requires : tie.Need-sizes-of-requires
-sizes-of-requires c κs =
-    let a = c .before .before .before in
-    let r = c .before .network-refusal in
-    long-enough (now (a .args .words)) (r .result) (r .ensures) (c .if1 .left)
+enum-known-opened-2 : tie.Need-enum-known-opened-2
+enum-known-opened-2 c = search needs
 
--- src/lib.rt:93:9
 credit-rules-requires : tie.Need-credit-rules-requires
 credit-rules-requires c κs =
-    let a = c .before .before .before .before in
-    let r = c .before .before .network-refusal in
-    let z = c .sizes-of in
-    inRange-rings (z .result) (sound (shapeOf (z .result)) (now (a .args .words)) (r .result) (r .ensures) (c .before .if1 .left) (z .ensures) .in-range)
+    let o = c .before in
+    let k = is-open (o .before .before .«open» .ensures) (o .opened2 .given .1) in
+    inRange-rings (o .opened2 .given .0 .0) (k .network .in-range)
 
--- src/lib.rt:95:9
-returns-2 : tie.Need-returns-2
-returns-2 c =
-    let a = c .before .before .before .before .before .before in
-    let r = c .before .before .before .before .network-refusal in
-    let z = c .before .before .sizes-of in
-    let o = c .before .credit-rules in
-    with-values (credit-refused (shapeOf (z .result)) (now (a .args .words)) (a .args .node) (a .args .output) (o .result) (sym (r .ensures) ∙ c .before .before .before .if1 .left) (z .ensures) (sym (o .ensures)) (c .if2 .taken))
+returns : tie.Need-returns
+returns c =
+    let t = c .before .credit-rules in
+    let o = c .before .before .before in
+    let a = o .before .before .before .before .args in
+    let k = is-open (o .before .before .«open» .ensures) (o .opened2 .given .1) in
+    with-values
+    (credit-refused (shapeOf (o .opened2 .given .0 .0)) (now (a .words)) (a .node) (a .output) (t .result) (k .passed) (k .sizes) (sym (t .ensures)) (c .if1 .taken))
 
--- src/lib.rt:97:18
 free-slots-requires : tie.Need-free-slots-requires
 free-slots-requires c κs =
-    let a = c .before .before .before .before .before .before in
-    let r = c .before .before .before .before .network-refusal in
-    let z = c .before .before .sizes-of in
-    let o = c .before .credit-rules in
-    let k = credit-place (shapeOf (z .result)) (a .args .node) (a .args .output) (sym (o .ensures) ∙ c .if2 .left) in (
-      record { network = sound (shapeOf (z .result)) (now (a .args .words)) (r .result) (r .ensures) (c .before .before .before .if1 .left) (z .ensures); node = k .0; queue = k .2 },
-      k .1,
-    )
+    let t = c .before .credit-rules in
+    let o = c .before .before .before in
+    let a = o .before .before .before .before .args in
+    let k = is-open (o .before .before .«open» .ensures) (o .opened2 .given .1) in
+    let p = credit-place (shapeOf (o .opened2 .given .0 .0)) (a .node) (a .output) (sym (t .ensures) ∙ c .if1 .left) in
+    (record { network = k .network; node = p .0; queue = p .2 }, p .1)
 
--- src/lib.rt:85:1
+returns-2 : tie.Need-returns-2
+returns-2 c =
+    let o = c .before in
+    let a = o .before .before .before .before .args in
+    let k = is-shut (o .before .before .«open» .ensures) (o .opened .given .1) in
+    with-values (ap Credit.Refused (sym (k .says)) ∙ credit-broken (now (a .words)) (a .node) (a .output) (broken k))
+
 returns-3 : tie.Need-returns-3
 returns-3 c =
-    let a = c .before .before .before .before .before .before .before in
-    let r = c .before .before .before .before .before .network-refusal in
-    let z = c .before .before .before .sizes-of in
-    let o = c .before .before .credit-rules in
-    with-values (credit-free (shapeOf (z .result)) (now (a .args .words)) (a .args .node) (a .args .output) (c .free-slots .result) (sym (r .ensures) ∙ c .before .before .before .before .if1 .left) (z .ensures)
-    (sym (o .ensures) ∙ c .before .if2 .left) (c .free-slots .ensures))
+    let e = c .before in
+    let t = e .before .credit-rules in
+    let o = e .before .before .before in
+    let a = o .before .before .before .before .args in
+    let k = is-open (o .before .before .«open» .ensures) (o .opened2 .given .1) in
+    with-values
+    (credit-free (shapeOf (o .opened2 .given .0 .0)) (now (a .words)) (a .node) (a .output) (c .free-slots .result) (k .passed) (k .sizes)
+    (sym (t .ensures) ∙ e .if1 .left) (c .free-slots .ensures))
 
 pub credit-spec : {M : Type 1} → statement M
 credit-spec =
     tie.close
     (tie.spec
-    network-refusal-requires
-    returns
-    sizes-of-requires
+    open-requires
+    enum-known-opened
+    enum-known-opened-2
     credit-rules-requires
-    returns-2
+    returns
     free-slots-requires
+    returns-2
     returns-3)

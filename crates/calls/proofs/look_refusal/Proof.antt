@@ -4,50 +4,47 @@ use mathlib.Core.Path.{sym, _∙_}
 use denote.Ref.{now}
 use Rattle.network.specs.Sizes.{shapeOf}
 use Rattle.packet.specs.GeometryLaws.{inRange-rings}
-use Rattle.calls.specs.Answers.{still-broken, sound, long-enough, look-broken, look-rules}
+use Rattle.calls.specs.Answers.{look-broken, look-rules}
+use Rattle.checker.specs.Opening.{broken, is-open, is-shut}
 use Rattle.calls.proofs.look_refusal.Statement.{statement}
 use Rattle.calls.proofs.look_refusal.Tie as tie
-use Rattle.calls.proofs.look_refusal.Reads as reads
-use Rattle.calls.proofs.look_refusal.Lts as lts
-use Rattle.checker.proofs.network_refusal.Reads as network-refusal-reads
-use Rattle.checker.proofs.sizes_of.Reads as sizes-of-reads
-use Rattle.rules.proofs.look_rules.Reads as look-rules-reads
 
--- src/lib.rt:104:9
-network-refusal-requires : tie.Need-network-refusal-requires
-network-refusal-requires c κs = search needs
+open-requires : tie.Need-open-requires
+open-requires c κs = search needs
 
--- src/lib.rt:106:9
-returns : tie.Need-returns
-returns c =
-    let a = c .before .before .before in
-    let r = c .before .network-refusal in
-    r .ensures ∙ look-broken (now (a .args .words)) (a .args .node) (a .args .queue) (still-broken (now (a .args .words)) (r .result) (r .ensures) (c .if1 .taken))
+enum-known-opened : tie.Need-enum-known-opened
+enum-known-opened c = search needs
 
--- src/lib.rt:108:33
-sizes-of-requires : tie.Need-sizes-of-requires
-sizes-of-requires c κs =
-    let a = c .before .before .before in
-    let r = c .before .network-refusal in
-    long-enough (now (a .args .words)) (r .result) (r .ensures) (c .if1 .left)
+enum-known-opened-2 : tie.Need-enum-known-opened-2
+enum-known-opened-2 c = search needs
 
--- src/lib.rt:108:5
 look-rules-requires : tie.Need-look-rules-requires
 look-rules-requires c κs =
-    let a = c .before .before .before .before in
-    let r = c .before .before .network-refusal in
-    let z = c .sizes-of in
-    inRange-rings (z .result) (sound (shapeOf (z .result)) (now (a .args .words)) (r .result) (r .ensures) (c .before .if1 .left) (z .ensures) .in-range)
+    let o = c .before in
+    let k = is-open (o .before .before .«open» .ensures) (o .opened2 .given .1) in
+    inRange-rings (o .opened2 .given .0 .0) (k .network .in-range)
 
--- src/lib.rt:101:1
+returns : tie.Need-returns
+returns c =
+    let o = c .before in
+    let a = o .before .before .before .before .args in
+    let k = is-shut (o .before .before .«open» .ensures) (o .opened .given .1) in
+    sym (k .says) ∙ look-broken (now (a .words)) (a .node) (a .queue) (broken k)
+
 returns-2 : tie.Need-returns-2
 returns-2 c =
-    let a = c .before .before .before .before .before in
-    let r = c .before .before .before .network-refusal in
-    let z = c .before .sizes-of in
-    c .look-rules .ensures ∙ look-rules (shapeOf (z .result)) (now (a .args .words)) (a .args .node) (a .args .queue) (sym (r .ensures) ∙ c .before .before .if1 .left) (z .ensures)
+    let o = c .before .before in
+    let a = o .before .before .before .before .args in
+    let k = is-open (o .before .before .«open» .ensures) (o .opened2 .given .1) in
+    c .look-rules .ensures ∙ look-rules (shapeOf (o .opened2 .given .0 .0)) (now (a .words)) (a .node) (a .queue) (k .passed) (k .sizes)
 
 pub look-refusal-spec : {M : Type 1} → statement M
 look-refusal-spec =
     tie.close
-    (tie.spec network-refusal-requires returns sizes-of-requires look-rules-requires returns-2)
+    (tie.spec
+    open-requires
+    enum-known-opened
+    enum-known-opened-2
+    look-rules-requires
+    returns
+    returns-2)

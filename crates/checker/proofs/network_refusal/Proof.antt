@@ -13,6 +13,7 @@ use Rattle.network.specs.Sizes.{Shape, shapeOf, sizesInRange}
 use Rattle.network.specs.Layout.{shape, headerWords, need}
 use Rattle.network.specs.Check.{isNetwork}
 use Rattle.network.specs.Refusals.{refuse, networkRefusal, shortStore, wrongSize, noNetwork}
+use Rattle.checker.specs.Opening.{sizes-shape}
 use Rattle.checker.proofs.network_refusal.Statement.{statement}
 use Rattle.checker.proofs.network_refusal.Tie as tie
 
@@ -51,6 +52,10 @@ module _ (w : List ℕ) (S : Shape) (e : S ≡ shape w) where
       ∙ goes-on _ _ _ (ap (λ (T : Shape). ltb (length w) (need T)) (sym e) ∙ le-ltb (length w) (need S) k)
       ∙ ap (λ (T : Shape). refuse (not (isNetwork T w)) noNetwork 0) (sym e)
 
+-- the sizes that the words begin with
+begin : (c : tie.After-sizes-of) → shapeOf (c .sizes-of .result) ≡ shape (c .before .before .before .args .words .now)
+begin c = ap shapeOf (c .sizes-of .ensures) ∙ sizes-shape _
+
 returns : tie.Need-returns
 returns c = sym (first _ _ refl (c .if1 .taken))
 
@@ -62,7 +67,7 @@ in-range-requires c κs = search needs
 
 returns-2 : tie.Need-returns-2
 returns-2 c =
-    sym (second _ _ (c .before .before .sizes-of .ensures) (c .before .before .before .if1 .left) (sym (c .before .in-range .ensures) ∙ not-true _ (c .if2 .taken)))
+    sym (second _ _ (begin (c .before .before)) (c .before .before .before .if1 .left) (sym (c .before .in-range .ensures) ∙ not-true _ (c .if2 .taken)))
 
 ranged : (c : tie.Else2) → sizesInRange (shapeOf (c .before .before .sizes-of .result)) ≡ true
 ranged c = sym (c .before .in-range .ensures) ∙ not-false _ (c .if2 .left)
@@ -74,7 +79,7 @@ returns-3 : tie.Need-returns-3
 returns-3 c =
     let l = c .if3 .taken in
     let e = c .before .need .ensures in
-    sym (third _ _ (c .before .before .before .before .sizes-of .ensures) (c .before .before .before .before .before .if1 .left) (ranged (c .before .before)) (omega arith))
+    sym (third _ _ (begin (c .before .before .before .before)) (c .before .before .before .before .before .if1 .left) (ranged (c .before .before)) (omega arith))
 
 long : (c : tie.Else3) → need (shapeOf (c .before .before .before .before .sizes-of .result)) ≤ length (c .before .before .before .before .before .before .before .args .words .now)
 long c = let l = c .if3 .left in let e = c .before .need .ensures in omega arith
@@ -85,7 +90,7 @@ is-network-requires c κs = record { sizes = true-T _ (ranged (c .before .before
 last : (c : tie.After-is-network)
     → networkRefusal (c .before .before .before .before .before .before .before .before .args .words .now) ≡ refuse (not (c .is-network .result)) noNetwork 0
 last c =
-    fourth _ _ (c .before .before .before .before .before .sizes-of .ensures) (c .before .before .before .before .before .before .if1 .left) (ranged (c .before .before .before)) (long (c .before))
+    fourth _ _ (begin (c .before .before .before .before .before)) (c .before .before .before .before .before .before .if1 .left) (ranged (c .before .before .before)) (long (c .before))
     ∙ ap (λ (b : Bool). refuse (not b) noNetwork 0) (sym (c .is-network .ensures))
 
 returns-4 : tie.Need-returns-4

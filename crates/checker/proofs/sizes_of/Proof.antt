@@ -1,8 +1,7 @@
 -- `checker::sizes_of` meets its contract. Assumes nothing.
 use borrow.Author.Needs.{needs}
 use mathlib.Core.Path.{refl}
-use Rattle.network.specs.Sizes.{shapeOf}
-use Rattle.network.specs.Layout.{shape}
+use Rattle.checker.specs.Opening.{sizesIn}
 use Rattle.checker.proofs.sizes_of.Statement.{statement}
 use Rattle.checker.proofs.sizes_of.Tie as tie
 
@@ -22,7 +21,7 @@ shared-slice-read-t11 : tie.Need-shared-slice-read-t11
 shared-slice-read-t11 c = search needs
 
 returns : tie.Need-returns
-unfolding shapeOf shape
+unfolding sizesIn
 returns c = refl
 
 pub sizes-of-spec : {M : Type 1} → statement M
