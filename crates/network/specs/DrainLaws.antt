@@ -1,8 +1,8 @@
 -- What a Drain cannot go beyond, whatever the words are: its moves are at most the budget, its deliveries at most the room in the ledger.
--- Order: one move more; the next move; a whole Drain; its answer. Assumes nothing.
-use mathlib.Core.Path.{_≡_}
+-- Order: one move more; the next move; a whole Drain; the nodes of its deliveries; its answer. Assumes nothing.
+use mathlib.Core.Path.{_≡_, refl, ap}
 use mathlib.Core.Bool.{Bool, true, false, cond}
-use mathlib.Core.List.{List, [], _∷_, _++_}
+use mathlib.Core.List.{List, [], _∷_, _++_, map}
 use Prim.Native.Nat.{ℕ, zero, suc, _+_, _≤_}
 use native.Mathlib.Omega.{arith}
 use lib.Dec.{eqb}
@@ -15,6 +15,7 @@ use Rattle.network.specs.Layout.{shape, held}
 use Rattle.network.specs.Check.{packetsHeld}
 use Rattle.network.specs.Routes.{deliver}
 use Rattle.network.specs.Refusals.{networkRefusal, head}
+use Rattle.network.specs.Run.{deliveryNodes}
 use Rattle.network.specs.Calls.{NamedMove, Delivery, Progress, afterMove, firstMove, stopped, oneMore, deliverNext, moveNext, drainFrom, drained, drainAnswer, drainedDelivered}
 
 pub record Within (budget room : ℕ) (r : Progress) : Type 0 where
@@ -65,6 +66,44 @@ drain-within S (suc budget) room w =
         → Within (suc budget) room (cond t (stopped w Stop.Emptied) (moveNext S w room (firstMove S w) (λ room′ w′. drainFrom S budget room′ w′)))
     go true h = within-stopped (suc budget) room w Stop.Emptied
     go false h = h
+
+-- the nodes of its deliveries are those of its moves that deliver -----------------------------------------------------------------------
+
+abbrev pub Matched : Progress → Type 0
+Matched r = deliveryNodes (r .moves) ≡ map (λ (d : Delivery). d .node) (r .deliveries)
+
+module _ (S : Shape) (w : List ℕ) (on : ℕ → List ℕ → Progress) (rec : (room : ℕ) (v : List ℕ) → Matched (on room v)) where
+  matched-delivery : (n q room : ℕ) → Matched (deliverNext S w n q room on)
+  unfolding deliverNext stopped oneMore deliveryNodes
+  matched-delivery n q zero = refl
+  matched-delivery n q (suc room) = ap (λ (ns : List ℕ). n ∷ ns) (rec room (afterMove S w n q deliver))
+
+  matched-next : (room : ℕ) (f : Found) → Matched (moveNext S w room f on)
+  unfolding moveNext stopped oneMore deliveryNodes
+  matched-next room (Found.Refused r) = refl
+  matched-next room Found.Nothing = refl
+  matched-next room (Found.Move n q o) = go (eqb o deliver) refl
+    where
+      go : (t : Bool) → eqb o deliver ≡ t → Matched (cond t (deliverNext S w n q room on) (oneMore (record { node = n; queue = q; output = o }) [] (on room (afterMove S w n q o))))
+      go true e = matched-delivery n q room
+      go false e = rw e (rec room (afterMove S w n q o))
+
+pub drain-matched : (S : Shape) (budget room : ℕ) (w : List ℕ) → Matched (drainFrom S budget room w)
+unfolding drainFrom stopped deliveryNodes
+drain-matched S zero room w = go (eqb (packetsHeld S w) 0)
+  where
+    go : (t : Bool) → Matched (cond t (stopped w Stop.Emptied) (stopped w Stop.Spent))
+    go true = refl
+    go false = refl
+drain-matched S (suc budget) room w =
+    go (eqb (packetsHeld S w) 0) (matched-next S w (λ room′ w′. drainFrom S budget room′ w′) (λ r v. drain-matched S budget r v) room (firstMove S w))
+  where
+    rest : Progress
+    rest = moveNext S w room (firstMove S w) (λ room′ w′. drainFrom S budget room′ w′)
+
+    go : (t : Bool) → Matched rest → Matched (cond t (stopped w Stop.Emptied) rest)
+    go true m = refl
+    go false m = m
 
 -- what a Drain answers, refused or not
 pub delivered-within : (w : List ℕ) (budget room : ℕ) → drainedDelivered (drainAnswer w budget room) ≤ room

@@ -18,8 +18,8 @@ pub mod FirstLaws
 pub mod Choices
 pub mod ChoiceLaws
 pub mod Answers
-pub mod DrainLaws
 pub mod OfferLaws
 pub mod Run
+pub mod DrainLaws
 pub mod RunLaws
 pub mod Cases

@@ -13,6 +13,7 @@ use Rattle.network.specs.Sizes.{Shape, nodes, directions}
 use Rattle.network.specs.Packet.{label, destination}
 use Rattle.network.specs.Layout.{shape, need, total, delivered, movesMade}
 use Rattle.network.specs.Check.{packetsHeld, workLeft, ringHasRoom}
+use Rattle.network.specs.Routes.{deliver}
 use Rattle.network.specs.Refusals.{networkRefusal, moveRefusal, head}
 use Rattle.network.specs.Choices.{Permits}
 use Rattle.network.specs.Calls.{unlessRefused, NamedMove, Delivery, moveWords, moveAnswer, movedNumber, movedPackets, drained, drainWords, drainLedger, drainAnswer, drainedMoves, drainedDelivered}
@@ -36,6 +37,11 @@ pub record Outcome : Type 0 where
   pub told : ℕ
   pub handedOut : List Delivery
   pub ledgers : List Ledger
+
+-- the nodes of the deliveries among moves, in order
+unfoldable pub deliveryNodes : List NamedMove → List ℕ
+deliveryNodes [] = []
+deliveryNodes (m ∷ ms) = cond (eqb (m .output) deliver) (m .node ∷ deliveryNodes ms) (deliveryNodes ms)
 
 -- R227: packet words, each beside the node of the move that gave it
 unfoldable pub atNodes : List ℕ → List ℕ → List Delivery
@@ -66,7 +72,7 @@ outcome (drain budget ledger) w =
       words = drainWords w budget (length ledger);
       moves = unlessRefused (networkRefusal w) (drained w budget (length ledger) .moves) [];
       told = drainedMoves (drainAnswer w budget (length ledger));
-      handedOut = atNodes (map (λ d. d .node) (drained w budget (length ledger) .deliveries)) (wordsWritten (ledgerOf w budget ledger));
+      handedOut = atNodes (deliveryNodes (drained w budget (length ledger) .moves)) (wordsWritten (ledgerOf w budget ledger));
       ledgers = ledgerOf w budget ledger ∷ [];
     }
 
@@ -101,12 +107,9 @@ handedWith l ds = sumOf (λ d. isLabelled l (d .packet)) ds
 unfoldable pub atHome : Delivery → Bool
 atHome d = eqb (label (d .packet)) (d .packet) && eqb (destination (d .packet)) (d .node)
 
--- R223: Move would not refuse it
 pub record SomeMove (w : List ℕ) : Type 0 where
-  pub node : ℕ
-  pub queue : ℕ
-  pub output : ℕ
-  pub permitted : moveRefusal w node queue output ≡ 0
+  pub named : NamedMove
+  pub permitted : Permits w named
 
 -- a ledger that a Drain left: what was written fits, the words behind it are as they were, and it is as long as it was
 pub record LedgerKept (L : Ledger) : Type 0 where

@@ -1,7 +1,7 @@
 -- Laws of Run.antt about the ledgers. Order: words beside the nodes of their moves; what a Drain writes; what is handed out; the ledger afterwards;
 -- the ledgers of a run; moves that lead from words to words.
 -- Assumes nothing.
-use mathlib.Core.Path.{_≡_, refl, ap, _∙_}
+use mathlib.Core.Path.{_≡_, refl, ap, ap₂, _∙_}
 use mathlib.Core.Logic.{_≢_}
 use mathlib.Core.List.{List, [], _∷_, _++_, map}
 use Prim.Native.Nat.{ℕ, _+_, _-_, _≤_}
@@ -13,7 +13,7 @@ use lib.Seq.{take-at, drop-at}
 use Rattle.network.specs.Layout.{shape}
 use Rattle.network.specs.Refusals.{moveRefusal, networkRefusal, head}
 use Rattle.network.specs.Calls.{NamedMove, afterMove, moveWords, Delivery, drained, drainLedger, drainAnswer, drainedDelivered}
-use Rattle.network.specs.DrainLaws.{drain-within}
+use Rattle.network.specs.DrainLaws.{drain-within, drain-matched}
 use Rattle.network.specs.Choices.{Permits}
 use Rattle.network.specs.Run.{Leads, Call, move, drain, outcome, run, Ledger, atNodes, ledgerOf, wordsWritten, LedgerKept, AllKept}
 
@@ -44,9 +44,9 @@ module _ (w : List ℕ) (budget : ℕ) (ledger : List ℕ) where
 
   -- handed out is what the definition's moves delivered, in their order
   pub drain-handed : networkRefusal w ≡ 0 → outcome (drain budget ledger) w .handedOut ≡ given
-  unfolding outcome wordsWritten
+  unfolding outcome wordsWritten drained
   drain-handed e =
-      ap (λ (L : Ledger). atNodes (map (λ d. d .node) given) (take (L .written) (L .left))) (writes e)
+      ap₂ (λ (ns : List ℕ) (L : Ledger). atNodes ns (take (L .written) (L .left))) (drain-matched (shape w) budget (length ledger) w) (writes e)
       ∙ ap (atNodes (map (λ d. d .node) given)) (take-at packets (drop (length given) ledger) (length given) count)
       ∙ atNodes-own given
 

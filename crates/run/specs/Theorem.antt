@@ -199,9 +199,7 @@ unfolding moveRefusal
 some-move w N ne =
     let s : Some (shape w) w = alive (shape w) w (torus w N) N ne in
     record {
-      node = s .node;
-      queue = s .queue;
-      output = s .output;
+      named = record { node = s .node; queue = s .queue; output = s .output };
       permitted =
           elseBy-zero (networkRefusal w) (moveRules (shape w) w (s .node) (s .queue) (s .output)) (network-passes w N)
           ∙ permitted-by (shape w) w (s .node) (s .queue) (s .output) (s .permitted);
