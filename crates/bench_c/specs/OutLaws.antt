@@ -13,7 +13,7 @@ use Rattle.network.specs.Sizes.{Shape}
 use Rattle.network.specs.Layout.{shape, queueStart, held}
 use Rattle.network.specs.Refusals.{lookRefusal}
 use Rattle.network.specs.Calls.{lookPart, lookAt, drainedMoves, drainedDelivered, drainedStop}
-use Rattle.calls.specs.Answers.{looking, held-part, look-shown}
+use Rattle.calls.specs.Returns.{looking, held-part, look-shown}
 use Rattle.bench_c.specs.Outs.{lookOut, stopNumber, drainedOut}
 
 pub drained-told : (answer : Drained) (m d why : ℕ) (s : Stop) → answer ≡ Drained.Stopped m d s → why ≡ stopNumber s → (m ∷ d ∷ why ∷ []) ≡ drainedOut answer

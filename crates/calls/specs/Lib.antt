@@ -1,3 +1,3 @@
 -- What the calls answer and leave, test by test.
-pub mod Answers
+pub mod Returns
 pub mod Place

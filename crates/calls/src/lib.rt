@@ -1,6 +1,6 @@
 // The calls (RULES R90 to R134) on lent words. Each does its own checking: it refuses by the number of the first rule that applies, and
 // then has written nothing; else its answer and every word are what the definitions of the crate `network` say (specs/Calls.antt). Where
-// the answer is an enum, `told` is the number and every value that it stands for (specs/Answers.antt there). All tests come first, then
+// the answer is an enum, `told` is the number and every value that it stands for (specs/Returns.antt there). All tests come first, then
 // one change that cannot fail. No call asks anything of its caller.
 
 use checker::Opened;

@@ -1,2 +1,2 @@
 -- How the turns of a Drain add up.
-pub mod Drains
+pub mod SoFar

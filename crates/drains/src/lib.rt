@@ -11,8 +11,8 @@ use turns::take_turn;
 ghost use Rattle.network.specs.Sizes.{shapeOf};
 ghost use Rattle.network.specs.CheckLaws.{Network};
 ghost use Rattle.near.specs.Table.{Near};
-ghost use Rattle.ready.specs.Ready.{Covered};
-ghost use Rattle.drains.specs.Drains.{DrainedTo};
+ghost use Rattle.ready.specs.ReadyHeads.{Covered};
+ghost use Rattle.drains.specs.SoFar.{DrainedTo};
 
 // Turn after turn until one stops.
 fn take_turns(

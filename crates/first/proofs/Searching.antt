@@ -35,7 +35,7 @@ use Rattle.routes.specs.declared.HeadRoutes.{HeadRoutes}
 use Rattle.routes.specs.AreRoutes.{AreRoutes}
 use Rattle.routes.specs.AreRoutesLaws.{routes-count, route-at}
 use Rattle.flow.specs.QueueOf.{QueueOf}
-use Rattle.flow.specs.Places.{queue-checked, count-at, head-at}
+use Rattle.flow.specs.HeldWords.{queue-checked, count-at, head-at}
 
 -- Numbers searched in order -----------------------------------------------------------------------------------------------------------
 

@@ -12,7 +12,7 @@ use Rattle.network.specs.Routes.{target, freeSlots}
 use Rattle.packet.specs.GeometryLaws.{inRange-rings, rings-torus}
 use Rattle.network.specs.declared.Sizes.{Sizes}
 use Rattle.flow.specs.QueueOf.{QueueOf}
-use Rattle.flow.specs.Places.{held-few}
+use Rattle.flow.specs.HeldWords.{held-few}
 
 module _ (s : Sizes) (w : List ℕ) (n o there : ℕ) (k : QueueOf s w n o) (e : there ≡ target (shapeOf s) n o) where
   -- it is one of the network's

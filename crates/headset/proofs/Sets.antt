@@ -16,7 +16,7 @@ use lib.ListN.{length, getD, set, length-set, replicate, length-replicate}
 use lib.Pow.{shl-exact}
 use lib.Seq.{getD-set-same, getD-set-other}
 use Rattle.headset.specs.Set.{bit, member, IsSet, Filled, United, Inserted, NodeInserted, Removed, LowestBit, Lowest}
-use Rattle.headset.proofs.Words.{bit-none, bit-or, bit-ones, bit-one, bit-set, bit-cleared, one-bit, cleared, shifted-below, shifted-from}
+use Rattle.headset.proofs.WordBits.{bit-none, bit-or, bit-ones, bit-one, bit-set, bit-cleared, one-bit, cleared, shifted-below, shifted-from}
 
 -- Words replaced -------------------------------------------------------------------------------------------------------------------------
 

@@ -1,3 +1,3 @@
 -- Laws that several proofs of this crate cite.
 pub mod Numbers
-pub mod Words
+pub mod FieldWords

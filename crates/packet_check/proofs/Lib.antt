@@ -1,4 +1,4 @@
 -- Laws that several proofs of the crate share.
 pub mod Nodes
 pub mod Offsets
-pub mod Tables
+pub mod TableLaws

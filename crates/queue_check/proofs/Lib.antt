@@ -1,4 +1,4 @@
 -- Laws that several proofs of the crate share.
 pub mod Tallies
-pub mod Parts
+pub mod QueueParts
 pub mod Walks

@@ -1,5 +1,5 @@
 -- Laws that several proofs share.
-pub mod Digits
+pub mod ReadDigits
 pub mod Fields
 pub mod Gather
 pub mod Letters

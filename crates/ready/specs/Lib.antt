@@ -1,2 +1,2 @@
 -- The set of heads that goes along with a Drain.
-pub mod Ready
+pub mod ReadyHeads

@@ -1,4 +1,4 @@
-// The set of heads that may have a permitted move (specs/Ready.antt), as a Drain keeps it: what a move adds to it, and First's move found from it. The
+// The set of heads that may have a permitted move (specs/ReadyHeads.antt), as a Drain keeps it: what a move adds to it, and First's move found from it. The
 // set is words of the crate `headset`; the neighbours come out of a table (crate `near`).
 use network::DIRECTIONS;
 use network::Found;
@@ -11,7 +11,7 @@ ghost use Rattle.network.specs.Calls.{firstMove};
 ghost use Rattle.packet.specs.Geometry.{RingsFit};
 ghost use Rattle.near.specs.Table.{Near};
 ghost use Rattle.headset.specs.Set.{IsSet};
-ghost use Rattle.ready.specs.Ready.{Covered, Marked, SourceMarked, ArrivalMarked, FeederMarked};
+ghost use Rattle.ready.specs.ReadyHeads.{Covered, Marked, SourceMarked, ArrivalMarked, FeederMarked};
 
 // The head of queue q of node n becomes a member.
 fn mark_head(ready: &mut [u64], s: Sizes, n: u64, q: u64)

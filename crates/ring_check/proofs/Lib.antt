@@ -1,2 +1,2 @@
 -- Laws that several proofs of the crate share.
-pub mod Lines
+pub mod RingWalks

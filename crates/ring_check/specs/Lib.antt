@@ -1,2 +1,2 @@
 -- What the contracts of the crate cite beside the definitions of the crate network.
-pub mod Lines
+pub mod RingLines

@@ -9,7 +9,7 @@ ghost use Rattle.base.specs.Tests.{allBelow};
 ghost use Rattle.network.specs.Sizes.{shapeOf, directions, nodes};
 ghost use Rattle.network.specs.Check.{ringHasRoom, ringsHaveRoom};
 ghost use Rattle.queue.specs.Queue.{Enough};
-ghost use Rattle.ring_check.specs.Lines.{ringRoom, RingIn, linesRoom, LinesIn};
+ghost use Rattle.ring_check.specs.RingLines.{ringRoom, RingIn, linesRoom, LinesIn};
 
 // Whether one of the queues, the first at this place and each a step behind the one before, holds fewer packets than it has slots.
 fn ring_room(words: &[u64], slots: u64, first: usize, step: usize, count: u64) -> bool

@@ -24,7 +24,7 @@ use Rattle.network.specs.Calls.{Progress, firstMove, firstAnswer, drainFrom, dr
 use Rattle.network.specs.Run.{Call, Outcome, run, isLabelled, heldWith, handedWith, Demand3}
 use Rattle.run.specs.Step.{Ran}
 use Rattle.run.specs.Alive.{Some, alive}
-use Rattle.run.specs.Drains.{drain-ran}
+use Rattle.run.specs.DrainMoves.{drain-ran}
 use Rattle.run.specs.Stops.{Why, nothing-held, budget-used, ledger-full, drain-why}
 use Rattle.run.specs.Theorem.{torus, no-work, no-packets, demand3}
 

@@ -5,9 +5,9 @@ pub mod Queues
 pub mod Rings
 pub mod Hop
 pub mod Step
-pub mod Ready
+pub mod NewHeads
 pub mod Alive
-pub mod Drains
+pub mod DrainMoves
 pub mod Theorem
 pub mod Stops
 pub mod Corollaries

@@ -28,7 +28,7 @@ use Rattle.network.specs.DrainLaws.{Within, drain-within}
 use Rattle.network.specs.Choices.{NextDelivers, DrainStops}
 use Rattle.run.specs.Step.{Ran, step}
 use Rattle.run.specs.Alive.{Some, alive}
-use Rattle.run.specs.Drains.{drain-ran}
+use Rattle.run.specs.DrainMoves.{drain-ran}
 use Rattle.run.specs.Theorem.{torus}
 
 -- the first move on is a delivery

@@ -31,7 +31,7 @@ use Rattle.network.specs.Run.{Call, move, drain, Outcome, outcome, run, Leads, 
 use Rattle.network.specs.RunLaws.{drain-handed, run-kept, leads-none, leads-one, leads-append}
 use Rattle.run.specs.Step.{Ran, ran-none, ran-then, handsOut, step}
 use Rattle.run.specs.Alive.{Some, alive}
-use Rattle.run.specs.Drains.{drain-ran, drain-leads}
+use Rattle.run.specs.DrainMoves.{drain-ran, drain-leads}
 
 -- every packet held is some work
 some-work : (ps : List ℕ) → length ps ≤ sumOf work ps

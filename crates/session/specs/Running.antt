@@ -1,5 +1,5 @@
 -- What the code says of itself where it answers a sheet: facts of lent buffers that Reads.antt's definitions do not name.
--- Order: the line cutter's answer; an answer given. Laws are in Places.antt. Assumes nothing.
+-- Order: the line cutter's answer; an answer given. Laws are in RunningLaws.antt. Assumes nothing.
 use mathlib.Core.Path.{_≡_}
 use mathlib.Core.List.{List}
 use Prim.Native.Nat.{ℕ, _≤_}

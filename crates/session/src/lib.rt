@@ -23,7 +23,7 @@ pub const COMMAND_ROOM: usize = 1314;
 pub const STORE_WORDS: usize = 8000;
 
 // How a read was answered: the bytes that are pending of a line, and those that were printed.
-pub struct Place {
+pub struct Printed {
     pub count: usize,
     pub at: usize,
 }
@@ -44,7 +44,7 @@ pub fn answer_read(
     pending: usize,
     piece: &[u8],
     out: &mut [u8],
-) -> Place
+) -> Printed
     requires { ⌜ (length (now piece) + 1) * commandRoom ≤ length (now out) ⌝ }
     ensures sheet { λ r. ⌜ sheet (now (store .exit)) (now (line .exit)) (r .count) ≡ answerRead (sheet (now (store .entry)) (now (line .entry)) pending) (now (piece .entry)) .sheet ⌝ }
     ensures printed { λ r. ⌜ take (r .at) (now (out .exit)) ≡ answerRead (sheet (now (store .entry)) (now (line .entry)) pending) (now (piece .entry)) .output ⌝ }
@@ -163,7 +163,7 @@ fn pending_after(fed: Fed) -> usize
 }
 
 // A byte, where so many are pending.
-fn answer_byte(store: &mut [u64], line: &mut [u8], pending: usize, b: u8, out: &mut [u8]) -> Place
+fn answer_byte(store: &mut [u64], line: &mut [u8], pending: usize, b: u8, out: &mut [u8]) -> Printed
     requires { ⌜ heldBytes ≤ length (now line) ⌝ }
     requires { ⌜ commandRoom ≤ length (now out) ⌝ }
     ensures { λ r. ⌜ Gave (carryOut (now (store .entry)) (feedByte (cutter (sheet (now (store .entry)) (now (line .entry)) pending)) b)) (now (out .entry)) (sheet (now (store .exit)) (now (line .exit)) (r .count)) (now (out .exit)) (r .at) ⌝ }
@@ -171,7 +171,7 @@ fn answer_byte(store: &mut [u64], line: &mut [u8], pending: usize, b: u8, out: &
     let fed = lines::feed(line, Pending { count: pending }, b);
     let at = answer_fed(store, line, fed, out);
     let count = pending_after(fed);
-    Place {
+    Printed {
         count: count,
         at: at,
     }
@@ -184,7 +184,7 @@ fn answer_bytes(
     pending: usize,
     bytes: &[u8],
     out: &mut [u8],
-) -> Place
+) -> Printed
     requires { ⌜ heldBytes ≤ length (now line) ⌝ }
     requires { ⌜ length (now bytes) * commandRoom ≤ length (now out) ⌝ }
     ensures { λ r. ⌜ Gave (carryOut (now (store .entry)) (feedBytes (cutter (sheet (now (store .entry)) (now (line .entry)) pending)) (now (bytes .entry)))) (now (out .entry)) (sheet (now (store .exit)) (now (line .exit)) (r .count)) (now (out .exit)) (r .at) ⌝ }
@@ -199,19 +199,19 @@ fn answer_bytes(
         at += place.at;
         i += 1;
     }
-    Place {
+    Printed {
         count: count,
         at: at,
     }
 }
 
 // The end of the input: a last line without an end counts.
-fn answer_end(store: &mut [u64], line: &[u8], pending: usize, out: &mut [u8]) -> Place
+fn answer_end(store: &mut [u64], line: &[u8], pending: usize, out: &mut [u8]) -> Printed
     requires { ⌜ heldBytes ≤ length (now line) ⌝ }
     requires { ⌜ commandRoom ≤ length (now out) ⌝ }
     ensures { λ r. ⌜ Gave (carryOut (now (store .entry)) (endCutting (cutter (sheet (now (store .entry)) (now (line .entry)) pending)))) (now (out .entry)) (sheet (now (store .exit)) (now (line .entry)) (r .count)) (now (out .exit)) (r .at) ⌝ }
 {
     let fed = lines::finish(Pending { count: pending });
     let at = answer_fed(store, line, fed, out);
-    Place { count: 0, at: at }
+    Printed { count: 0, at: at }
 }

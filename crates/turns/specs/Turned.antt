@@ -17,7 +17,7 @@ use Rattle.network.specs.RefusalLaws.{Permitted}
 use Rattle.network.specs.Calls.{afterMove, firstMove}
 use Rattle.turns.specs.declared.Turn.{Turn}
 use Rattle.turns.specs.Turns.{turnBy, madeBy, byWords, unlessStopped, turnAnswer, turnWords, by-passed, by-full, by-delivered, words-moved, turn-emptied, turn-spent, turn-by, turn-by-words, stopped-words, none-held, some-held}
-use Rattle.ready.specs.Ready.{Covered, Marked, covered-moved}
+use Rattle.ready.specs.ReadyHeads.{Covered, Marked, covered-moved}
 
 -- what the contract of the turn by a move says
 abbrev pub TurnedBy : Shape → List ℕ → ℕ → Found → Turn → List ℕ → List ℕ → Type 0

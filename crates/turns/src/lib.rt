@@ -12,7 +12,7 @@ ghost use Rattle.network.specs.declared.Found.{Found};
 ghost use Rattle.network.specs.CheckLaws.{Network};
 ghost use Rattle.network.specs.RefusalLaws.{Permitted};
 ghost use Rattle.near.specs.Table.{Near};
-ghost use Rattle.ready.specs.Ready.{Covered};
+ghost use Rattle.ready.specs.ReadyHeads.{Covered};
 ghost use Rattle.turns.specs.Turns.{turnBy, byWords, turnAnswer, turnWords};
 
 // What a turn came to: a stop, a move to a neighbour, or a delivery with the packet word that it hands out.

@@ -8,7 +8,7 @@ use lib.ListN.{length}
 use Rattle.network.specs.Sizes.{shapeOf}
 use Rattle.packet.specs.GeometryLaws.{inRange-rings}
 use Rattle.checker.specs.Opening.{broken, is-open, is-shut}
-use Rattle.calls.specs.Answers.{look-broken, look-rules, Looking, looks, held-end}
+use Rattle.calls.specs.Returns.{look-broken, look-rules, Looking, looks, held-end}
 use Rattle.bench_c.specs.OutLaws.{look-cleared, look-told}
 use Rattle.bench_c.proofs.bench_look.Statement.{statement}
 use Rattle.bench_c.proofs.bench_look.Tie as tie

@@ -9,7 +9,7 @@ use lib.ListN.{length}
 use Rattle.network.specs.Sizes.{shapeOf}
 use Rattle.network.specs.Refusals.{lookRefusal}
 use Rattle.packet.specs.GeometryLaws.{inRange-rings}
-use Rattle.calls.specs.Answers.{look-broken, look-rules, look-refused, look-shown, Looking, looks, held-part, held-end}
+use Rattle.calls.specs.Returns.{look-broken, look-rules, look-refused, look-shown, Looking, looks, held-part, held-end}
 use Rattle.calls.specs.Place.{place-refused, place-shown}
 use Rattle.checker.specs.Opening.{broken, is-open, is-shut}
 use Rattle.calls.proofs.look.Statement.{statement}

@@ -8,7 +8,7 @@ use lib.ListN.{length}
 use borrow.Author.Tests.{not-true, not-false}
 use Rattle.base.specs.Tests.{true-T}
 use Rattle.network.specs.Sizes.{shapeOf, sizesInRange}
-use Rattle.calls.specs.Answers.{make-wrong-size, make-short, make-made}
+use Rattle.calls.specs.Returns.{make-wrong-size, make-short, make-made}
 use Rattle.calls.proofs.make.Statement.{statement}
 use Rattle.calls.proofs.make.Tie as tie
 

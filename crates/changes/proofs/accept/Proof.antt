@@ -6,7 +6,7 @@ use Rattle.queue.specs.Queue.{Checked}
 use Rattle.queue.specs.QueueLaws.{checked-fits}
 use Rattle.network.specs.Sizes.{shapeOf, injectionQueue}
 use Rattle.network.specs.Layout.{acceptedAt}
-use Rattle.changes.proofs.Laws.{network-checked, accepted-may, arrives-may, offered-words}
+use Rattle.changes.proofs.ChangeLaws.{network-checked, accepted-may, arrives-may, offered-words}
 use Rattle.changes.proofs.accept.Statement.{statement}
 use Rattle.changes.proofs.accept.Tie as tie
 

@@ -4,7 +4,7 @@ use borrow.Author.Needs.{needs}
 use native.Mathlib.Omega.{arith}
 use Rattle.network.specs.Sizes.{shapeOf}
 use Rattle.packet.specs.GeometryLaws.{inRange-rings, rings-torus}
-use Rattle.changes.proofs.Laws.{Left, network-checked, delivered-left, moves-handed, handed-words, target-checked, target-room, moves-arrived, moved-words}
+use Rattle.changes.proofs.ChangeLaws.{Left, network-checked, delivered-left, moves-handed, handed-words, target-checked, target-room, moves-arrived, moved-words}
 use Rattle.changes.proofs.make_move.Statement.{statement}
 use Rattle.changes.proofs.make_move.Tie as tie
 

@@ -10,10 +10,10 @@ use Rattle.network.specs.Layout.{accepted, delivered}
 use Rattle.packet.specs.Geometry.{RingsFit}
 use Rattle.packet.specs.GeometryLaws.{inRange-rings, rings-torus, rings-nodes}
 use Rattle.headset.specs.Set.{Filled}
-use Rattle.ready.specs.Ready.{covered-filled}
+use Rattle.ready.specs.ReadyHeads.{covered-filled}
 use Rattle.turns.specs.Turns.{turn-emptied, none-held}
 use Rattle.turns.specs.Turned.{header-long}
-use Rattle.drains.specs.Drains.{so-far-start, so-far-end}
+use Rattle.drains.specs.SoFar.{so-far-start, so-far-end}
 use Rattle.drains.proofs.drain_network.Statement.{statement}
 use Rattle.drains.proofs.drain_network.Tie as tie
 use Rattle.drains.proofs.drain_network.Reads as reads

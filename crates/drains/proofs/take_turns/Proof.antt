@@ -10,8 +10,8 @@ use lib.ListN.{length, length-set}
 use denote.Ref.{now}
 use Rattle.network.specs.Sizes.{shapeOf}
 use Rattle.packet.specs.GeometryLaws.{inRange-rings, rings-torus}
-use Rattle.ready.specs.Ready.{Covered}
-use Rattle.drains.specs.Drains.{SoFar, so-far-start, next-passed, next-delivered, end-of-it, passed-budget, delivered-budget}
+use Rattle.ready.specs.ReadyHeads.{Covered}
+use Rattle.drains.specs.SoFar.{SoFar, so-far-start, next-passed, next-delivered, end-of-it, passed-budget, delivered-budget}
 use Rattle.drains.proofs.take_turns.Statement.{statement}
 use Rattle.drains.proofs.take_turns.Tie as tie
 use Rattle.drains.proofs.take_turns.Reads as reads

@@ -2,7 +2,7 @@
 use Prim.Native.Nat.{ℕ, _<_}
 use native.Mathlib.Omega.{arith}
 use borrow.Author.Needs.{needs}
-use Rattle.fields.proofs.Digits.{digit-room, tenth-room, last-room, put-digit, put-digits}
+use Rattle.fields.proofs.PutDigits.{digit-room, tenth-room, last-room, put-digit, put-digits}
 use borrow.Fn.Kinds.{In}
 use borrow.Fn.PlainCycle.{Measures, is, falls, and}
 use Rattle.fields.proofs.put_number.Reads as put-number

@@ -8,7 +8,7 @@ use borrow.Author.Needs.{needs}
 use borrow.Author.Tests.{eqb-true, eqb-false}
 use lib.Dec.{eqb}
 use lib.ListN.{length}
-use Rattle.flow.specs.Places.{asked, inside-at}
+use Rattle.flow.specs.HeldWords.{asked, inside-at}
 use Rattle.first.proofs.Searching.{Reading, AtRoute, found-from-first, output-lt, route-on, route-found, route-none, queue-none}
 use Rattle.first.proofs.first_in_queue.Statement.{statement}
 use Rattle.first.proofs.first_in_queue.Tie as tie

@@ -13,7 +13,7 @@ use Rattle.network.specs.Layout.{accepted, delivered}
 use Rattle.network.specs.Calls.{firstInQueue, firstMove}
 use Rattle.packet.specs.GeometryLaws.{inRange-rings, rings-nodes}
 use Rattle.flow.specs.QueueOf.{QueueOf}
-use Rattle.flow.specs.Places.{header, inside-at}
+use Rattle.flow.specs.HeldWords.{header, inside-at}
 use Rattle.first.proofs.Searching.{Reading, AtRoute, AtQueue, AtNode, found-from-first, output-lt, route-on, route-found, route-none, end-at, queue-none, queues-begin, queue-next, queue-found, nodes-begin, node-next, node-found, nodes-none, nothing-held}
 use Rattle.first.proofs.first_move.Statement.{statement}
 use Rattle.first.proofs.first_move.Tie as tie

@@ -1,6 +1,6 @@
 -- `flow::head` meets its contract. Assumes nothing.
 use native.Mathlib.Omega.{arith}
-use Rattle.flow.specs.Places.{asked, inside-at, head-at}
+use Rattle.flow.specs.HeldWords.{asked, inside-at, head-at}
 use Rattle.flow.proofs.head.Statement.{statement}
 use Rattle.flow.proofs.head.Tie as tie
 

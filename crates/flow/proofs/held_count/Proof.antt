@@ -1,6 +1,6 @@
 -- `flow::held_count` meets its contract. Assumes nothing.
 use native.Mathlib.Omega.{arith}
-use Rattle.flow.specs.Places.{asked, inside-at, count-at}
+use Rattle.flow.specs.HeldWords.{asked, inside-at, count-at}
 use Rattle.flow.proofs.held_count.Statement.{statement}
 use Rattle.flow.proofs.held_count.Tie as tie
 

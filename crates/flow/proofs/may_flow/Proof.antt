@@ -20,7 +20,7 @@ use Rattle.network.specs.RefusalLaws.{flow-of, flow-by}
 use Rattle.network.specs.declared.Sizes.{Sizes}
 use Rattle.flow.specs.QueueOf.{QueueOf}
 use Rattle.queue.specs.QueueLaws.{nodes-small}
-use Rattle.flow.specs.Places.{asked}
+use Rattle.flow.specs.HeldWords.{asked}
 use Rattle.flow.proofs.Targets.{at-target, target-few, target-free}
 use Rattle.flow.proofs.may_flow.Statement.{statement}
 use Rattle.flow.proofs.may_flow.Tie as tie

@@ -1,7 +1,7 @@
 -- `headset::lowest_bit` meets its contract, by the laws of the trailing zeros. Assumes nothing.
 use native.Mathlib.Omega.{arith}
 use lib.Count.{trailing-le}
-use Rattle.headset.proofs.Words.{lowest-bit}
+use Rattle.headset.proofs.WordBits.{lowest-bit}
 use Rattle.headset.proofs.lowest_bit.Statement.{statement}
 use Rattle.headset.proofs.lowest_bit.Tie as tie
 

@@ -4,7 +4,7 @@ use Prim.Native.Nat.{_/_, _%_}
 use borrow.Author.Needs.{needs}
 use Rattle.network.specs.PacketLaws.{signed-range}
 use Rattle.packet.proofs.Numbers.{back}
-use Rattle.packet.proofs.Words.{other-dimension, offset-x, offset-y}
+use Rattle.packet.proofs.FieldWords.{other-dimension, offset-x, offset-y}
 use Rattle.packet.proofs.offset.Statement.{statement}
 use Rattle.packet.proofs.offset.Tie as tie
 

@@ -6,7 +6,7 @@ use borrow.Author.Needs.{needs}
 use Rattle.network.specs.Packet.{byte}
 use Rattle.network.specs.PacketLaws.{byte-lt}
 use Rattle.packet.proofs.Numbers.{back}
-use Rattle.packet.proofs.Words.{other-dimension, with-x, with-y}
+use Rattle.packet.proofs.FieldWords.{other-dimension, with-x, with-y}
 use Rattle.packet.proofs.with_offset.Statement.{statement}
 use Rattle.packet.proofs.with_offset.Tie as tie
 

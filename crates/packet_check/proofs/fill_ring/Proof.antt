@@ -2,7 +2,7 @@
 use Prim.Native.Nat.{_*_, _-_, _<_, _≤_}
 use native.Mathlib.Omega.{arith}
 use native.Mathlib.Nat.{mul-le-mul}
-use Rattle.packet_check.proofs.Tables.{Filling, filling-start, filling-small, filling-more, filling-end}
+use Rattle.packet_check.proofs.TableLaws.{Filling, filling-start, filling-small, filling-more, filling-end}
 use Rattle.packet_check.proofs.fill_ring.Statement.{statement}
 use Rattle.packet_check.proofs.fill_ring.Tie as tie
 

@@ -1,7 +1,7 @@
 -- `packet_check::moved` meets its contract. Assumes nothing.
 use borrow.Author.Needs.{needs}
 use native.Mathlib.Omega.{arith}
-use Rattle.packet_check.proofs.Tables.{moved-read}
+use Rattle.packet_check.proofs.TableLaws.{moved-read}
 use Rattle.packet_check.proofs.moved.Statement.{statement}
 use Rattle.packet_check.proofs.moved.Tie as tie
 

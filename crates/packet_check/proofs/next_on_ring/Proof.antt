@@ -1,7 +1,7 @@
 -- `packet_check::next_on_ring` meets its contract. Assumes nothing.
 use borrow.Author.Needs.{needs}
 use native.Mathlib.Omega.{arith}
-use Rattle.packet_check.proofs.Tables.{next-round, next-on}
+use Rattle.packet_check.proofs.TableLaws.{next-round, next-on}
 use Rattle.packet_check.proofs.next_on_ring.Statement.{statement}
 use Rattle.packet_check.proofs.next_on_ring.Tie as tie
 

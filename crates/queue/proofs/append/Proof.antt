@@ -3,7 +3,7 @@ use borrow.Author.Needs.{needs}
 use native.Mathlib.Omega.{arith}
 use lib.ListN.{length-set}
 use Rattle.network.specs.Layout.{countOf}
-use Rattle.queue.proofs.Laws.{appended}
+use Rattle.queue.proofs.StoreLaws.{appended}
 use Rattle.queue.proofs.append.Statement.{statement}
 use Rattle.queue.proofs.append.Tie as tie
 

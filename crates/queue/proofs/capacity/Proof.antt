@@ -1,7 +1,7 @@
 -- `queue::capacity` meets its contract, a law for each kind of queue. Assumes nothing.
 use mathlib.Core.Path.{sym}
 use native.Mathlib.Omega.{arith}
-use Rattle.queue.proofs.Places.{capacity-injection, capacity-escape, capacity-adaptive}
+use Rattle.queue.proofs.ClosedForms.{capacity-injection, capacity-escape, capacity-adaptive}
 use Rattle.queue.proofs.capacity.Statement.{statement}
 use Rattle.network.specs.Sizes.{shapeOf}
 use Rattle.queue.proofs.capacity.Tie as tie

@@ -7,7 +7,7 @@ use Rattle.base.specs.Digits.{product}
 use Rattle.network.specs.Sizes.{shapeOf, mostNodes, nodes}
 use Rattle.network.specs.Layout.{headerWords, need}
 use Rattle.queue.specs.QueueLaws.{small}
-use Rattle.queue.proofs.Places.{product-small, node-small}
+use Rattle.queue.proofs.ClosedForms.{product-small, node-small}
 use Rattle.queue.proofs.need.Statement.{statement}
 use Rattle.queue.proofs.need.Tie as tie
 

@@ -3,7 +3,7 @@ use Prim.Native.Nat.{_+_, _≤_}
 use borrow.Author.Needs.{needs}
 use native.Mathlib.Omega.{arith}
 use Rattle.network.specs.Layout.{queueLength, queueEnd}
-use Rattle.queue.proofs.Places.{end-small}
+use Rattle.queue.proofs.ClosedForms.{end-small}
 use Rattle.queue.proofs.queue_end.Statement.{statement}
 use Rattle.queue.proofs.queue_end.Tie as tie
 

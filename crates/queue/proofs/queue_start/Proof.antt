@@ -5,7 +5,7 @@ use borrow.Author.Needs.{needs}
 use native.Mathlib.Omega.{arith}
 use Rattle.network.specs.Layout.{queueStart}
 use Rattle.queue.specs.QueueLaws.{nodes-small}
-use Rattle.queue.proofs.Places.{product-small, node-small, before-small}
+use Rattle.queue.proofs.ClosedForms.{product-small, node-small, before-small}
 use Rattle.queue.proofs.queue_start.Statement.{statement}
 use Rattle.queue.proofs.queue_start.Tie as tie
 

@@ -6,7 +6,7 @@ use Prim.Native.Nat.{ℕ, _+_, _-_, _≤_}
 use native.Mathlib.Omega.{arith}
 use lib.ListN.{length, getD, set, length-set}
 use Rattle.network.specs.Layout.{countOf}
-use Rattle.queue.proofs.Laws.{movedUp, moved-none, moved-more, removed, oldest}
+use Rattle.queue.proofs.StoreLaws.{movedUp, moved-none, moved-more, removed, oldest}
 use Rattle.queue.proofs.remove.Statement.{statement}
 use Rattle.queue.proofs.remove.Tie as tie
 

@@ -4,7 +4,7 @@ use borrow.Author.Needs.{needs}
 use native.Mathlib.Omega.{arith}
 use Rattle.network.specs.Sizes.{shapeOf}
 use Rattle.queue.specs.QueueLaws.{Small, small}
-use Rattle.queue.proofs.Places.{before-none, before-few, before-many, product-small}
+use Rattle.queue.proofs.ClosedForms.{before-none, before-few, before-many, product-small}
 use Rattle.queue.proofs.words_before.Statement.{statement}
 use Rattle.queue.proofs.words_before.Tie as tie
 

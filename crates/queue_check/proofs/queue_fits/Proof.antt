@@ -16,7 +16,7 @@ use Rattle.packet_check.specs.PacketLimits.{LimitsFit, fitsWithin}
 use Rattle.packet_check.specs.LimitLaws.{limits-fit}
 use Rattle.queue_check.specs.QueueTally.{partFits}
 use Rattle.queue_check.specs.TallyLaws.{tally-fails, tally-same}
-use Rattle.queue_check.proofs.Parts.{part-over, part-used, part-limits, part-empty}
+use Rattle.queue_check.proofs.QueueParts.{part-over, part-used, part-limits, part-empty}
 use Rattle.queue_check.proofs.queue_fits.Statement.{statement}
 use Rattle.queue_check.proofs.queue_fits.Tie as tie
 

@@ -3,7 +3,7 @@
 use Prim.Native.Nat.{_-_}
 use native.Mathlib.Omega.{arith}
 use lib.ListN.{length}
-use Rattle.reader.proofs.Digits.{Reading, none, low, high, large, next, end}
+use Rattle.reader.proofs.ReadDigits.{Reading, none, low, high, large, next, end}
 use Rattle.reader.proofs.read_digits.Statement.{statement}
 use Rattle.reader.proofs.read_digits.Tie as tie
 

@@ -2,7 +2,7 @@
 use mathlib.Core.Path.{_∙_}
 use mathlib.Core.Logic.{⊎-elim}
 use borrow.Author.Needs.{needs}
-use Rattle.reader.proofs.Digits.{number-of-digits, no-number, empty, leading, not-leading, single}
+use Rattle.reader.proofs.ReadDigits.{number-of-digits, no-number, empty, leading, not-leading, single}
 use Rattle.reader.proofs.read_number.Statement.{statement}
 use Rattle.reader.proofs.read_number.Tie as tie
 

@@ -1,7 +1,7 @@
 -- `ready::mark` meets its contract. Assumes nothing.
 use borrow.Author.Needs.{needs}
 use denote.Ref.{now}
-use Rattle.ready.specs.Ready.{marked}
+use Rattle.ready.specs.ReadyHeads.{marked}
 use Rattle.ready.proofs.mark.Statement.{statement}
 use Rattle.network.specs.Sizes.{shapeOf}
 use Rattle.ready.proofs.mark.Tie as tie

@@ -8,7 +8,7 @@ use denote.Ref.{now}
 use Rattle.network.specs.Sizes.{shapeOf}
 use Rattle.network.specs.Torus.{neighbour}
 use Rattle.packet.specs.GeometryLaws.{rings-nodes, rings-torus}
-use Rattle.ready.specs.Ready.{neighbour-node, target-is, arrival-marked}
+use Rattle.ready.specs.ReadyHeads.{neighbour-node, target-is, arrival-marked}
 use Rattle.ready.proofs.mark_arrival.Statement.{statement}
 use Rattle.ready.proofs.mark_arrival.Tie as tie
 use Rattle.ready.proofs.mark_arrival.Reads as reads

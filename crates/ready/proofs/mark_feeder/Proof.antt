@@ -8,7 +8,7 @@ use denote.Ref.{now}
 use Rattle.network.specs.Sizes.{shapeOf, nodes}
 use Rattle.network.specs.Torus.{neighbour}
 use Rattle.packet.specs.GeometryLaws.{rings-nodes, rings-torus}
-use Rattle.ready.specs.Ready.{neighbour-node, before-is, feeder-marked}
+use Rattle.ready.specs.ReadyHeads.{neighbour-node, before-is, feeder-marked}
 use Rattle.ready.proofs.mark_feeder.Statement.{statement}
 use Rattle.ready.proofs.mark_feeder.Tie as tie
 use Rattle.ready.proofs.mark_feeder.Reads as reads

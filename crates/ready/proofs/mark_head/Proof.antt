@@ -6,7 +6,7 @@ use native.Mathlib.Omega.{arith}
 use denote.Ref.{now}
 use Rattle.network.specs.Sizes.{shapeOf}
 use Rattle.packet.specs.GeometryLaws.{rings-nodes}
-use Rattle.ready.specs.Ready.{source-marked}
+use Rattle.ready.specs.ReadyHeads.{source-marked}
 use Rattle.ready.proofs.mark_head.Statement.{statement}
 use Rattle.ready.proofs.mark_head.Tie as tie
 use Rattle.ready.proofs.mark_head.Reads as reads

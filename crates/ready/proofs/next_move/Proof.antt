@@ -8,7 +8,7 @@ use lib.ListN.{length}
 use denote.Ref.{now}
 use Rattle.network.specs.Sizes.{shapeOf, nodes}
 use Rattle.packet.specs.GeometryLaws.{inRange-rings, rings-nodes}
-use Rattle.ready.specs.Ready.{Searched, searched-start, searched-next, searched-up, searched-all, lowest-first, lowest-none, refused-some, move-some}
+use Rattle.ready.specs.ReadyHeads.{Searched, searched-start, searched-next, searched-up, searched-all, lowest-first, lowest-none, refused-some, move-some}
 use Rattle.ready.proofs.next_move.Statement.{statement}
 use Rattle.ready.proofs.next_move.Tie as tie
 use Rattle.ready.proofs.next_move.Reads as reads

@@ -9,7 +9,7 @@ use Rattle.network.specs.Layout.{nodeWords}
 use Rattle.packet.specs.Geometry.{RingsFit}
 use Rattle.packet.specs.GeometryLaws.{inRange-rings, nodes-some}
 use Rattle.queue.specs.QueueLaws.{Small, small}
-use Rattle.ring_check.proofs.Lines.{Found, rows-in, rows-are, columns-in, columns-are}
+use Rattle.ring_check.proofs.RingWalks.{Found, rows-in, rows-are, columns-in, columns-are}
 use Rattle.ring_check.proofs.direction_has_room.Statement.{statement}
 use Rattle.ring_check.proofs.direction_has_room.Tie as tie
 

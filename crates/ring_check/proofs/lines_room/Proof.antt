@@ -3,7 +3,7 @@ use borrow.Author.Tests.{not-true, not-false}
 use mathlib.Core.Path.{sym}
 use Prim.Native.Nat.{_-_}
 use native.Mathlib.Omega.{arith}
-use Rattle.ring_check.proofs.Lines.{LinesWalk, lines-start, lines-ring, lines-among, lines-stop, lines-more, lines-done}
+use Rattle.ring_check.proofs.RingWalks.{LinesWalk, lines-start, lines-ring, lines-among, lines-stop, lines-more, lines-done}
 use Rattle.ring_check.proofs.lines_room.Statement.{statement}
 use Rattle.ring_check.proofs.lines_room.Tie as tie
 

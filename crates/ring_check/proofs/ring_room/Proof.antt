@@ -3,7 +3,7 @@ use mathlib.Core.Path.{sym}
 use Prim.Native.Nat.{_-_, _<_}
 use native.Mathlib.Omega.{arith}
 use lib.ListN.{length}
-use Rattle.ring_check.proofs.Lines.{RingWalk, ring-start, ring-among, ring-found, ring-more, ring-full}
+use Rattle.ring_check.proofs.RingWalks.{RingWalk, ring-start, ring-among, ring-found, ring-more, ring-full}
 use Rattle.ring_check.proofs.ring_room.Statement.{statement}
 use Rattle.ring_check.proofs.ring_room.Tie as tie
 

@@ -12,7 +12,7 @@ use Rattle.network.specs.Routes.{routes}
 use Rattle.routes.specs.declared.HeadRoutes.{HeadRoutes}
 use Rattle.routes.specs.AreRoutes.{AreRoutes}
 use Rattle.routes.specs.AreRoutesLaws.{routes-count, route-at}
-use Rattle.routes.proofs.Cases.{elem-here, elem-on, elem-end}
+use Rattle.routes.proofs.RouteCases.{elem-here, elem-on, elem-end}
 use Rattle.routes.proofs.is_route.Statement.{statement}
 use Rattle.routes.proofs.is_route.Tie as tie
 

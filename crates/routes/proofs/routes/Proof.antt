@@ -10,7 +10,7 @@ use Rattle.network.specs.Packet.{distance, heading}
 use Rattle.network.specs.PacketLaws.{heading-lt}
 use Rattle.network.specs.Routes.{incoming, routes}
 use Rattle.routes.specs.AreRoutes.{AreRoutes}
-use Rattle.routes.proofs.Cases.{arrived, by-x, by-y, by-both-x, by-both-y, incoming-either}
+use Rattle.routes.proofs.RouteCases.{arrived, by-x, by-y, by-both-x, by-both-y, incoming-either}
 use Rattle.routes.proofs.routes.Statement.{statement}
 use Rattle.routes.proofs.routes.Tie as tie
 

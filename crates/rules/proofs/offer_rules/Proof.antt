@@ -13,7 +13,7 @@ use Rattle.network.specs.Layout.{accepted, held}
 use Rattle.network.specs.Check.{mostAccepted}
 use Rattle.network.specs.Refusals.{refuse, offerRules, noSuchNode, countSpent, injectionFull}
 use Rattle.packet.specs.GeometryLaws.{inRange-rings}
-use Rattle.flow.specs.Places.{header}
+use Rattle.flow.specs.HeldWords.{header}
 use Rattle.rules.proofs.offer_rules.Statement.{statement}
 use Rattle.rules.proofs.offer_rules.Tie as tie
 

@@ -1,7 +1,7 @@
 -- `session::answer_byte` meets its contract. Assumes nothing.
 use mathlib.Core.Path.{sym}
 use denote.Ref.{now}
-use Rattle.session.specs.Places.{fed-within, byte-cutting}
+use Rattle.session.specs.RunningLaws.{fed-within, byte-cutting}
 use borrow.Author.Needs.{needs}
 use Rattle.session.proofs.answer_byte.Statement.{statement}
 use Rattle.session.proofs.answer_byte.Tie as tie

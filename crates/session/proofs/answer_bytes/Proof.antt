@@ -8,7 +8,7 @@ use denote.Ref.{now}
 use lib.ListN.{length}
 use Rattle.base.specs.Parts.{length-span, length-splice}
 use Rattle.session.specs.Reads.{sheet}
-use Rattle.session.specs.Places.{Answering, answering-none, answering-more, answering-all}
+use Rattle.session.specs.RunningLaws.{Answering, answering-none, answering-more, answering-all}
 use Rattle.session.proofs.answer_bytes.Statement.{statement}
 use Rattle.session.proofs.answer_bytes.Tie as tie
 

@@ -2,7 +2,7 @@
 use mathlib.Core.Path.{_≡_, sym, ap, _∙_}
 use denote.Ref.{now}
 use Rattle.sheet.specs.Cutting.{pendingAfter}
-use Rattle.session.specs.Places.{finished-within, finished-pending, end-cutting}
+use Rattle.session.specs.RunningLaws.{finished-within, finished-pending, end-cutting}
 use borrow.Author.Needs.{needs}
 use Rattle.session.proofs.answer_end.Statement.{statement}
 use Rattle.session.proofs.answer_end.Tie as tie

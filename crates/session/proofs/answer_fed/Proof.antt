@@ -7,7 +7,7 @@ use Rattle.sheet.specs.Lines.{whole, tooLong}
 use Rattle.sheet.specs.Commands.{keptCommand}
 use Rattle.sheet.specs.Cutting.{handedOn, pendingAfter}
 use Rattle.session.specs.Running.{fedCutting}
-use Rattle.session.specs.Places.{gave-none, gave-one, line-within}
+use Rattle.session.specs.RunningLaws.{gave-none, gave-one, line-within}
 use borrow.Author.Needs.{needs}
 use Rattle.session.proofs.answer_fed.Statement.{statement}
 use Rattle.session.proofs.answer_fed.Tie as tie

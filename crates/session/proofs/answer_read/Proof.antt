@@ -2,7 +2,7 @@
 use denote.Ref.{now}
 use borrow.Author.Needs.{needs}
 use Rattle.session.specs.Reads.{sheet}
-use Rattle.session.specs.Places.{read-none, read-some, read-answered}
+use Rattle.session.specs.RunningLaws.{read-none, read-some, read-answered}
 use Rattle.session.proofs.answer_read.Statement.{statement}
 use Rattle.session.proofs.answer_read.Tie as tie
 

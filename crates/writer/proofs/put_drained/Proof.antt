@@ -7,7 +7,7 @@ use lib.ListN.{length, getD, take}
 use lib.Seq.{length-take-le}
 use Rattle.sheet.specs.Output.{packetLines, drainedLines, Room}
 use Rattle.sheet.specs.Puts.{put-behind}
-use Rattle.writer.proofs.Drains.{packets-room, drain-room}
+use Rattle.writer.proofs.DrainRoom.{packets-room, drain-room}
 use Rattle.writer.proofs.put_drained.Statement.{statement}
 use Rattle.writer.proofs.put_drained.Tie as tie
 

@@ -1,7 +1,7 @@
 -- `packet::torus::coordinate` meets its contract. Assumes nothing.
 use borrow.Author.Needs.{needs}
 use Rattle.packet.specs.GeometryLaws.{coordinate-x, coordinate-y}
-use Rattle.packet.proofs.Words.{other-dimension}
+use Rattle.packet.proofs.FieldWords.{other-dimension}
 use Rattle.packet.proofs.torus.coordinate.Statement.{statement}
 use Rattle.packet.proofs.torus.coordinate.Tie as tie
 

@@ -9,7 +9,7 @@ use Rattle.network.specs.PacketLaws.{byte-lt}
 use Rattle.network.specs.Calls.{offered}
 use Rattle.network.specs.OfferLaws.{offeredWay}
 use Rattle.packet.specs.GeometryLaws.{rings-nodes, rings-way}
-use Rattle.packet.proofs.Words.{word-of}
+use Rattle.packet.proofs.FieldWords.{word-of}
 use Rattle.packet.proofs.torus.offered.Statement.{statement}
 use Rattle.packet.proofs.torus.offered.Tie as tie
 

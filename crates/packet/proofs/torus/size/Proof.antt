@@ -1,6 +1,6 @@
 -- `packet::torus::size` meets its contract. Assumes nothing.
 use Rattle.packet.specs.GeometryLaws.{size-x, size-y}
-use Rattle.packet.proofs.Words.{other-dimension}
+use Rattle.packet.proofs.FieldWords.{other-dimension}
 use Rattle.packet.proofs.torus.size.Statement.{statement}
 use Rattle.packet.proofs.torus.size.Tie as tie
 

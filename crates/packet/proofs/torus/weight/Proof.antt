@@ -1,6 +1,6 @@
 -- `packet::torus::weight` meets its contract. Assumes nothing.
 use Rattle.packet.specs.GeometryLaws.{weight-x, weight-y}
-use Rattle.packet.proofs.Words.{other-dimension}
+use Rattle.packet.proofs.FieldWords.{other-dimension}
 use Rattle.packet.proofs.torus.weight.Statement.{statement}
 use Rattle.packet.proofs.torus.weight.Tie as tie
 

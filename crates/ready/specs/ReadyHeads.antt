@@ -19,7 +19,7 @@ use Rattle.network.specs.CheckLaws.{Network}
 use Rattle.network.specs.RefusalLaws.{Permitted}
 use Rattle.network.specs.Routes.{deliver, target}
 use Rattle.network.specs.Calls.{afterMove, firstInQueue, firstMove}
-use Rattle.run.specs.Ready.{before, Untouched, still-nothing, first-at, first-nowhere}
+use Rattle.run.specs.NewHeads.{before, Untouched, still-nothing, first-at, first-nowhere}
 use Rattle.headset.specs.Set.{member, IsSet, Filled, Inserted, NodeInserted, Removed, Lowest}
 
 abbrev pub headOf : ℕ → ℕ → ℕ

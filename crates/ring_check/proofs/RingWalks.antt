@@ -26,7 +26,7 @@ use Rattle.packet.specs.Geometry.{RingsFit, weight, nodeAt, OnTorus}
 use Rattle.packet.specs.GeometryLaws.{rings-torus, size-x, size-y, weight-x, weight-y, put-weight, node-is, nodes-is, node-lt, column-is, row-is, moved-is}
 use Rattle.network.specs.declared.Sizes.{Sizes}
 use Rattle.queue.specs.Queue.{Enough}
-use Rattle.ring_check.specs.Lines.{ringRoom, RingIn, linesRoom, LinesIn}
+use Rattle.ring_check.specs.RingLines.{ringRoom, RingIn, linesRoom, LinesIn}
 
 -- The walk along a line of queues, and along the lines ------------------------------------------------------------------------------------
 
