@@ -15,7 +15,7 @@ use Rattle.network.specs.Routes.{routes, deliver}
 use Rattle.network.specs.Refusals.{moveRefusal, head}
 use Rattle.network.specs.Calls.{NamedMove, foundMove, firstAnswer, drainedMoves, drainedDelivered, drainedStop}
 
--- R223: a move is permitted exactly where Move tests nothing that refuses it
+-- R223: a move is permitted exactly where Move gives 0
 abbrev pub Permits : List ℕ → NamedMove → Type 0
 Permits w m = moveRefusal w (m .node) (m .queue) (m .output) ≡ 0
 

@@ -107,6 +107,7 @@ handedWith l ds = sumOf (λ d. isLabelled l (d .packet)) ds
 unfoldable pub atHome : Delivery → Bool
 atHome d = eqb (label (d .packet)) (d .packet) && eqb (destination (d .packet)) (d .node)
 
+-- R213, R237: some move is permitted
 pub record SomeMove (w : List ℕ) : Type 0 where
   pub named : NamedMove
   pub permitted : Permits w named
