@@ -3,4 +3,5 @@ pub mod Tests
 pub mod Bools
 pub mod Sums
 pub mod Digits
+pub mod Numbers
 pub mod Parts

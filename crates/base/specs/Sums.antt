@@ -1,11 +1,12 @@
 -- Sums of a number for each number below n, and of a number for each element of a list. Order: the two definitions; equal sums; a change at one
--- place; a term, and fewer terms, against the sum; a term that is not 0. Assumes nothing.
+-- place; a term, small terms, and fewer terms, against the sum; a term that is not 0. Assumes nothing.
 use mathlib.Core.Path.{_≡_, refl, ap, _∙_}
 use mathlib.Core.List.{List, [], _∷_, _++_}
 use mathlib.Core.Logic.{_⊎_, inl, inr, _≢_}
-use Prim.Native.Nat.{ℕ, zero, suc, _+_, _<_, _≤_}
+use Prim.Native.Nat.{ℕ, zero, suc, _+_, _*_, _<_, _≤_}
+use native.Mathlib.Numerals.{add-one}
 use native.Mathlib.Decide.{ℕ-discrete}
-use native.Mathlib.Nat.{eq-or-lt-of-le, le-of-suc-le-suc, not-suc-le-zero, le-step, lt-suc-self, ne-of-gt, lt-irrefl}
+use native.Mathlib.Nat.{eq-or-lt-of-le, le-of-suc-le-suc, not-suc-le-zero, le-step, lt-suc-self, ne-of-gt, lt-irrefl, suc-mul}
 use native.Mathlib.Omega.{arith}
 
 unfoldable pub sumBelow : ℕ → (ℕ → ℕ) → ℕ
@@ -15,6 +16,11 @@ sumBelow (suc n) f = sumBelow n f + f n
 unfoldable pub sumOf : {A : Type 0} → (A → ℕ) → List A → ℕ
 sumOf f [] = 0
 sumOf f (x ∷ xs) = f x + sumOf f xs
+
+-- one term more
+pub sum-next : (n : ℕ) (f : ℕ → ℕ) → sumBelow (n + 1) f ≡ sumBelow n f + f n
+unfolding sumBelow
+sum-next n f = ap (λ (k : ℕ). sumBelow k f) (add-one n)
 
 pub sumOf-append : {A : Type 0} (f : A → ℕ) (xs ys : List A) → sumOf f (xs ++ ys) ≡ sumOf f xs + sumOf f ys
 unfolding sumOf
@@ -63,6 +69,16 @@ sum-zero zero f h = refl
 sum-zero (suc n) f h =
     let low : sumBelow n f ≡ 0 = sum-zero n f (λ i k. h i (le-step k)) in
     let top : f n ≡ 0 = h n (lt-suc-self n) in
+    omega arith
+
+-- a sum of small terms
+pub sum-most : (n m : ℕ) (f : ℕ → ℕ) → ((i : ℕ) → i < n → f i ≤ m) → sumBelow n f ≤ n * m
+unfolding sumBelow
+sum-most zero m f h = omega arith
+sum-most (suc n) m f h =
+    let a = sum-most n m f (λ i l. h i (le-step l)) in
+    let b = h n (lt-suc-self n) in
+    let c = suc-mul n m in
     omega arith
 
 -- a sum over fewer numbers is at most the sum over more

@@ -7,9 +7,8 @@ use native.Mathlib.Omega.{arith}
 use lib.ListN.{length}
 use Rattle.network.specs.Sizes.{shapeOf, directionOf, capacity}
 use Rattle.network.specs.Layout.{held}
-use Rattle.network.specs.TorusLaws.{neighbour-lt}
+use Rattle.network.specs.TorusLaws.{neighbour-lt, sizes-torus}
 use Rattle.network.specs.Routes.{target, freeSlots}
-use Rattle.packet.specs.GeometryLaws.{inRange-rings, rings-torus}
 use Rattle.network.specs.declared.Sizes.{Sizes}
 use Rattle.flow.specs.QueueOf.{QueueOf}
 use Rattle.flow.specs.HeldWords.{held-few}
@@ -19,7 +18,7 @@ module _ (s : Sizes) (w : List ℕ) (n o there : ℕ) (k : QueueOf s w n o) (e :
   pub at-target : QueueOf s w there o
   unfolding target
   at-target =
-      let l = neighbour-lt (shapeOf s) (directionOf o) n (rings-torus s (inRange-rings s (k .network .in-range))) (omega arith) (k .node) in
+      let l = neighbour-lt (shapeOf s) (directionOf o) n (sizes-torus s (k .network .in-range)) (omega arith) (k .node) in
       record { network = k .network; node = omega arith; queue = k .queue }
 
   -- it holds no more than its slots, and the others are free

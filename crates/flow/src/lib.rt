@@ -10,14 +10,13 @@ use queue::capacity;
 use queue::queue_start;
 ghost use mathlib.Core.Path.{_≡_};
 ghost use Prim.Native.Nat.{_<_};
-ghost use lib.Dec.{eqb};
+ghost use lib.Dec.{eqb, T};
 ghost use lib.ListN.{length};
 ghost use Rattle.network.specs.Layout.{held};
 ghost use Rattle.network.specs.Routes.{target, freeSlots, slotsNeeded};
 ghost use Rattle.network.specs.Refusals.{head, flowRules};
-ghost use Rattle.packet.specs.Geometry.{RingsFit};
 ghost use Rattle.near.specs.Table.{Near};
-ghost use Rattle.network.specs.Sizes.{shapeOf, nodes, queues};
+ghost use Rattle.network.specs.Sizes.{shapeOf, nodes, queues, sizesInRange};
 ghost use Rattle.flow.specs.QueueOf.{QueueOf};
 
 // The number of packets that queue q of node n holds: its count word.
@@ -41,7 +40,7 @@ pub fn head(words: &[u64], s: Sizes, n: u64, q: u64) -> u64
 
 // The node in the direction of output o, which is no delivery.
 pub fn target(s: Sizes, n: u64, o: u64) -> u64
-    requires { ⌜ RingsFit s × (n < nodes (shapeOf s)) × (0 < o) × (o < queues) ⌝ }
+    requires { ⌜ T (sizesInRange (shapeOf s)) × (n < nodes (shapeOf s)) × (0 < o) × (o < queues) ⌝ }
     ensures { λ r. ⌜ r ≡ target (shapeOf s) n o ⌝ }
 {
     neighbour(s, (o - 1) % DIRECTIONS, n)

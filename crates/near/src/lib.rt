@@ -1,6 +1,8 @@
 // A table of neighbours, for a search that asks for them again and again: byte DIRECTIONS * n + d of as many lent bytes as there can be is the neighbour of node n in
 // direction d. It is filled without a division.
+use network::DIMENSIONS;
 use network::DIRECTIONS;
+use network::MOST_NODES;
 use network::Sizes;
 use packet::torus::Place;
 use packet::torus::next_place;
@@ -8,18 +10,19 @@ use packet::torus::nodes;
 use packet::torus::step_from;
 ghost use mathlib.Core.Path.{_≡_};
 ghost use Prim.Native.Nat.{_+_, _*_, _<_};
+ghost use lib.Dec.{T};
 ghost use lib.ListN.{length};
-ghost use Rattle.network.specs.Sizes.{Shape, shapeOf, directions, dimensionOf, nodes, mostNodes};
+ghost use Rattle.network.specs.Sizes.{Shape, shapeOf, sizesInRange, directions, dimensionOf, nodes, mostNodes};
 ghost use Rattle.network.specs.Torus.{coordinate, neighbour};
-ghost use Rattle.packet.specs.Geometry.{RingsFit, nodeAt, OnTorus};
+ghost use Rattle.packet.specs.Geometry.{nodeAt, OnTorus};
 ghost use Rattle.near.specs.Table.{Near, NearTo};
 
 // A byte for each direction of each node of the largest network.
-pub const TABLE_BYTES: usize = 1024;
+pub const TABLE_BYTES: usize = (DIRECTIONS * MOST_NODES) as usize;
 
 // One byte more: the neighbour of node n in direction d, where its coordinate in that dimension is c.
 fn fill_byte(near: &mut [u8], s: Sizes, d: u64, n: u64, c: u64)
-    requires { ⌜ RingsFit s × (d < directions) × (n < nodes (shapeOf s)) × (c ≡ coordinate (shapeOf s) (dimensionOf d) n) ⌝ }
+    requires { ⌜ T (sizesInRange (shapeOf s)) × (d < directions) × (n < nodes (shapeOf s)) × (c ≡ coordinate (shapeOf s) (dimensionOf d) n) ⌝ }
     requires { ⌜ (n < mostNodes) × NearTo (shapeOf s) (directions * n + d) (now near) ⌝ }
     ensures { λ _. ⌜ NearTo (shapeOf s) (directions * n + d + 1) (now (near .exit)) ⌝ }
 {
@@ -27,27 +30,31 @@ fn fill_byte(near: &mut [u8], s: Sizes, d: u64, n: u64, c: u64)
     near[(DIRECTIONS * n + d) as usize] = there as u8;
 }
 
-// The four bytes of node n, which stands in column x and row y.
-fn fill_node(near: &mut [u8], s: Sizes, n: u64, x: u64, y: u64)
-    requires { ⌜ OnTorus s x y × (nodeAt s x y ≡ n) × NearTo (shapeOf s) (directions * n) (now near) ⌝ }
+// The bytes of node n, which stands there.
+fn fill_node(near: &mut [u8], s: Sizes, n: u64, place: Place)
+    requires { ⌜ OnTorus s place × (nodeAt s place ≡ n) × NearTo (shapeOf s) (directions * n) (now near) ⌝ }
     ensures { λ _. ⌜ NearTo (shapeOf s) (directions * (n + 1)) (now (near .exit)) ⌝ }
 {
-    fill_byte(near, s, 0, n, x);
-    fill_byte(near, s, 1, n, x);
-    fill_byte(near, s, 2, n, y);
-    fill_byte(near, s, 3, n, y);
+    let at = place.at;
+    let mut d = 0;
+    while d < DIRECTIONS {
+        fill_byte(near, s, d, n, at[(d / 2) as usize]);
+        d += 1;
+    }
 }
 
 // The neighbours of all nodes.
 pub fn fill(near: &mut [u8], s: Sizes)
-    requires { ⌜ RingsFit s × (length (now near) ≡ directions * mostNodes) ⌝ }
+    requires { ⌜ T (sizesInRange (shapeOf s)) × (length (now near) ≡ directions * mostNodes) ⌝ }
     ensures { λ _. ⌜ Near (shapeOf s) (now (near .exit)) ⌝ }
 {
     let count = nodes(s);
-    let mut place = Place { x: 0, y: 0 };
+    let mut place = Place {
+        at: [0; DIMENSIONS as usize],
+    };
     let mut n = 0;
     while n < count {
-        fill_node(near, s, n, place.x, place.y);
+        fill_node(near, s, n, place);
         place = next_place(s, place);
         n += 1;
     }

@@ -4,7 +4,7 @@ use mathlib.Core.Path.{_≡_, ap, ap₂, _∙_}
 use Prim.Native.Nat.{ℕ, _+_, _*_, _-_, _%_, _^_, _<_, _≤_}
 use native.Mathlib.Omega.{arith}
 use lib.IntN.{ℤ, natAbs}
-use Rattle.base.specs.Sums.{sumBelow}
+use Rattle.base.specs.Sums.{sum-most}
 use Rattle.network.specs.Sizes.{Shape, size, nodes, dimensions}
 use Rattle.network.specs.Packet.{tag, destination, offset, distance, forward, backward, hopsLeft, work, shorterWay}
 use Rattle.network.specs.PacketLaws.{ByteRange, tag-packet, destination-packet, offset-packet, hops-plus, hops-minus, shorterWay-range, shorterWay-half, shorterWay-reaches}
@@ -58,12 +58,9 @@ module _ (S : Shape) (n dest tag′ : ℕ) (t : Torus S) (h : n < nodes S) (hd :
       omega arith
 
   pub work-offered : work (offered S n dest tag′) ≤ mostWork
-  unfolding work hopsLeft sumBelow
+  unfolding work hopsLeft
   work-offered =
-      let x = distance-offered 0 (omega arith) in
-      let y = distance-offered 1 (omega arith) in
-      let a = s 0 (omega arith) in
-      let b = s 1 (omega arith) in
+      let m = sum-most dimensions 8 (λ i. distance i (offered S n dest tag′)) (λ i k. let d = distance-offered i k in let a = s i k in omega arith) in
       omega arith
 
   -- It leads to its destination -------------------------------------------------------------------------------------------------------

@@ -11,7 +11,7 @@ use lib.Dec.{leb, ltb, eqb}
 use lib.IntN.{ℤ, pos, negsuc, natAbs}
 use borrow.Author.Tests.{lt-ltb, le-ltb, le-leb, lt-leb, eq-eqb, ne-eqb}
 use lib.ListN.{length, getD}
-use Rattle.base.specs.Sums.{sumBelow, sum-change, term-le}
+use Rattle.base.specs.Sums.{sumBelow, sum-change, sum-most, term-le}
 use Rattle.network.specs.Sizes.{dimensions, directions, dimensionOf, isPlus, plus, minus}
 use Rattle.base.specs.Digits.{product, digit, putDigit, Positive, digit-lt, digit-put-same, digit-put-other, put-put, put-comm, put-digit, above-put}
 use Rattle.network.specs.Packet.{offsetValues, fields, offsetField, destinationField, withOffsets, signed, byte, packetWord, tag, destination, offset, withOffset, distance, forward, backward, hops, heading, hopsLeft, work, shrunk, hop, label, shorterWay}
@@ -393,8 +393,8 @@ distance-most i p = let r = offset-range i p in go (one-sign (offset i p)) (r .m
     go (inr e) m l a = omega arith
 
 pub hopsLeft-most : (p : ℕ) → hopsLeft p ≤ 128 * dimensions
-unfolding hopsLeft sumBelow
-hopsLeft-most p = let x = distance-most 0 p in let y = distance-most 1 p in omega arith
+unfolding hopsLeft
+hopsLeft-most p = let m = sum-most dimensions 128 (λ i. distance i p) (λ i h. distance-most i p) in omega arith
 
 -- The label ---------------------------------------------------------------------------------------------------------------------------
 

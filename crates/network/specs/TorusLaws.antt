@@ -5,14 +5,16 @@ use mathlib.Core.Bool.{Bool, true, false, cond, _&&_}
 use mathlib.Core.List.{List, [], _∷_}
 use mathlib.Core.Logic.{_⊎_, inl, inr, _≢_}
 use Prim.Native.Nat.{ℕ, zero, suc, _+_, _*_, _-_, _%_, _^_, _<_, _≤_}
-use native.Mathlib.Nat.{add-mul, mul-right-comm, pow-succ', le-refl, zero-mul, one-mul, le-of-suc-le, le-of-suc-le-suc, not-suc-le-zero, eq-or-lt-of-le, mod-eq-of-lt, mod-eq-sub-mod, mul-le-mul}
+use native.Mathlib.Nat.{add-mul, mul-right-comm, pow-succ', le-refl, zero-mul, one-mul, le-of-suc-le, le-of-suc-le-suc, not-suc-le-zero, eq-or-lt-of-le, mod-eq-of-lt, mod-eq-sub-mod, mod-add-mod, add-assoc, mul-le-mul}
 use native.Mathlib.Omega.{arith}
 use native.Mathlib.Decide.{ℕ-discrete, decLt}
+use borrow.Author.Tests.{eq-eqb, ne-eqb}
 use lib.Dec.{T, leb, leb→le}
 use lib.ListN.{length, getD}
 use Rattle.base.specs.Tests.{and-l, and-r, allOf, allOf-head, allOf-tail}
 use Rattle.base.specs.Digits.{product, digit, turn, Positive, digit-lt, digits-eq, radix-pos, turn-lt, turn-turn, turn-comm, turn-rounds, digit-turn-same, digit-turn-other}
-use Rattle.network.specs.Sizes.{Shape, size, nodes, within, sizesInRange, dimensions, directions, dimensionOf, isPlus, plus, minus}
+use Rattle.network.specs.Sizes.{Shape, shapeOf, size, nodes, mostNodes, within, sizesInRange, dimensions, directions, dimensionOf, isPlus, plus, minus}
+use Rattle.network.specs.declared.Sizes.{Sizes}
 use Rattle.network.specs.Packet.{hops, hopsLeft, hop}
 use Rattle.network.specs.PacketLaws.{dimension-lt, hops-hop-same, hops-hop-other, one-way, hops-le, distance-le-hopsLeft}
 use Rattle.network.specs.Torus.{coordinate, stride, along, neighbour, movedBelow, movedBy}
@@ -64,6 +66,15 @@ inRange-size S i t = all-most (S .sizes) i (inRange-sizes S t)
 pub inRange-nodes : (S : Shape) → T (sizesInRange S) → length (S .sizes) ≡ dimensions → nodes S ≤ 256
 unfolding nodes
 inRange-nodes S t l = let m : product (S .sizes) ≤ 16 ^ length (S .sizes) = product-most (S .sizes) (inRange-sizes S t) in rw l at m
+
+-- the code's sizes
+pub sizes-torus : (s : Sizes) → T (sizesInRange (shapeOf s)) → Torus (shapeOf s)
+unfolding shapeOf
+sizes-torus s t = inRange-torus (shapeOf s) t refl
+
+pub sizes-nodes : (s : Sizes) → T (sizesInRange (shapeOf s)) → nodes (shapeOf s) ≤ mostNodes
+unfolding shapeOf
+sizes-nodes s t = inRange-nodes (shapeOf s) t refl
 
 pub size-pos : (S : Shape) (i : ℕ) → Torus S → i < dimensions → 0 < size S i
 unfolding size
@@ -212,37 +223,80 @@ pub movedBy-hop : (S : Shape) (d n p : ℕ) → Torus S → d < directions → n
 unfolding movedBy neighbour
 movedBy-hop S d n p t h k some = hop-over S d n p directions t h (le-refl directions) h some
 
--- the coordinates of a node moved: each by the hops of its own dimension
+-- the coordinates of a node moved: each by the hops of its own dimension. Both directions of dimension j come after those of the dimensions below it
+both-ways : (S : Shape) (p j n : ℕ)
+    → movedBelow S p (2 * suc j) n ≡ along S (minus j) (hops (minus j) p) (along S (plus j) (hops (plus j) p) (movedBelow S p (2 * j) n))
+unfolding movedBelow
+both-ways S p j n =
+    ap (λ (e : ℕ). movedBelow S p e n) (let e : 2 * suc j ≡ suc (suc (2 * j)) = omega arith in e)
+    ∙ ap (λ (d : ℕ). along S d (hops d p) (along S (plus j) (hops (plus j) p) (movedBelow S p (2 * j) n))) (let e : suc (2 * j) ≡ minus j = omega arith in e)
+
+module _ (S : Shape) (i n p : ℕ) (t : Torus S) (h : i < dimensions) where
+  moved : ℕ
+  moved = (coordinate S i n + (hops (plus i) p * 1 + hops (minus i) p * (size S i - 1))) % size S i
+
+  -- along dimension i, and along another
+  own : (d c m : ℕ) → d < directions → dimensionOf d ≡ i → coordinate S i (along S d c m) ≡ (coordinate S i m + c * stride S d) % size S i
+  own d c m k e = rw (← e) (coordinate-along-same S d c m t k)
+
+  other : (j m : ℕ) → j < dimensions → i ≢ j
+      → coordinate S i (along S (minus j) (hops (minus j) p) (along S (plus j) (hops (plus j) p) m)) ≡ coordinate S i m
+  other j m k ne =
+      coordinate-along-other S i (minus j) (hops (minus j) p) (along S (plus j) (hops (plus j) p) m) t (omega arith) (apart (minus j) (omega arith))
+      ∙ coordinate-along-other S i (plus j) (hops (plus j) p) m t (omega arith) (apart (plus j) (omega arith))
+    where
+      apart : (d : ℕ) → dimensionOf d ≡ j → i ≢ dimensionOf d
+      apart d e f = ne (f ∙ e)
+
+  strides : (stride S (plus i) ≡ 1) × (stride S (minus i) ≡ size S i - 1)
+  unfolding stride
+  strides = (
+    rw (eq-eqb (plus i % 2) 0 (omega arith)),
+    rw (ne-eqb (minus i % 2) 0 (λ e. odd i e)) (ap (λ (j : ℕ). size S j - 1) (let e : dimensionOf (minus i) ≡ i = omega arith in e)),
+  )
+    where
+      odd : (i : ℕ) → minus i % 2 ≡ 0 → ⊥
+      odd i e = omega arith
+
+  not-yet : (j : ℕ) → j ≤ i → coordinate S i (movedBelow S p (2 * j) n) ≡ coordinate S i n
+  unfolding movedBelow
+  not-yet zero l = refl
+  not-yet (suc j) l =
+      ap (coordinate S i) (both-ways S p j n) ∙ other j (movedBelow S p (2 * j) n) (omega arith) (apart i j l) ∙ not-yet j (omega arith)
+    where
+      apart : (i j : ℕ) → j < i → i ≢ j
+      apart i j l e = omega arith
+
+  now : coordinate S i (movedBelow S p (2 * suc i) n) ≡ moved
+  unfolding moved
+  now =
+      ap (coordinate S i) (both-ways S p i n)
+      ∙ own (minus i) (hops (minus i) p) (along S (plus i) (hops (plus i) p) before) (omega arith) (omega arith)
+      ∙ ap (λ (c : ℕ). (c + hops (minus i) p * stride S (minus i)) % size S i) (own (plus i) (hops (plus i) p) before (omega arith) (omega arith))
+      ∙ mod-add-mod (coordinate S i before + hops (plus i) p * stride S (plus i)) (size S i) (hops (minus i) p * stride S (minus i))
+      ∙ ap (λ (c : ℕ). c % size S i)
+      (add-assoc (coordinate S i before) (hops (plus i) p * stride S (plus i)) (hops (minus i) p * stride S (minus i))
+      ∙ ap (λ (c : ℕ). c + (hops (plus i) p * stride S (plus i) + hops (minus i) p * stride S (minus i))) (not-yet i (le-refl i))
+      ∙ ap₂ (λ (a b : ℕ). coordinate S i n + (hops (plus i) p * a + hops (minus i) p * b)) (strides .0) (strides .1))
+    where
+      before : ℕ
+      before = movedBelow S p (2 * i) n
+
+  by-then : (j : ℕ) → i < j → j ≤ dimensions → coordinate S i (movedBelow S p (2 * j) n) ≡ moved
+  by-then zero l k = absurd (not-suc-le-zero l)
+  by-then (suc j) l k = go (eq-or-lt-of-le (le-of-suc-le-suc l)) (λ m. by-then j m (le-of-suc-le k))
+    where
+      apart : (i j : ℕ) → i < j → i ≢ j
+      apart i j l e = omega arith
+
+      go : (i ≡ j) ⊎ (i < j) → (i < j → coordinate S i (movedBelow S p (2 * j) n) ≡ moved) → coordinate S i (movedBelow S p (2 * suc j) n) ≡ moved
+      go (inl e) r = rw (← e) now
+      go (inr m) r = ap (coordinate S i) (both-ways S p j n) ∙ other j (movedBelow S p (2 * j) n) k (apart i j m) ∙ r m
+
 pub coordinate-movedBy : (S : Shape) (i n p : ℕ) → Torus S → i < dimensions
     → coordinate S i (movedBy S p n) ≡ (coordinate S i n + (hops (plus i) p * 1 + hops (minus i) p * (size S i - 1))) % size S i
-unfolding movedBy movedBelow along stride coordinate size
-coordinate-movedBy S i n p t h = go i h
-  where
-    ks : List ℕ
-    ks = S .sizes
-
-    -- both ways along one dimension, and along the other
-    both : (i a b m : ℕ) → i < length ks → digit ks i (turn ks i b (turn ks i a m)) ≡ (digit ks i m + (a + b)) % getD ks i 0
-    both i a b m l = ap (digit ks i) (turn-turn ks i a b m (t .positive) l) ∙ digit-turn-same ks i (a + b) m (t .positive) l
-
-    neither : (i j a b m : ℕ) → i < length ks → j ≢ i → digit ks j (turn ks i b (turn ks i a m)) ≡ digit ks j m
-    neither i j a b m l ne = digit-turn-other ks i j b (turn ks i a m) (t .positive) l ne ∙ digit-turn-other ks i j a m (t .positive) l ne
-
-    x : 0 < length ks
-    x = let e = t .dims in omega arith
-
-    y : 1 < length ks
-    y = let e = t .dims in omega arith
-
-    go : (i : ℕ) → i < dimensions
-        → coordinate S i (movedBy S p n) ≡ (coordinate S i n + (hops (plus i) p * 1 + hops (minus i) p * (size S i - 1))) % size S i
-    go zero k = neither 1 0 _ _ _ y (omega arith) ∙ both 0 _ _ n x
-    go (suc zero) k =
-        both 1 _ _ _ y ∙ ap (λ (c : ℕ). (c + (hops 2 p * 1 + hops 3 p * (getD ks 1 0 - 1))) % getD ks 1 0) (neither 0 1 _ _ n x (omega arith))
-    go (suc (suc i)) k = absurd (no-dimension i k)
-      where
-        no-dimension : (i : ℕ) → suc (suc i) < dimensions → ⊥
-        no-dimension i k = omega arith
+unfolding movedBy moved
+coordinate-movedBy S i n p t h = by-then S i n p t h dimensions h (le-refl dimensions)
 
 -- Neighbours are apart ----------------------------------------------------------------------------------------------------------------
 

@@ -39,6 +39,16 @@ pub const DELIVERED_AT: usize = 6;
 
 pub const MOVES_AT: usize = 7;
 
+// R60: the fields of a packet word: how many values an offset has, and how many destinations can be named; and by how much the word grows when the
+// destination, or the tag, is one more.
+pub const OFFSET_VALUES: u64 = 256;
+
+pub const DESTINATION_VALUES: u64 = 65536;
+
+pub const DESTINATION_AT: u64 = 65536;
+
+pub const TAG_AT: u64 = 4294967296;
+
 // R82: the largest number of packets accepted, 2^32 - 1.
 pub const MOST_ACCEPTED: u64 = 4294967295;
 

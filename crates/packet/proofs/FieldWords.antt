@@ -1,13 +1,15 @@
--- The two dimensions as the code tells them apart: 0 and not 0. Order: the offset of a word; the word with an offset replaced.
+-- The two dimensions as the code tells them apart: 0 and not 0. Order: the offset of a word; the word with an offset replaced; the
+-- word that an offer starts from.
 -- Assumes nothing.
-use mathlib.Core.Path.{_≡_, refl, ap, sym, _∙_}
+use mathlib.Core.Path.{_≡_, refl, ap, ap₂, sym, _∙_}
 use Prim.Native.Nat.{ℕ, _+_, _*_, _/_, _%_, _<_}
+use native.Mathlib.Numerals.{add-one}
 use native.Mathlib.Omega.{arith}
 use lib.IntN.{ℤ}
 use Rattle.network.specs.Sizes.{dimensions}
 use native.Mathlib.Nat.{div-div-eq-div-mul}
 use Rattle.base.specs.Digits.{product, digit, putDigit}
-use Rattle.network.specs.Packet.{fields, signed, byte, offset, withOffset, withOffsets, packetWord}
+use Rattle.network.specs.Packet.{fields, destinationField, signed, byte, offset, withOffset, withOffsets}
 
 pub other-dimension : (i : ℕ) → i < dimensions → (i ≡ 0 → ⊥) → i ≡ 1
 other-dimension i h ne = omega arith
@@ -28,17 +30,17 @@ pub with-y : (i : ℕ) (z : ℤ) (p b : ℕ) → i ≡ 1 → b ≡ byte z → p 
 unfolding withOffset putDigit
 with-y i z p b e f = rw e (omega arith)
 
--- a packet word by its fields
-pub word-of : (t dest : ℕ) (offs : ℕ → ℤ) (x y : ℕ) → x ≡ byte (offs 0) → y ≡ byte (offs 1) → x < 256 → y < 256 → dest < 65536
-    → t * 4294967296 + dest * 65536 + x * 256 + y ≡ packetWord t dest offs
-unfolding packetWord withOffsets withOffset putDigit product
-word-of t dest offs x y ex ey hx hy hd = rw (← ex, ← ey) (three t dest x y hx hy hd)
-  where
-    three : (t dest x y : ℕ) → x < 256 → y < 256 → dest < 65536
-        → t * 4294967296 + dest * 65536 + x * 256 + y
-        ≡ putDigit fields 0 y (putDigit fields 1 x (putDigit fields 2 dest (t * 4294967296)))
-    three t dest x y hx hy hd =
-        let a : putDigit fields 2 dest (t * 4294967296) ≡ t * 4294967296 + dest * 65536 = omega arith in
-        let b : putDigit fields 1 x (t * 4294967296 + dest * 65536) ≡ t * 4294967296 + dest * 65536 + x * 256 = omega arith in
-        let c : putDigit fields 0 y (t * 4294967296 + dest * 65536 + x * 256) ≡ t * 4294967296 + dest * 65536 + x * 256 + y = omega arith in
-        sym (ap (λ (n : ℕ). putDigit fields 0 y (putDigit fields 1 x n)) a ∙ ap (putDigit fields 0 y) b ∙ c)
+-- the word of a tag and a destination, before any offset
+pub word-start : (t dest : ℕ) (offs : ℕ → ℤ) → dest < 65536
+    → t * 4294967296 + dest * 65536 ≡ withOffsets 0 offs (putDigit fields destinationField dest (t * product fields))
+unfolding withOffsets putDigit product
+word-start t dest offs h = omega arith
+
+-- one offset more
+pub word-more : (i p r w : ℕ) (z : ℤ) (offs : ℕ → ℤ) → r ≡ withOffset i z p → z ≡ offs i → p ≡ withOffsets i offs w → r ≡ withOffsets (i + 1) offs w
+unfolding withOffsets
+word-more i p r w z offs e f g = e ∙ ap₂ (λ (y : ℤ) (q : ℕ). withOffset i y q) f g ∙ ap (λ (j : ℕ). withOffsets j offs w) (sym (add-one i))
+
+-- all of them
+pub word-end : (i p w : ℕ) (offs : ℕ → ℤ) → p ≡ withOffsets i offs w → i ≡ dimensions → p ≡ withOffsets dimensions offs w
+word-end i p w offs e f = e ∙ ap (λ (j : ℕ). withOffsets j offs w) f

@@ -1,26 +1,24 @@
--- The code's sizes as the definitions read them, and what the functions on them ask. Assumes nothing.
-use mathlib.Core.List.{List, [], _∷_}
-use Prim.Native.Nat.{ℕ, zero, suc, _+_, _*_, _<_, _≤_}
+-- Where nodes stand, for the code: a place has a coordinate in each dimension. Assumes nothing.
+use mathlib.Core.Path.{_≡_}
+use Prim.Native.Nat.{ℕ, _<_}
+use lib.Dec.{T}
+use lib.ListN.{length, getD}
+use Rattle.base.specs.Numbers.{number}
+use Rattle.network.specs.Sizes.{shapeOf, sizesInRange, dimensions, nodes, size}
 use Rattle.network.specs.declared.Sizes.{Sizes}
+use Rattle.packet.specs.declared.torus.Place.{Place}
 
--- R21
-pub record RingsFit (s : Sizes) : Type 0 where
-  pub x-least : 1 ≤ s .x
-  pub x-most : s .x ≤ 16
-  pub y-least : 1 ≤ s .y
-  pub y-most : s .y ≤ 16
+-- R30: the node that stands there
+abbrev pub nodeAt : Sizes → Place → ℕ
+nodeAt s place = number (shapeOf s .sizes) (place .at)
 
--- R30
-abbrev pub nodeAt : Sizes → ℕ → ℕ → ℕ
-nodeAt s x y = y * s .x + x
+-- the sizes are in range, and each coordinate is one of its ring's
+pub record OnTorus (s : Sizes) (place : Place) : Type 0 where
+  pub sizes : T (sizesInRange (shapeOf s))
+  pub whole : length (place .at) ≡ dimensions
+  pub below : (i : ℕ) → i < dimensions → getD (place .at) i 0 < size (shapeOf s) i
 
-pub record OnTorus (s : Sizes) (x y : ℕ) : Type 0 where
-  pub rings : RingsFit s
-  pub column : x < s .x
-  pub row : y < s .y
-
--- by how much a number differs whose digit i is one more
-unfoldable pub weight : List ℕ → ℕ → ℕ
-weight [] i = 1
-weight (k ∷ ks) zero = 1
-weight (k ∷ ks) (suc i) = k * weight ks i
+-- a walk over all nodes has come to n, which stands there; behind the last node it stands at node 0 again
+pub record WalkTo (s : Sizes) (n : ℕ) (place : Place) : Type 0 where
+  pub on : OnTorus s place
+  pub node : n < nodes (shapeOf s) → nodeAt s place ≡ n

@@ -1,53 +1,34 @@
--- Laws of the code's sizes. Order: they make a torus; the two dimensions one by one; a digit put in, by its weight; the neighbour by the weight;
--- a node by its coordinates; a coordinate moved; an offer's way. `s` are the code's sizes, `n` is a node. Assumes nothing.
+-- Laws of the code's sizes and places. Order: the two dimensions one by one; a coordinate by its weight; the neighbour by the weight; a node by its
+-- place; the next place; a walk over all nodes; a coordinate moved; an offer's way. `s` are the code's sizes, `n` is a node. Assumes nothing.
 use mathlib.Core.Path.{_≡_, refl, ap, ap₂, sym, _∙_}
 use mathlib.Core.Bool.{cond}
-use mathlib.Core.List.{List, [], _∷_}
+use mathlib.Core.List.{List}
 use mathlib.Core.Logic.{_≢_}
 use Prim.Native.Nat.{ℕ, zero, suc, _+_, _*_, _-_, _/_, _%_, _<_, _≤_}
-use native.Mathlib.Nat.{mul-one, one-mul, mul-le-mul, mul-comm, mul-left-comm, mul-add, zero-mul, add-mul, suc-mul, add-zero, mul-le-mul-right, mul-add-mod-self-right, mul-add-div-right, lt-of-mul-lt-mul-right, mod-eq-of-lt, div-eq-of-lt, mod-self, add-mod-right, add-mul-mod-self-right, mul-suc, mod-add-div, div-add-mod', div-lt-iff-lt-mul, not-suc-le-zero, le-of-suc-le-suc}
+use native.Mathlib.Nat.{mul-one, one-mul, zero-mul, add-mul, mul-comm, mod-eq-of-lt, mod-self, add-mod-right, add-mul-mod-self-right, mul-suc}
+use native.Mathlib.Numerals.{add-one}
+use native.Mathlib.Decide.{ℕ-discrete}
 use native.Mathlib.Omega.{arith}
 use lib.Dec.{T}
-use lib.ListN.{length}
+use lib.ListN.{length, getD, set, replicate, length-set, length-replicate}
+use lib.Seq.{getD-set-same, getD-set-other}
 use borrow.Author.Tests.{eq-eqb, ne-eqb}
-use Rattle.base.specs.Digits.{product, digit, putDigit, turn, Positive}
-use Rattle.network.specs.Sizes.{Shape, shapeOf, size, nodes, dimensions, directions, dimensionOf, sizesInRange}
+use Rattle.base.specs.Digits.{product, digit, putDigit, turn, weight, weight-pos, digit-weight, put-weight}
+use Rattle.base.specs.Numbers.{number, weight-first, weight-next, weight-all, number-zero, number-set, number-lt, digit-number}
+use Rattle.network.specs.Sizes.{Shape, shapeOf, size, nodes, mostNodes, largestRing, dimensions, directions, dimensionOf, sizesInRange}
 use Rattle.network.specs.PacketLaws.{ByteRange, dimension-lt}
 use Rattle.network.specs.Torus.{coordinate, stride, along, neighbour}
-use Rattle.network.specs.TorusLaws.{Torus, inRange-torus, inRange-size, size-pos, coordinate-lt, neighbour-lt}
+use Rattle.network.specs.TorusLaws.{Torus, sizes-torus, inRange-size, size-pos, coordinate-lt, neighbour-lt}
 use Rattle.network.specs.OfferLaws.{offeredWay, offered-range}
 use Rattle.network.specs.declared.Sizes.{Sizes}
-use Rattle.packet.specs.Geometry.{RingsFit, nodeAt, OnTorus, weight}
+use Rattle.packet.specs.declared.torus.Place.{Place}
+use Rattle.packet.specs.Geometry.{nodeAt, OnTorus, WalkTo}
 
--- They make a torus -------------------------------------------------------------------------------------------------------------------
-
-pub rings-torus : (s : Sizes) → RingsFit s → Torus (shapeOf s)
-unfolding shapeOf Positive
-rings-torus s r = record { positive = (r .x-least, (r .y-least, tt)); dims = refl }
-
--- sizes in range are such sizes
-pub inRange-rings : (s : Sizes) → T (sizesInRange (shapeOf s)) → RingsFit s
-unfolding shapeOf size
-inRange-rings s t =
-    let torus : Torus (shapeOf s) = inRange-torus (shapeOf s) t refl in
-    record {
-      x-least = size-pos (shapeOf s) 0 torus (omega arith);
-      x-most = inRange-size (shapeOf s) 0 t;
-      y-least = size-pos (shapeOf s) 1 torus (omega arith);
-      y-most = inRange-size (shapeOf s) 1 t;
-    }
+-- The two dimensions one by one -------------------------------------------------------------------------------------------------------
 
 pub nodes-is : (s : Sizes) → s .x * s .y ≡ nodes (shapeOf s)
 unfolding nodes shapeOf product
 nodes-is s = ap (λ (y : ℕ). s .x * y) (sym (mul-one (s .y)))
-
-pub rings-nodes : (s : Sizes) → RingsFit s → nodes (shapeOf s) ≤ 256
-rings-nodes s r = let e = nodes-is s in let l : s .x * s .y ≤ 16 * 16 = mul-le-mul (r .x-most) (r .y-most) in omega arith
-
-pub nodes-some : (s : Sizes) → RingsFit s → 0 < nodes (shapeOf s)
-nodes-some s r = let e = nodes-is s in let l : 1 * 1 ≤ s .x * s .y = mul-le-mul (r .x-least) (r .y-least) in omega arith
-
--- The two dimensions one by one -------------------------------------------------------------------------------------------------------
 
 pub size-x : (s : Sizes) (i : ℕ) → i ≡ 0 → s .x ≡ size (shapeOf s) i
 unfolding size shapeOf
@@ -57,12 +38,6 @@ pub size-y : (s : Sizes) (i : ℕ) → i ≡ 1 → s .y ≡ size (shapeOf s) i
 unfolding size shapeOf
 size-y s i e = rw e refl
 
-pub size-most : (s : Sizes) (i : ℕ) → RingsFit s → i < dimensions → size (shapeOf s) i ≤ 16
-unfolding size shapeOf
-size-most s zero r h = r .x-most
-size-most s (suc zero) r h = r .y-most
-size-most s (suc (suc i)) r h = absurd (not-suc-le-zero (le-of-suc-le-suc (le-of-suc-le-suc h)))
-
 pub weight-x : (s : Sizes) (i : ℕ) → i ≡ 0 → 1 ≡ weight (shapeOf s .sizes) i
 unfolding weight shapeOf
 weight-x s i e = rw e refl
@@ -71,40 +46,24 @@ pub weight-y : (s : Sizes) (i : ℕ) → i ≡ 1 → s .x ≡ weight (shapeOf s 
 unfolding weight shapeOf
 weight-y s i e = rw e (sym (mul-one (s .x)))
 
-pub coordinate-x : (s : Sizes) (i n : ℕ) → i ≡ 0 → n % s .x ≡ coordinate (shapeOf s) i n
-unfolding coordinate digit shapeOf
-coordinate-x s i n e = rw e refl
+-- A coordinate by its weight ------------------------------------------------------------------------------------------------------------
 
-pub coordinate-y : (s : Sizes) (i n : ℕ) → RingsFit s → n < nodes (shapeOf s) → i ≡ 1 → n / s .x ≡ coordinate (shapeOf s) i n
-unfolding coordinate digit shapeOf
-coordinate-y s i n r h e = rw e (sym (mod-eq-of-lt (row s n r h)))
-  where
-    row : (s : Sizes) (n : ℕ) → RingsFit s → n < nodes (shapeOf s) → n / s .x < s .y
-    row s n r h = div-lt-iff-lt-mul (r .x-least) .1 (let e = nodes-is s in let f = mul-comm (s .x) (s .y) in omega arith)
+pub coordinate-is : (s : Sizes) (i n k w : ℕ) → i < dimensions → k ≡ size (shapeOf s) i → w ≡ weight (shapeOf s .sizes) i
+    → n / w % k ≡ coordinate (shapeOf s) i n
+unfolding coordinate size shapeOf
+coordinate-is s i n k w h ek ew = ap₂ (λ (a b : ℕ). n / a % b) ew ek ∙ sym (digit-weight (shapeOf s .sizes) i n h)
+
+pub weight-some : (s : Sizes) (i : ℕ) → T (sizesInRange (shapeOf s)) → i < dimensions → 0 < weight (shapeOf s .sizes) i
+unfolding shapeOf
+weight-some s i t h = weight-pos (shapeOf s .sizes) i (sizes-torus s t .positive)
 
 -- a coordinate c is on its ring of k nodes
-pub on-ring : {s : Sizes} {c k : ℕ} (i n : ℕ) → RingsFit s → i < dimensions → c ≡ coordinate (shapeOf s) i n → k ≡ size (shapeOf s) i
-    → (c < k) × (k ≤ 16)
-on-ring {s} i n r h ec ek =
-    let l = coordinate-lt (shapeOf s) i n (rings-torus s r) h in
-    let m = size-most s i r h in
+pub on-ring : {c k : ℕ} (s : Sizes) (i n : ℕ) → T (sizesInRange (shapeOf s)) → i < dimensions → c ≡ coordinate (shapeOf s) i n → k ≡ size (shapeOf s) i
+    → (c < k) × (k ≤ largestRing)
+on-ring s i n t h ec ek =
+    let l = coordinate-lt (shapeOf s) i n (sizes-torus s t) h in
+    let m = inRange-size (shapeOf s) i t in
     (omega arith, omega arith)
-
--- A digit put in, by its weight -------------------------------------------------------------------------------------------------------
-
-pub put-weight : (ks : List ℕ) (i b n : ℕ) → i < length ks → putDigit ks i b n + digit ks i n * weight ks i ≡ n + b * weight ks i
-unfolding putDigit digit weight
-put-weight [] i b n h = absurd (not-suc-le-zero h)
-put-weight (k ∷ ks) zero b n h = let e = mod-add-div n k in let f = mul-one (n % k) in let g = mul-one b in omega arith
-put-weight (k ∷ ks) (suc i) b n h =
-    let e : n % k + k * (n / k) ≡ n = mod-add-div n k in
-    let f : k * (putDigit ks i b (n / k) + digit ks i (n / k) * weight ks i) ≡ k * (n / k + b * weight ks i) =
-    ap (λ (m : ℕ). k * m) (put-weight ks i b (n / k) (le-of-suc-le-suc h)) in
-    let l = mul-add k (putDigit ks i b (n / k)) (digit ks i (n / k) * weight ks i) in
-    let m = mul-add k (n / k) (b * weight ks i) in
-    let o = mul-left-comm k (digit ks i (n / k)) (weight ks i) in
-    let p = mul-left-comm k b (weight ks i) in
-    omega arith
 
 -- The neighbour by the weight ---------------------------------------------------------------------------------------------------------
 
@@ -113,10 +72,10 @@ pub record Ring (S : Shape) (d n c k w : ℕ) : Type 0 where
   pub torus : Torus S
   pub way : d < directions
   pub node : n < nodes S
-  pub few : nodes S ≤ 256
+  pub few : nodes S ≤ mostNodes
   pub at : c ≡ coordinate S (dimensionOf d) n
   pub round : k ≡ size S (dimensionOf d)
-  pub short : k ≤ 16
+  pub short : k ≤ largestRing
   pub step : w ≡ weight (S .sizes) (dimensionOf d)
 
 module _ {S : Shape} {d n c k w : ℕ} (r : Ring S d n c k w) where
@@ -127,7 +86,7 @@ module _ {S : Shape} {d n c k w : ℕ} (r : Ring S d n c k w) where
       let b = r .round in
       omega arith
 
-  pub neighbour-small : neighbour S d n < 256
+  pub neighbour-small : neighbour S d n < mostNodes
   neighbour-small = let l = neighbour-lt S d n (r .torus) (r .way) (r .node) in let m = r .few in omega arith
 
   -- where the neighbour has the coordinate b
@@ -198,41 +157,143 @@ module _ {S : Shape} {d n c k w : ℕ} (r : Ring S d n c k w) where
       let y = zero-mul w in
       omega arith
 
--- A node by its coordinates -----------------------------------------------------------------------------------------------------------
+-- A node by its place -----------------------------------------------------------------------------------------------------------------
 
-pub node-is : {s : Sizes} {x y : ℕ} (n : ℕ) → RingsFit s → n < nodes (shapeOf s) → x ≡ coordinate (shapeOf s) 0 n
-    → y ≡ coordinate (shapeOf s) 1 n → y * s .x + x ≡ n
-node-is {s} n r h ex ey =
-    ap₂ (λ (b a : ℕ). b * s .x + a) (ey ∙ sym (coordinate-y s 1 n r h refl)) (ex ∙ sym (coordinate-x s 0 n refl))
-    ∙ div-add-mod' n (s .x)
+module _ {s : Sizes} {place : Place} (on : OnTorus s place) where
+  -- as many sizes as coordinates
+  sizes-length : length (place .at) ≡ length (shapeOf s .sizes)
+  unfolding shapeOf
+  sizes-length = on .whole
 
-module _ (s : Sizes) (x y : ℕ) (on : OnTorus s x y) where
-  pub node-lt : nodeAt s x y < nodes (shapeOf s)
-  node-lt =
-      let c = on .column in
-      let m : suc y * s .x ≤ s .y * s .x = mul-le-mul-right (s .x) (on .row) in
-      let l : suc y * s .x ≡ y * s .x + s .x = suc-mul y (s .x) in
-      let e = nodes-is s in
-      let f = mul-comm (s .x) (s .y) in
-      omega arith
+  sizes-below : (i : ℕ) → i < length (shapeOf s .sizes) → getD (place .at) i 0 < getD (shapeOf s .sizes) i 0
+  unfolding shapeOf size
+  sizes-below i h = on .below i h
 
-  pub column-is : x ≡ coordinate (shapeOf s) 0 (nodeAt s x y)
-  column-is = sym (mod-eq-of-lt (on .column)) ∙ sym (mul-add-mod-self-right y (s .x) x) ∙ coordinate-x s 0 (nodeAt s x y) refl
+  pub place-node : nodeAt s place < nodes (shapeOf s)
+  unfolding nodes
+  place-node = number-lt (shapeOf s .sizes) (place .at) sizes-length sizes-below
 
-  pub row-is : y ≡ coordinate (shapeOf s) 1 (nodeAt s x y)
-  row-is =
-      sym (add-zero y)
-      ∙ ap (λ (q : ℕ). y + q) (sym (div-eq-of-lt (on .column)))
-      ∙ sym (mul-add-div-right (on .rings .x-least) y x)
-      ∙ coordinate-y s 1 (nodeAt s x y) (on .rings) node-lt refl
+  pub place-coordinate : (i : ℕ) → i < dimensions → getD (place .at) i 0 ≡ coordinate (shapeOf s) i (nodeAt s place)
+  unfolding coordinate shapeOf
+  place-coordinate i h = sym (digit-number (shapeOf s .sizes) (place .at) i sizes-length sizes-below h)
 
--- a node that exists stands in one of the rows
-pub stands : (s : Sizes) (x y n : ℕ) → RingsFit s → nodeAt s x y ≡ n → x < s .x → n < nodes (shapeOf s) → OnTorus s x y
-stands s x y n r g c h =
-    let e = nodes-is s in
-    let f = mul-comm (s .x) (s .y) in
-    let l : y * s .x < s .y * s .x = omega arith in
-    record { rings = r; column = c; row = lt-of-mul-lt-mul-right (s .x) l }
+-- The next place ------------------------------------------------------------------------------------------------------------------------
+
+-- the coordinates below i have gone round to 0, and the one of dimension i is to go on by one
+pub record Carrying (s : Sizes) (place : Place) (at : List ℕ) (i : ℕ) : Type 0 where
+  pub on : OnTorus s (record { at = at })
+  pub carried : number (shapeOf s .sizes) at + weight (shapeOf s .sizes) i ≡ nodeAt s place + 1
+  pub within : i ≤ dimensions
+
+-- one coordinate replaced by another of its ring
+place-set : (s : Sizes) (at : List ℕ) (i c : ℕ) → OnTorus s (record { at = at }) → i < dimensions → c < size (shapeOf s) i → OnTorus s (record { at = set at i c })
+place-set s at i c on h l =
+    record {
+      sizes = on .sizes;
+      whole = length-set at i c ∙ on .whole;
+      below = λ j k. each j k (ℕ-discrete j i);
+    }
+  where
+    each : (j : ℕ) → j < dimensions → Dec (j ≡ i) → getD (set at i c) j 0 < size (shapeOf s) j
+    each j k (yes e) =
+        let w = on .whole in
+        let v : getD (set at i c) j 0 ≡ c = ap (λ (m : ℕ). getD (set at i c) m 0) e ∙ getD-set-same at i c 0 (omega arith) in
+        let z : size (shapeOf s) j ≡ size (shapeOf s) i = ap (size (shapeOf s)) e in
+        omega arith
+    each j k (no ne) = let v = getD-set-other at i j c 0 ne in let b = on .below j k in omega arith
+
+module _ (s : Sizes) (place : Place) where
+  ks : List ℕ
+  ks = shapeOf s .sizes
+
+  -- the number with one coordinate replaced
+  number-put : (at : List ℕ) (i c : ℕ) → OnTorus s (record { at = at }) → i < dimensions
+      → number ks (set at i c) + getD at i 0 * weight ks i ≡ number ks at + c * weight ks i
+  unfolding ks shapeOf
+  number-put at i c on h = number-set (shapeOf s .sizes) at i c h (let w = on .whole in omega arith)
+
+  pub carry-start : OnTorus s place → Carrying s place (place .at) 0
+  carry-start on =
+      record {
+        on = record { sizes = on .sizes; whole = on .whole; below = on .below };
+        carried = ap (λ (w : ℕ). nodeAt s place + w) (weight-first (shapeOf s .sizes));
+        within = omega arith;
+      }
+
+  -- it goes on
+  pub carry-end : (at : List ℕ) (i c k : ℕ) → OnTorus s place → Carrying s place at i → i < dimensions → c ≡ getD at i 0 + 1 → k ≡ size (shapeOf s) i → c < k
+      → OnTorus s (record { at = set at i c }) × (number (shapeOf s .sizes) (set at i c) ≡ (nodeAt s place + 1) % nodes (shapeOf s))
+  unfolding ks
+  carry-end at i c k on carry h e f l =
+      let after = place-set s at i c (carry .on) h (omega arith) in
+      let p = number-put at i c (carry .on) h in
+      let m : c * weight ks i ≡ getD at i 0 * weight ks i + weight ks i =
+      ap (λ (b : ℕ). b * weight ks i) e ∙ add-mul (getD at i 0) 1 (weight ks i) ∙ ap (λ (b : ℕ). getD at i 0 * weight ks i + b) (one-mul (weight ks i)) in
+      let q = carry .carried in
+      let same : number ks (set at i c) ≡ nodeAt s place + 1 = omega arith in
+      let b = place-node after in
+      (after, same ∙ sym (mod-eq-of-lt (let d : nodeAt s place + 1 < nodes (shapeOf s) = omega arith in d)))
+
+  -- it goes round to 0, and the next one is to go on
+  pub carry-more : (at : List ℕ) (i c k : ℕ) → Carrying s place at i → i < dimensions → c ≡ getD at i 0 + 1 → k ≡ size (shapeOf s) i → k ≤ c
+      → Carrying s place (set at i 0) (i + 1)
+  unfolding ks shapeOf size
+  carry-more at i c k carry h e f l =
+      let b : getD at i 0 < getD ks i 0 = carry .on .below i h in
+      let full : getD ks i 0 ≡ getD at i 0 + 1 = omega arith in
+      let p = number-put at i 0 (carry .on) h in
+      let w : weight ks (suc i) ≡ weight ks i * getD ks i 0 = weight-next ks i h in
+      let m : weight ks i * getD ks i 0 ≡ getD at i 0 * weight ks i + weight ks i =
+      mul-comm (weight ks i) (getD ks i 0) ∙ ap (λ (k : ℕ). k * weight ks i) full ∙ add-mul (getD at i 0) 1 (weight ks i)
+      ∙ ap (λ (k : ℕ). getD at i 0 * weight ks i + k) (one-mul (weight ks i)) in
+      let q = carry .carried in
+      record {
+        on = place-set s at i 0 (carry .on) h (omega arith);
+        carried = ap (λ (j : ℕ). number ks (set at i 0) + weight ks j) (add-one i) ∙ omega arith;
+        within = omega arith;
+      }
+
+  -- all went round
+  pub carry-round : (at : List ℕ) (i : ℕ) → OnTorus s place → Carrying s place at i → dimensions ≤ i
+      → OnTorus s (record { at = at }) × (number (shapeOf s .sizes) at ≡ (nodeAt s place + 1) % nodes (shapeOf s))
+  unfolding ks nodes shapeOf
+  carry-round at i on carry h =
+      let within = carry .within in
+      let all : weight ks i ≡ product ks = ap (weight ks) (let e : i ≡ dimensions = omega arith in e) ∙ weight-all ks in
+      let q = carry .carried in
+      let l = place-node on in
+      let m = place-node (carry .on) in
+      let last : nodeAt s place + 1 ≡ product ks = omega arith in
+      let none : number ks at ≡ 0 = omega arith in
+      (carry .on, none ∙ sym (ap (λ (k : ℕ). k % product ks) last ∙ mod-self (product ks)))
+
+-- A walk over all nodes -------------------------------------------------------------------------------------------------------------------
+
+-- it starts at node 0
+zeros : (k i : ℕ) → getD {A = ℕ} (replicate k 0) i 0 ≡ 0
+zeros zero i = refl
+zeros (suc k) zero = refl
+zeros (suc k) (suc i) = zeros k i
+
+pub walk-start : (s : Sizes) → T (sizesInRange (shapeOf s)) → WalkTo s 0 (record { at = replicate dimensions 0 })
+walk-start s t =
+    record {
+      on =
+          record {
+            sizes = t;
+            whole = length-replicate {A = ℕ} dimensions 0;
+            below = λ i h. let p = size-pos (shapeOf s) i (sizes-torus s t) h in let b = zeros dimensions i in omega arith;
+          };
+      node = λ h. number-zero (shapeOf s .sizes) (replicate dimensions 0) (zeros dimensions);
+    }
+
+pub walk-next : (s : Sizes) (n : ℕ) (place next : Place) → WalkTo s n place → n < nodes (shapeOf s) → OnTorus s next
+    → nodeAt s next ≡ (nodeAt s place + 1) % nodes (shapeOf s) → WalkTo s (n + 1) next
+walk-next s n place next walk h on e =
+    record {
+      on = on;
+      node = λ l. e ∙ ap (λ (m : ℕ). (m + 1) % nodes (shapeOf s)) (walk .node h) ∙ mod-eq-of-lt l;
+    }
 
 -- a coordinate moved: b steps back are b rounds forward but for b steps
 pub moved-is : (c f b k : ℕ) → 0 < k → b ≤ k → (c + f + k - b) % k ≡ (c + (f * 1 + b * (k - 1))) % k
@@ -242,5 +303,5 @@ moved-is c f b k h l =
     sym (add-mul-mod-self-right (c + f + k - b) b k) ∙ ap (λ (x : ℕ). x % k) t ∙ add-mod-right (c + (f * 1 + b * (k - 1))) k
 
 -- the way of an offer is of a byte's range
-pub rings-way : {s : Sizes} (n destination i : ℕ) → RingsFit s → i < dimensions → ByteRange (offeredWay (shapeOf s) n destination i)
-rings-way {s} n destination i r h = offered-range (shapeOf s) n destination i (rings-torus s r) (λ j k. size-most s j r k) h
+pub sizes-way : (s : Sizes) (n destination i : ℕ) → T (sizesInRange (shapeOf s)) → i < dimensions → ByteRange (offeredWay (shapeOf s) n destination i)
+sizes-way s n destination i t h = offered-range (shapeOf s) n destination i (sizes-torus s t) (λ j k. inRange-size (shapeOf s) j t) h

@@ -2,21 +2,28 @@
 // name in the crate `network` (specs/Packet.antt). The torus that packets cross is in the module `torus`.
 pub mod torus;
 
+use network::DESTINATION_AT;
+use network::DESTINATION_VALUES;
+use network::DIMENSIONS;
+use network::OFFSET_VALUES;
 ghost use mathlib.Core.Path.{_≡_};
 ghost use Prim.Native.Nat.{_<_, _≤_};
 ghost use lib.IntN.{natAbs};
 ghost use Rattle.network.specs.Sizes.{dimensions, largestRing};
-ghost use Rattle.network.specs.Packet.{signed, byte, offset, withOffset, distance, heading, shrunk, hop, hopsLeft, work, destination, shorterWay};
+ghost use Rattle.network.specs.Packet.{offsetValues, signed, byte, offset, withOffset, distance, heading, shrunk, hop, hopsLeft, work, destination, shorterWay};
 ghost use Rattle.network.specs.PacketLaws.{ByteRange};
 
 // Signed bytes --------------------------------------------------------------------------------------------------------------
 
+// Half of the values of an offset: how far the least of them stands below 0.
+pub const HALF_TURN: u64 = OFFSET_VALUES / 2;
+
 // The number that a byte stands for, two's complement: half a turn on, and half a turn back. This form is one instruction, a sign extension.
 pub fn signed(b: u64) -> i64
-    requires { ⌜ b < 256 ⌝ }
+    requires { ⌜ b < offsetValues ⌝ }
     ensures { λ r. ⌜ r ≡ signed b ⌝ }
 {
-    ((b + 128) % 256) as i64 - 128
+    ((b + HALF_TURN) % OFFSET_VALUES) as i64 - HALF_TURN as i64
 }
 
 // The number without its sign. The least that a byte stands for, -128, is no exception: it is negated at the full width.
@@ -32,7 +39,11 @@ pub fn byte(z: i64) -> u64
     requires { ⌜ ByteRange z ⌝ }
     ensures { λ r. ⌜ r ≡ byte z ⌝ }
 {
-    if z < 0 { 256 - nat_abs(z) } else { nat_abs(z) }
+    if z < 0 {
+        OFFSET_VALUES - nat_abs(z)
+    } else {
+        nat_abs(z)
+    }
 }
 
 // One hop towards zero, whatever the sign: an offset that leads half way round keeps the way that it was given.
@@ -54,7 +65,7 @@ pub fn shrunk(z: i64) -> i64
 pub fn destination(p: u64) -> u64
     ensures { λ r. ⌜ r ≡ destination p ⌝ }
 {
-    p / 65536 % 65536
+    p / DESTINATION_AT % DESTINATION_VALUES
 }
 
 // The byte of dimension i is divided out by a literal in each arm, so that no division by a variable is left.
@@ -63,9 +74,9 @@ pub fn offset(i: u64, p: u64) -> i64
     ensures { λ r. ⌜ r ≡ offset i p ⌝ }
 {
     if i == 0 {
-        signed(p / 256 % 256)
+        signed(p / OFFSET_VALUES % OFFSET_VALUES)
     } else {
-        signed(p % 256)
+        signed(p % OFFSET_VALUES)
     }
 }
 
@@ -74,9 +85,9 @@ pub fn with_offset(i: u64, z: i64, p: u64) -> u64
     ensures { λ r. ⌜ r ≡ withOffset i z p ⌝ }
 {
     if i == 0 {
-        p / 65536 * 65536 + byte(z) * 256 + p % 256
+        p / DESTINATION_AT * DESTINATION_AT + byte(z) * OFFSET_VALUES + p % OFFSET_VALUES
     } else {
-        p / 256 * 256 + byte(z)
+        p / OFFSET_VALUES * OFFSET_VALUES + byte(z)
     }
 }
 
@@ -100,7 +111,13 @@ pub fn heading(i: u64, p: u64) -> u64
 pub fn hops_left(p: u64) -> u64
     ensures { λ r. ⌜ r ≡ hopsLeft p ⌝ }
 {
-    distance(0, p) + distance(1, p)
+    let mut hops = 0;
+    let mut i = 0;
+    while i < DIMENSIONS {
+        hops += distance(i, p);
+        i += 1;
+    }
+    hops
 }
 
 // A packet's part of the work left.

@@ -1,19 +1,23 @@
-// The torus in code, for sizes in range and nodes that exist: coordinates, neighbours, and the packet of an
+// The torus in code, for sizes in range and nodes that exist: coordinates, neighbours, places, and the packet of an
 // offer. Every function equals the definition of its name in the crate `network` (specs/Torus.antt, Calls.antt).
-use super::byte;
 use super::shorter_way;
+use super::with_offset;
+use network::DESTINATION_AT;
+use network::DIMENSIONS;
 use network::Sizes;
+use network::TAG_AT;
 ghost use mathlib.Core.Path.{_≡_};
-ghost use Prim.Native.Nat.{_+_, _<_, _≤_};
-ghost use Rattle.network.specs.Sizes.{shapeOf, dimensions, directions, dimensionOf, largestRing, nodes, size};
-ghost use Rattle.network.specs.Packet.{byte};
+ghost use Prim.Native.Nat.{_+_, _%_, _<_};
+ghost use lib.Dec.{T};
+ghost use Rattle.base.specs.Digits.{weight};
+ghost use Rattle.network.specs.Sizes.{shapeOf, sizesInRange, dimensions, directions, dimensionOf, nodes, size};
 ghost use Rattle.network.specs.Torus.{coordinate, neighbour};
 ghost use Rattle.network.specs.Calls.{offered};
 ghost use Rattle.network.specs.OfferLaws.{offeredWay};
-ghost use Rattle.packet.specs.Geometry.{RingsFit, nodeAt, weight};
+ghost use Rattle.packet.specs.Geometry.{nodeAt, OnTorus};
 
 pub fn nodes(s: Sizes) -> u64
-    requires { ⌜ RingsFit s ⌝ }
+    requires { ⌜ T (sizesInRange (shapeOf s)) ⌝ }
     ensures { λ r. ⌜ r ≡ nodes (shapeOf s) ⌝ }
 {
     s.x * s.y
@@ -27,24 +31,25 @@ pub fn size(s: Sizes, i: u64) -> u64
 }
 
 // By how much the numbers of two nodes differ that are one step apart in dimension i.
-fn weight(s: Sizes, i: u64) -> u64
+pub fn weight(s: Sizes, i: u64) -> u64
     requires { ⌜ i < dimensions ⌝ }
     ensures { λ r. ⌜ r ≡ weight (shapeOf s .sizes) i ⌝ }
 {
     if i == 0 { 1 } else { s.x }
 }
 
-// The row of a node that exists needs no second division.
 pub fn coordinate(s: Sizes, i: u64, n: u64) -> u64
-    requires { ⌜ RingsFit s × (i < dimensions) × (n < nodes (shapeOf s)) ⌝ }
+    requires { ⌜ T (sizesInRange (shapeOf s)) × (i < dimensions) ⌝ }
     ensures { λ r. ⌜ r ≡ coordinate (shapeOf s) i n ⌝ }
 {
-    if i == 0 { n % s.x } else { n / s.x }
+    let w = weight(s, i);
+    let k = size(s, i);
+    n / w % k
 }
 
 // One step on, or round to the other end of the ring.
 pub fn neighbour(s: Sizes, d: u64, n: u64) -> u64
-    requires { ⌜ RingsFit s × (d < directions) × (n < nodes (shapeOf s)) ⌝ }
+    requires { ⌜ T (sizesInRange (shapeOf s)) × (d < directions) × (n < nodes (shapeOf s)) ⌝ }
     ensures { λ r. ⌜ r ≡ neighbour (shapeOf s) d n ⌝ }
 {
     step_from(s, d, n, coordinate(s, d / 2, n))
@@ -52,7 +57,7 @@ pub fn neighbour(s: Sizes, d: u64, n: u64) -> u64
 
 // The same where the node's coordinate c in the direction's dimension is at hand.
 pub fn step_from(s: Sizes, d: u64, n: u64, c: u64) -> u64
-    requires { ⌜ RingsFit s × (d < directions) × (n < nodes (shapeOf s)) × (c ≡ coordinate (shapeOf s) (dimensionOf d) n) ⌝ }
+    requires { ⌜ T (sizesInRange (shapeOf s)) × (d < directions) × (n < nodes (shapeOf s)) × (c ≡ coordinate (shapeOf s) (dimensionOf d) n) ⌝ }
     ensures { λ r. ⌜ r ≡ neighbour (shapeOf s) d n ⌝ }
 {
     let i = d / 2;
@@ -70,43 +75,51 @@ pub fn step_from(s: Sizes, d: u64, n: u64, c: u64) -> u64
     n + (k - 1) * w
 }
 
-// Where a node stands.
+// Where a node stands: its coordinate in each dimension.
 pub struct Place {
-    pub x: u64,
-    pub y: u64,
+    pub at: [u64; DIMENSIONS as usize],
 }
 
-// The next node stands one column on, or at the start of the next row.
-pub fn next_place(s: Sizes, at: Place) -> Place
-    requires { ⌜ (at .x < s .x) × (s .x ≤ largestRing) × (at .y ≤ largestRing) ⌝ }
-    ensures { λ r. ⌜ (r .x < s .x) × (nodeAt s (r .x) (r .y) ≡ nodeAt s (at .x) (at .y) + 1) ⌝ }
+// Where the next node stands: one on in the first dimension that does not go round. Behind the last node comes node 0.
+pub fn next_place(s: Sizes, place: Place) -> Place
+    requires { ⌜ OnTorus s place ⌝ }
+    ensures { λ r. ⌜ OnTorus s r × (nodeAt s r ≡ (nodeAt s place + 1) % nodes (shapeOf s)) ⌝ }
 {
-    if at.x + 1 < s.x {
-        return Place {
-            x: at.x + 1,
-            y: at.y,
-        };
+    let mut at = place.at;
+    let mut i = 0;
+    while i < DIMENSIONS {
+        let c = at[i as usize] + 1;
+        if c < size(s, i) {
+            at[i as usize] = c;
+            return Place { at };
+        }
+        at[i as usize] = 0;
+        i += 1;
     }
-    Place { x: 0, y: at.y + 1 }
+    Place { at }
 }
 
-// The byte of the shorter way from a node to a destination in dimension i.
-fn way_byte(s: Sizes, i: u64, n: u64, destination: u64) -> u64
-    requires { ⌜ RingsFit s × (i < dimensions) × (n < nodes (shapeOf s)) × (destination < nodes (shapeOf s)) ⌝ }
-    ensures { λ r. ⌜ r ≡ byte (offeredWay (shapeOf s) n destination i) ⌝ }
+// The shorter way from a node to a destination in dimension i.
+fn way(s: Sizes, i: u64, n: u64, destination: u64) -> i64
+    requires { ⌜ T (sizesInRange (shapeOf s)) × (i < dimensions) × (n < nodes (shapeOf s)) × (destination < nodes (shapeOf s)) ⌝ }
+    ensures { λ r. ⌜ r ≡ offeredWay (shapeOf s) n destination i ⌝ }
 {
     let k = size(s, i);
     let from = coordinate(s, i, n);
     let to = coordinate(s, i, destination);
-    byte(shorter_way(k, from, to))
+    shorter_way(k, from, to)
 }
 
 // The packet word of an offer.
 pub fn offered(s: Sizes, n: u64, destination: u64, tag: u32) -> u64
-    requires { ⌜ RingsFit s × (n < nodes (shapeOf s)) × (destination < nodes (shapeOf s)) ⌝ }
+    requires { ⌜ T (sizesInRange (shapeOf s)) × (n < nodes (shapeOf s)) × (destination < nodes (shapeOf s)) ⌝ }
     ensures { λ r. ⌜ r ≡ offered (shapeOf s) n destination tag ⌝ }
 {
-    let x = way_byte(s, 0, n, destination);
-    let y = way_byte(s, 1, n, destination);
-    (tag as u64) * 4294967296 + destination * 65536 + x * 256 + y
+    let mut p = (tag as u64) * TAG_AT + destination * DESTINATION_AT;
+    let mut i = 0;
+    while i < DIMENSIONS {
+        p = with_offset(i, way(s, i, n, destination), p);
+        i += 1;
+    }
+    p
 }

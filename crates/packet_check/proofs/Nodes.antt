@@ -1,45 +1,57 @@
--- A node by its column x and its row y. Assumes nothing.
-use mathlib.Core.Path.{_≡_, refl, ap₂, sym, _∙_}
-use Prim.Native.Nat.{ℕ, _+_, _*_, _-_, _%_, _<_}
-use native.Mathlib.Nat.{mul-comm, one-mul}
+-- The node that a packet's hops lead to, by its coordinates, dimension after dimension. Assumes nothing.
+use mathlib.Core.Path.{_≡_, ap, sym, _∙_}
+use Prim.Native.Nat.{ℕ, _+_, _*_, _-_, _%_, _<_, _≤_}
+use native.Mathlib.Nat.{mod-le}
 use native.Mathlib.Omega.{arith}
-use Rattle.network.specs.Sizes.{shapeOf, size}
+use lib.ListN.{getD}
+use Rattle.base.specs.Digits.{weight}
+use Rattle.base.specs.Numbers.{lowest-none, lowest-more, lowest-all}
+use Rattle.network.specs.Sizes.{shapeOf, size, nodes, dimensions, mostNodes, plus, minus}
 use Rattle.network.specs.Packet.{hops}
 use Rattle.network.specs.Torus.{coordinate, movedBy}
-use Rattle.network.specs.TorusLaws.{coordinate-movedBy, movedBy-lt}
-use Rattle.packet.specs.Geometry.{nodeAt, OnTorus}
-use Rattle.packet.specs.GeometryLaws.{rings-torus, rings-nodes, size-x, size-y, node-is, node-lt, column-is, row-is}
+use Rattle.network.specs.TorusLaws.{sizes-torus, sizes-nodes, coordinate-movedBy, movedBy-lt}
 use Rattle.network.specs.declared.Sizes.{Sizes}
+use Rattle.packet.specs.declared.torus.Place.{Place}
+use Rattle.packet.specs.Geometry.{nodeAt, OnTorus}
+use Rattle.packet.specs.GeometryLaws.{place-node, place-coordinate}
 
-module _ (s : Sizes) (x y : ℕ) (on : OnTorus s x y) where
-  -- the node that p's hops lead to, from the coordinates that they lead to, each times its weight
-  pub led : (p a b c d column row : ℕ) → a ≡ hops 0 p → b ≡ hops 1 p → c ≡ hops 2 p → d ≡ hops 3 p
-      → column ≡ 1 * ((x + (a * 1 + b * (s .x - 1))) % s .x) → row ≡ s .x * ((y + (c * 1 + d * (s .y - 1))) % s .y)
-      → row + column ≡ movedBy (shapeOf s) p (nodeAt s x y)
-  led p a b c d column row ea eb ec ed e f =
-      ap₂ (λ (m n : ℕ). m + n) (f ∙ mul-comm (s .x) to-y) (e ∙ one-mul to-x)
-      ∙ node-is {s = s} {x = to-x} {y = to-y} (movedBy (shapeOf s) p (nodeAt s x y)) (on .rings)
-      (movedBy-lt (shapeOf s) (nodeAt s x y) p (rings-torus s (on .rings)) (node-lt s x y on))
-      (at 0 x (s .x) a b to-x (omega arith) (column-is s x y on) (size-x s 0 refl) ea eb refl)
-      (at 1 y (s .y) c d to-y (omega arith) (row-is s x y on) (size-y s 1 refl) ec ed refl)
-    where
-      to-x : ℕ
-      to-x = (x + (a * 1 + b * (s .x - 1))) % s .x
+module _ (s : Sizes) (place : Place) (p : ℕ) where
+  led : ℕ
+  led = movedBy (shapeOf s) p (nodeAt s place)
 
-      to-y : ℕ
-      to-y = (y + (c * 1 + d * (s .y - 1))) % s .y
+  -- its coordinates of the first i dimensions, each times its weight, summed up
+  pub ledBelow : ℕ → ℕ
+  ledBelow i = led % weight (shapeOf s .sizes) i
 
-      at : (i z k a b r : ℕ) → i < 2 → z ≡ coordinate (shapeOf s) i (nodeAt s x y) → k ≡ size (shapeOf s) i → a ≡ hops (2 * i) p → b ≡ hops (2 * i + 1) p
-          → r ≡ (z + (a * 1 + b * (k - 1))) % k → r ≡ coordinate (shapeOf s) i (movedBy (shapeOf s) p (nodeAt s x y))
-      at i z k a b r h ez ek ea eb e =
-          e
-          ∙ ap₂ (λ (u v : ℕ). (u + (a * 1 + b * (v - 1))) % v) ez ek
-          ∙ ap₂ (λ (u v : ℕ). (coordinate (shapeOf s) i (nodeAt s x y) + (u * 1 + v * (size (shapeOf s) i - 1))) % size (shapeOf s) i) ea eb
-          ∙ sym (coordinate-movedBy (shapeOf s) i (nodeAt s x y) p (rings-torus s (on .rings)) h)
+  pub led-none : ledBelow 0 ≡ 0
+  unfolding ledBelow
+  led-none = lowest-none (shapeOf s .sizes) led
 
-  -- it is a small number
-  pub led-small : (p : ℕ) → movedBy (shapeOf s) p (nodeAt s x y) < 256
-  led-small p =
-      let l = movedBy-lt (shapeOf s) (nodeAt s x y) p (rings-torus s (on .rings)) (node-lt s x y on) in
-      let m = rings-nodes s (on .rings) in
+  led-lt : OnTorus s place → led < nodes (shapeOf s)
+  unfolding led
+  led-lt on = movedBy-lt (shapeOf s) (nodeAt s place) p (sizes-torus s (on .sizes)) (place-node on)
+
+  pub led-small : OnTorus s place → (i : ℕ) → ledBelow i < mostNodes
+  unfolding ledBelow
+  led-small on i =
+      let l = led-lt on in
+      let m = sizes-nodes s (on .sizes) in
+      let d = mod-le led (weight (shapeOf s .sizes) i) in
       omega arith
+
+  pub led-more : OnTorus s place → (i r : ℕ) → i < dimensions
+      → r ≡ weight (shapeOf s .sizes) i * ((getD (place .at) i 0 + (hops (plus i) p * 1 + hops (minus i) p * (size (shapeOf s) i - 1))) % size (shapeOf s) i)
+      → ledBelow i + r ≡ ledBelow (i + 1)
+  unfolding ledBelow led coordinate shapeOf
+  led-more on i r h e =
+      ap (λ (c : ℕ). ledBelow i + c)
+      (e
+      ∙ ap (λ (c : ℕ). weight (shapeOf s .sizes) i * c)
+      (ap (λ (c : ℕ). (c + (hops (plus i) p * 1 + hops (minus i) p * (size (shapeOf s) i - 1))) % size (shapeOf s) i) (place-coordinate on i h)
+      ∙ sym (coordinate-movedBy (shapeOf s) i (nodeAt s place) p (sizes-torus s (on .sizes)) h)))
+      ∙ lowest-more (shapeOf s .sizes) led i h
+
+  pub led-all : OnTorus s place → (i : ℕ) → i ≤ dimensions → dimensions ≤ i → ledBelow i ≡ movedBy (shapeOf s) p (nodeAt s place)
+  unfolding ledBelow led nodes shapeOf
+  led-all on i h l =
+      ap (λ (j : ℕ). led % weight (shapeOf s .sizes) j) (let e : i ≡ dimensions = omega arith in e) ∙ lowest-all (shapeOf s .sizes) led (led-lt on)

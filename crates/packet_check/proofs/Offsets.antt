@@ -1,14 +1,14 @@
 -- An offset by how far it stands above -128: its hops forward and back, its limits, a coordinate moved by it. Assumes nothing.
 use mathlib.Core.Path.{_≡_, refl, ap, sym, _∙_}
 use mathlib.Core.Logic.{inl, inr}
-use mathlib.Core.Bool.{Bool, true, false, _&&_, false≢true}
+use mathlib.Core.Bool.{Bool, true, false, _&&_}
 use Prim.Native.Nat.{ℕ, _+_, _*_, _-_, _/_, _%_, _<_, _≤_}
 use native.Mathlib.Decide.{decLt}
 use native.Mathlib.Omega.{arith}
 use borrow.Author.Tests.{le-ltb}
 use lib.Dec.{ltb, ltb→lt, lt→ltb}
 use Rattle.base.specs.Tests.{and-l, and-r, and-i}
-use Rattle.base.specs.Bools.{same-test, and-stop, and-on}
+use Rattle.base.specs.Bools.{same-test, and-stop}
 use Rattle.network.specs.Sizes.{plus, minus}
 use Rattle.base.specs.Digits.{digit}
 use Rattle.network.specs.Packet.{fields, offsetField, signed, forward, backward, offset, hops}
@@ -54,23 +54,23 @@ module _ (forward back above f b : ℕ) where
 
   -- both tests by one: where neither limit is 0, an offset's place above the lowest that passes is compared with how many pass
   pub one-test : 1 ≤ forward → forward ≤ 16 → 1 ≤ back → back ≤ 16 → above < 256 → OneWay f b → above + b ≡ 128 + f
-      → ltb ((above + 127 + back) % 256) (forward + back - 1) ≡ (ltb f forward && ltb b back)
+      → ltb ((above + 128 + back - 1) % 256) (forward + back - 1) ≡ (ltb f forward && ltb b back)
   one-test hf lf hb lb l way e =
       same-test (ltb shifted passing) (ltb f forward && ltb b back)
       (λ t. let p = there way (ltb→lt shifted passing t) in and-i (ltb f forward) (ltb b back) (lt→ltb f forward (p .0)) (lt→ltb b back (p .1)))
       (λ t. lt→ltb shifted passing (again way (ltb→lt f forward (and-l (ltb f forward) (ltb b back) t)) (ltb→lt b back (and-r (ltb f forward) (ltb b back) t))))
     where
       shifted : ℕ
-      shifted = (above + 127 + back) % 256
+      shifted = (above + 128 + back - 1) % 256
 
       passing : ℕ
       passing = forward + back - 1
 
-      there : OneWay f b → (above + 127 + back) % 256 < forward + back - 1 → (f < forward) × (b < back)
+      there : OneWay f b → (above + 128 + back - 1) % 256 < forward + back - 1 → (f < forward) × (b < back)
       there (inl z) m = (omega arith, omega arith)
       there (inr z) m = (omega arith, omega arith)
 
-      again : OneWay f b → f < forward → b < back → (above + 127 + back) % 256 < forward + back - 1
+      again : OneWay f b → f < forward → b < back → (above + 128 + back - 1) % 256 < forward + back - 1
       again (inl z) m n = omega arith
       again (inr z) m n = omega arith
 
@@ -79,12 +79,3 @@ moved-above c k above f b h l e m = ap (λ (n : ℕ). n % k) (same) ∙ moved-is
   where
     same : c + above + k - 128 ≡ c + f + k - b
     same = omega arith
-
--- two tests in a row with the rest, by both together
-pub pair-stop : (a b x : Bool) → a && b ≡ false → a && (b && x) ≡ false
-pair-stop true b x e = and-stop b x e
-pair-stop false b x e = refl
-
-pub pair-on : (a b x : Bool) → a && b ≡ true → a && (b && x) ≡ x
-pair-on true b x e = and-on b x e
-pair-on false b x e = absurd (false≢true e)

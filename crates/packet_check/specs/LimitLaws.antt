@@ -2,27 +2,27 @@
 -- are small; the limits from the clauses, and the clauses from the limits. `d` is a direction, `i` a dimension. Assumes nothing.
 use mathlib.Core.Path.{_≡_, refl, ap, sym, _∙_}
 use mathlib.Core.Logic.{_⊎_, inl, inr, _≢_}
+use mathlib.Core.List.{List}
 use mathlib.Core.Bool.{Bool, true, false, cond, not, _&&_}
 use Prim.Native.Nat.{ℕ, zero, suc, _+_, _/_, _%_, _<_, _≤_}
 use native.Mathlib.Nat.{lt-of-lt-of-le}
 use native.Mathlib.Decide.{ℕ-discrete, decLt}
 use native.Mathlib.Omega.{arith}
 use borrow.Author.Tests.{eq-eqb, ne-eqb, lt-ltb, le-ltb}
+use lib.ListN.{length, getD, set, replicate, length-set, length-replicate}
+use lib.Seq.{getD-set-same, getD-set-other}
 use lib.Dec.{T, ltb, eqb, ltb→lt, lt→ltb, eqb→eq}
-use Rattle.base.specs.Tests.{and-l, and-r, and-i, T-true, passed?, T-false}
+use Rattle.base.specs.Tests.{all-at, all-by, and-l, and-r, and-i, T-true, passed?, T-false}
 use Rattle.base.specs.Bools.{same-test}
-use Rattle.network.specs.Sizes.{Shape, shapeOf, size, nodes, dimensions, directions, dimensionOf, directionOf, isEscape, isPlus, plus, minus, injectionQueue}
+use Rattle.network.specs.Sizes.{Shape, shapeOf, sizesInRange, size, nodes, dimensions, directions, dimensionOf, directionOf, isEscape, isPlus, plus, minus, injectionQueue}
 use Rattle.network.specs.Packet.{destination, distance, hops}
 use Rattle.network.specs.PacketLaws.{one-way, distance-is, hops-le, dimension-lt}
 use Rattle.network.specs.Torus.{movedBy}
-use Rattle.network.specs.TorusLaws.{Torus, movedBy-lt}
+use Rattle.network.specs.TorusLaws.{Torus, sizes-torus, size-pos, movedBy-lt}
 use Rattle.network.specs.Check.{longest, isQueueOf, reach, opposite, packetFits}
 use Rattle.network.specs.CheckLaws.{PacketFits, packet-of, packet-by, eq-T, reach-least, reach-other, opposite-dimension, opposite-lt}
-use Rattle.packet.specs.Geometry.{RingsFit}
-use Rattle.packet.specs.GeometryLaws.{size-x, size-y}
 use Rattle.network.specs.declared.Sizes.{Sizes}
-use Rattle.packet_check.specs.PacketLimits.{limit, limitsOf, LimitsFit, belowLimits, fitsWithin, NoRound}
-use Rattle.packet_check.specs.declared.Limits.{Limits}
+use Rattle.packet_check.specs.PacketLimits.{limit, LimitsOf, LimitsFit, belowAlong, belowLimits, fitsWithin, NoRound}
 
 -- The limits by the queue's direction -------------------------------------------------------------------------------------------------
 
@@ -98,90 +98,66 @@ module _ (S : Shape) (q d : ℕ) where
 half-most : (k : ℕ) → 1 ≤ k → k / 2 + 1 ≤ k
 half-most k h = omega arith
 
-pub limits-fit : (s : Sizes) (q : ℕ) → RingsFit s → LimitsFit s (limitsOf (shapeOf s) q)
-unfolding limitsOf
-limits-fit s q r =
-    record {
-      x-plus = small 0 (s .x) (r .x-least) (size-x s 0 refl);
-      x-minus = small 1 (s .x) (r .x-least) (size-x s 0 refl);
-      y-plus = small 2 (s .y) (r .y-least) (size-y s 1 refl);
-      y-minus = small 3 (s .y) (r .y-least) (size-y s 1 refl);
-    }
+pub limits-fit : (s : Sizes) (q : ℕ) (l : List ℕ) → T (sizesInRange (shapeOf s)) → LimitsOf (shapeOf s) q l → LimitsFit s l
+limits-fit s q l t of d h =
+    let m : limit (shapeOf s) q d ≤ longest (shapeOf s) (dimensionOf d) + 1 = limit-most (shapeOf s) q d in
+    let k = half-most (size (shapeOf s) (dimensionOf d)) (size-pos (shapeOf s) (dimensionOf d) (sizes-torus s t) (dimension-lt d h)) in
+    let e = of d h in
+    omega arith
+
+-- the limits of the directions before d
+pub record LimitsTo (S : Shape) (q d : ℕ) (l : List ℕ) : Type 0 where
+  pub words : length l ≡ directions
+  pub at : (e : ℕ) → e < d → getD l e 0 ≡ limit S q e
+
+pub limits-none : (S : Shape) (q : ℕ) → LimitsTo S q 0 (replicate directions 0)
+limits-none S q = record { words = length-replicate {A = ℕ} directions 0; at = λ e h. absurd (none e h) }
   where
-    small : (d k : ℕ) → 1 ≤ k → k ≡ size (shapeOf s) (dimensionOf d) → limit (shapeOf s) q d ≤ k
-    small d k l e =
-        let m : limit (shapeOf s) q d ≤ longest (shapeOf s) (dimensionOf d) + 1 = limit-most (shapeOf s) q d in
-        let h : k / 2 + 1 ≤ k = half-most k l in
-        omega arith
+    none : (e : ℕ) → e < 0 → ⊥
+    none e h = omega arith
+
+pub limits-more : (S : Shape) (q d : ℕ) (l : List ℕ) (v : ℕ) → LimitsTo S q d l → d < directions → v ≡ limit S q d → LimitsTo S q (d + 1) (set l d v)
+limits-more S q d l v to h e = record { words = length-set l d v ∙ to .words; at = λ f k. each f k (ℕ-discrete f d) }
+  where
+    each : (f : ℕ) → f < d + 1 → Dec (f ≡ d) → getD (set l d v) f 0 ≡ limit S q f
+    each f k (yes s) =
+        let w = to .words in
+        ap (λ (i : ℕ). getD (set l d v) i 0) s ∙ getD-set-same l d v 0 (omega arith) ∙ e ∙ ap (limit S q) (sym s)
+    each f k (no ne) = getD-set-other l d f v 0 ne ∙ to .at f (omega arith)
 
 -- hops that are below limits, direction by direction
-record Below (l : Limits) (p : ℕ) : Type 0 where
-  x-plus : hops 0 p < l .0
-  x-minus : hops 1 p < l .1
-  y-plus : hops 2 p < l .2
-  y-minus : hops 3 p < l .3
-
-below : (l : Limits) (p : ℕ) → T (belowLimits l p) → Below l p
-unfolding belowLimits
-below l p t =
-    record {
-      x-plus = ltb→lt (hops 0 p) (l .0) (and-l a (b && (c && d)) t);
-      x-minus = ltb→lt (hops 1 p) (l .1) (and-l b (c && d) (and-r a (b && (c && d)) t));
-      y-plus = ltb→lt (hops 2 p) (l .2) (and-l c d (and-r b (c && d) (and-r a (b && (c && d)) t)));
-      y-minus = ltb→lt (hops 3 p) (l .3) (and-r c d (and-r b (c && d) (and-r a (b && (c && d)) t)));
-    }
+below-of : (l : List ℕ) (p : ℕ) → T (belowLimits l p) → (d : ℕ) → d < directions → hops d p < getD l d 0
+unfolding belowLimits belowAlong
+below-of l p t d h = by (ℕ-discrete d (plus (dimensionOf d)))
   where
-    a : Bool
-    a = ltb (hops 0 p) (l .0)
+    test : ℕ → Bool
+    test e = ltb (hops e p) (getD l e 0)
 
-    b : Bool
-    b = ltb (hops 1 p) (l .1)
+    both : T (test (plus (dimensionOf d)) && test (minus (dimensionOf d)))
+    both = all-at dimensions (λ i. test (plus i) && test (minus i)) t (dimensionOf d) (dimension-lt d h)
 
-    c : Bool
-    c = ltb (hops 2 p) (l .2)
+    passed : (e : ℕ) → d ≡ e → T (test e) → hops d p < getD l d 0
+    passed e s u = rw s (ltb→lt (hops e p) (getD l e 0) u)
 
-    d : Bool
-    d = ltb (hops 3 p) (l .3)
+    by : Dec (d ≡ plus (dimensionOf d)) → hops d p < getD l d 0
+    by (yes e) = passed (plus (dimensionOf d)) e (and-l (test (plus (dimensionOf d))) (test (minus (dimensionOf d))) both)
+    by (no ne) = passed (minus (dimensionOf d)) (omega arith) (and-r (test (plus (dimensionOf d))) (test (minus (dimensionOf d))) both)
+
+below-by : (l : List ℕ) (p : ℕ) → ((d : ℕ) → d < directions → hops d p < getD l d 0) → T (belowLimits l p)
+unfolding belowLimits belowAlong
+below-by l p h = all-by dimensions (λ i. test (plus i) && test (minus i)) (λ i k. and-i (test (plus i)) (test (minus i)) (passes (plus i) (omega arith)) (passes (minus i) (omega arith)))
+  where
+    test : ℕ → Bool
+    test e = ltb (hops e p) (getD l e 0)
+
+    passes : (d : ℕ) → d < directions → T (test d)
+    passes d k = lt→ltb (hops d p) (getD l d 0) (h d k)
 
 -- below limits that fit, no ring is gone round
-pub no-round : (s : Sizes) (l : Limits) (p : ℕ) → LimitsFit s l → T (belowLimits l p) → NoRound s p
-no-round s l p f t =
-    let b = below l p t in
-    record {
-      x-plus = lt-of-lt-of-le (b .x-plus) (f .x-plus);
-      x-minus = lt-of-lt-of-le (b .x-minus) (f .x-minus);
-      y-plus = lt-of-lt-of-le (b .y-plus) (f .y-plus);
-      y-minus = lt-of-lt-of-le (b .y-minus) (f .y-minus);
-    }
+pub no-round : (s : Sizes) (l : List ℕ) (p : ℕ) → LimitsFit s l → T (belowLimits l p) → NoRound s p
+no-round s l p f t d h = lt-of-lt-of-le (below-of l p t d h) (f d h)
 
 -- The limits from the clauses, and the clauses from the limits ------------------------------------------------------------------------
-
-below-by : (S : Shape) (q p : ℕ) → ((d : ℕ) → d < directions → hops d p < limit S q d) → T (belowLimits (limitsOf S q) p)
-unfolding belowLimits limitsOf
-below-by S q p h =
-    and-i (t 0) (t 1 && (t 2 && t 3)) (passes 0 (omega arith))
-    (and-i (t 1) (t 2 && t 3) (passes 1 (omega arith))
-    (and-i (t 2) (t 3) (passes 2 (omega arith)) (passes 3 (omega arith))))
-  where
-    t : ℕ → Bool
-    t d = ltb (hops d p) (limit S q d)
-
-    passes : (d : ℕ) → d < directions → T (t d)
-    passes d k = lt→ltb (hops d p) (limit S q d) (h d k)
-
-below-of : (S : Shape) (q p : ℕ) → T (belowLimits (limitsOf S q) p) → (d : ℕ) → d < directions → hops d p < limit S q d
-unfolding limitsOf
-below-of S q p t d k = go (below (limitsOf S q) p t) d k
-  where
-    none : (d : ℕ) → suc (suc (suc (suc d))) < directions → ⊥
-    none d k = omega arith
-
-    go : Below (limitsOf S q) p → (d : ℕ) → d < directions → hops d p < limit S q d
-    go b zero k = b .x-plus
-    go b (suc zero) k = b .x-minus
-    go b (suc (suc zero)) k = b .y-plus
-    go b (suc (suc (suc zero))) k = b .y-minus
-    go b (suc (suc (suc (suc d)))) k = absurd (none d k)
 
 -- in a queue of a dimension one more than the distance is bounded
 reach-own : (q p : ℕ) → q ≢ injectionQueue → reach (dimensionOf (directionOf q)) q p ≡ distance (dimensionOf (directionOf q)) p + 1
@@ -340,17 +316,21 @@ module _ (S : Shape) (n q p : ℕ) where
               omega arith
 
   -- the check of a packet is that of its limits
-  pub fits-is : Torus S → n < nodes S → packetFits S n q p ≡ fitsWithin S n (limitsOf S q) p
+  pub fits-is : (l : List ℕ) → LimitsOf S q l → Torus S → n < nodes S → packetFits S n q p ≡ fitsWithin S n l p
   unfolding fitsWithin
-  fits-is torus hn =
+  fits-is l of torus hn =
       same-test (packetFits S n q p) (near && there)
-      (λ t. let f = packet-of S n q p t in and-i near there (below-by S q p (hops-below f)) (eq-T (destination p) (movedBy S p n) (sym (f .arrives))))
+      (λ t.
+      let f = packet-of S n q p t in
+      and-i near there (below-by l p (λ d h. let b = hops-below f d h in let e = of d h in omega arith))
+      (eq-T (destination p) (movedBy S p n) (sym (f .arrives))))
       (λ t.
       packet-by S n q p
-      (clauses torus hn (below-of S q p (and-l near there t)) (sym (eqb→eq (destination p) (movedBy S p n) (and-r near there t)))))
+      (clauses torus hn (λ d h. let b = below-of l p (and-l near there t) d h in let e = of d h in omega arith)
+      (sym (eqb→eq (destination p) (movedBy S p n) (and-r near there t)))))
     where
       near : Bool
-      near = belowLimits (limitsOf S q) p
+      near = belowLimits l p
 
       there : Bool
       there = eqb (destination p) (movedBy S p n)

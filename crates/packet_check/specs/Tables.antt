@@ -1,16 +1,28 @@
--- A ring's coordinates as a table, so that a move along it is looked up and not divided. Order: one ring; both rings of a torus. Assumes nothing.
+-- The coordinates of the rings as a table, so that a move along one is looked up and not divided. Order: one ring; those of the first dimensions, and
+-- of all. Assumes nothing.
 use mathlib.Core.Path.{_≡_}
 use mathlib.Core.List.{List}
-use Prim.Native.Nat.{ℕ, _*_, _%_, _<_}
+use Prim.Native.Nat.{ℕ, _+_, _*_, _%_, _<_}
 use lib.ListN.{length, getD}
+use Rattle.base.specs.Digits.{weight}
+use Rattle.network.specs.Sizes.{shapeOf, size, dimensions, largestRing}
 use Rattle.network.specs.declared.Sizes.{Sizes}
 
--- three rounds of a ring of k nodes: word i is w times the coordinate of the node that i hops lead to from coordinate 0
-pub record RingTable (ring : List ℕ) (k w : ℕ) : Type 0 where
-  pub words : length ring ≡ 48
-  pub at : (i : ℕ) → i < 3 * k → getD ring i 0 ≡ w * (i % k)
+-- three rounds of the largest ring, one behind the other for all dimensions
+abbrev pub ringWords : ℕ
+ringWords = 3 * largestRing
 
--- both rings of a torus, each with the weight that its coordinate has in a node's number, y × X + x
-pub record Tables (s : Sizes) (columns rows : List ℕ) : Type 0 where
-  pub along-x : RingTable columns (s .x) 1
-  pub along-y : RingTable rows (s .y) (s .x)
+abbrev pub tableWords : ℕ
+tableWords = dimensions * ringWords
+
+-- three rounds of a ring of k nodes: the j-th word is w times the coordinate of the node that j hops lead to from coordinate 0
+abbrev pub RingTable : List ℕ → ℕ → ℕ → ℕ → Type 0
+RingTable tables start k w = (j : ℕ) → j < 3 * k → getD tables (start + j) 0 ≡ w * (j % k)
+
+-- each ring with the weight that its coordinate has in a node's number
+pub record TablesTo (s : Sizes) (count : ℕ) (tables : List ℕ) : Type 0 where
+  pub words : length tables ≡ tableWords
+  pub ring : (i : ℕ) → i < count → RingTable tables (i * ringWords) (size (shapeOf s) i) (weight (shapeOf s .sizes) i)
+
+abbrev pub Tables : Sizes → List ℕ → Type 0
+Tables s tables = TablesTo s dimensions tables

@@ -16,8 +16,7 @@ use Rattle.network.specs.Packet.{work}
 use Rattle.network.specs.Layout.{countOf, packetsOf, unusedOf, queueLength}
 use Rattle.network.specs.TorusLaws.{Torus}
 use Rattle.network.specs.Check.{packetFits}
-use Rattle.packet_check.specs.declared.Limits.{Limits}
-use Rattle.packet_check.specs.PacketLimits.{limitsOf, fitsWithin}
+use Rattle.packet_check.specs.PacketLimits.{LimitsOf, fitsWithin}
 use Rattle.packet_check.specs.LimitLaws.{fits-is}
 use Rattle.queue_check.specs.QueueTally.{tally, partFits}
 
@@ -52,12 +51,11 @@ module _ (S : Shape) (n q : ℕ) (part : List ℕ) (long : length part ≡ queue
   unfolding partFits
   part-packets h e = and-on _ _ (few h) ∙ and-on _ _ (ap (allOf (eqb 0)) (sym unused) ∙ e)
 
-  pub part-limits : (l : Limits) → l ≡ limitsOf S q → Torus S → n < nodes S → countOf part < length part → allOf (eqb 0) (drop (countOf part + 1) part) ≡ true
+  pub part-limits : (l : List ℕ) → LimitsOf S q l → Torus S → n < nodes S → countOf part < length part → allOf (eqb 0) (drop (countOf part + 1) part) ≡ true
       → partFits S n q part ≡ allOf (fitsWithin S n l) (packetsOf part)
-  part-limits l el torus hn h e =
+  part-limits l of torus hn h e =
       part-packets h e
-      ∙ all-same (packetFits S n q) (fitsWithin S n (limitsOf S q)) (packetsOf part) (λ p. fits-is S n q p torus hn)
-      ∙ ap (λ (k : Limits). allOf (fitsWithin S n k) (packetsOf part)) (sym el)
+      ∙ all-same (packetFits S n q) (fitsWithin S n l) (packetsOf part) (λ p. fits-is S n q p l of torus hn)
 
   -- it holds nothing
   pub part-empty : countOf part ≡ 0 → countOf part < length part → allOf (eqb 0) (drop (countOf part + 1) part) ≡ true

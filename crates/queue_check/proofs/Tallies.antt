@@ -150,15 +150,6 @@ module _ (f : ℕ → Bool) (g h : ℕ → ℕ) where
 
 -- Bounds ----------------------------------------------------------------------------------------------------------------------------------
 
-pub below-most : (n m : ℕ) (g : ℕ → ℕ) → ((i : ℕ) → i < n → g i ≤ m) → sumBelow n g ≤ n * m
-unfolding sumBelow
-below-most zero m g h = omega arith
-below-most (suc n) m g h =
-    let a = below-most n m g (λ i l. h i (le-step l)) in
-    let b = h n (native.Mathlib.Nat.lt-suc-self n) in
-    let c = suc-mul n m in
-    omega arith
-
 pub of-most : (m : ℕ) (g : ℕ → ℕ) (l : List ℕ) → ((x : ℕ) → g x ≤ m) → sumOf g l ≤ length l * m
 unfolding sumOf
 of-most m g [] h = omega arith

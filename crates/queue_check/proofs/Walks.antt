@@ -3,28 +3,31 @@
 use mathlib.Core.Path.{_≡_, ap, ap₂, sym, _∙_}
 use mathlib.Core.Bool.{Bool, true, false}
 use mathlib.Core.List.{List}
-use Prim.Native.Nat.{ℕ, suc, _+_, _*_, _<_, _≤_}
+use Prim.Native.Nat.{ℕ, suc, _+_, _*_, _%_, _<_, _≤_}
 use native.Mathlib.Numerals.{add-one}
 use native.Mathlib.Nat.{min-le-right, suc-mul, mul-le-mul-right}
 use native.Mathlib.Omega.{arith}
-use lib.ListN.{length, take, drop, length-take, length-drop}
+use lib.Dec.{T}
+use lib.ListN.{length, take, drop, replicate, length-take, length-drop}
 use Rattle.base.specs.Tests.{allBelow}
-use Rattle.base.specs.Sums.{sumBelow, sumOf}
+use Rattle.base.specs.Sums.{sumBelow, sumOf, sum-most}
 use Rattle.base.specs.Parts.{span}
-use Rattle.network.specs.Sizes.{Shape, shapeOf, nodes, queues, capacity}
+use Rattle.network.specs.Sizes.{Shape, shapeOf, sizesInRange, dimensions, nodes, queues, capacity}
 use Rattle.network.specs.SizesLaws.{range-of, capacity-most}
 use Rattle.network.specs.Packet.{work}
-use Rattle.network.specs.Layout.{need, nodeWords, queueStart, queueEnd, queueLength, queuePart, countOf, packetsOf, held, total}
+use Rattle.network.specs.Layout.{headerWords, need, nodeWords, queueStart, queueEnd, queueLength, queuePart, countOf, packetsOf, held, total}
 use Rattle.network.specs.LayoutLaws.{Fits, end-next, end-length, length-queuePart}
 use Rattle.network.specs.Check.{queueFits, queuesFit, packetsHeld, workLeft}
-use Rattle.packet.specs.Geometry.{RingsFit, nodeAt, OnTorus}
-use Rattle.packet.specs.GeometryLaws.{rings-nodes, stands}
+use Rattle.network.specs.TorusLaws.{sizes-nodes}
+use Rattle.packet.specs.declared.torus.Place.{Place}
+use Rattle.packet.specs.Geometry.{nodeAt, OnTorus, WalkTo}
+use Rattle.packet.specs.GeometryLaws.{walk-start, walk-next}
 use Rattle.network.specs.declared.Sizes.{Sizes}
 use Rattle.queue.specs.Queue.{Enough}
 use Rattle.queue_check.specs.declared.Tally.{Tally}
 use Rattle.queue_check.specs.QueueTally.{tally, partFits, nodeTally}
 use Rattle.queue_check.specs.TallyLaws.{tally-fails}
-use Rattle.queue_check.proofs.Tallies.{Upto, upto-start, upto-more, upto-stop, upto-end, below-most, of-most, work-most}
+use Rattle.queue_check.proofs.Tallies.{Upto, upto-start, upto-more, upto-stop, upto-end, of-most, work-most}
 
 -- What every queue comes to ---------------------------------------------------------------------------------------------------------------
 
@@ -68,12 +71,12 @@ module _ (S : Shape) (w : List ℕ) (enough : Enough S w) (n : ℕ) (node : n < 
   -- the sums over a node's queues
   pub node-holds : (k : ℕ) → k ≤ queues → sumBelow k (holds S w n) ≤ 72
   node-holds k h =
-      let a = below-most k 8 (holds S w n) (λ q l. holds-most q (let b : q < queues = omega arith in b)) in
+      let a = sum-most k 8 (holds S w n) (λ q l. holds-most q (let b : q < queues = omega arith in b)) in
       omega arith
 
   pub node-works : (k : ℕ) → k ≤ queues → sumBelow k (works S w n) ≤ 36792
   node-works k h =
-      let a = below-most k 4088 (works S w n) (λ q l. works-most q (let b : q < queues = omega arith in b)) in
+      let a = sum-most k 4088 (works S w n) (λ q l. works-most q (let b : q < queues = omega arith in b)) in
       omega arith
 
 -- A node's queues -------------------------------------------------------------------------------------------------------------------------
@@ -148,36 +151,32 @@ nodeHolds S w n = sumBelow queues (holds S w n)
 abbrev pub nodeWorks : Shape → List ℕ → ℕ → ℕ
 nodeWorks S w n = sumBelow queues (works S w n)
 
--- those before n have been tested and summed, n stands in column x and row y, and its words begin at `start`
-pub record NetWalk (s : Sizes) (w : List ℕ) (n x y start held work : ℕ) : Type 0 where
-  pub place : start ≡ queueStart (shapeOf s) n 0
-  pub node : nodeAt s x y ≡ n
-  pub column : x < s .x
+-- those before n have been tested and summed, the walk has come to n, and its words begin at `start`
+pub record NetWalk (s : Sizes) (w : List ℕ) (n : ℕ) (place : Place) (start held work : ℕ) : Type 0 where
+  pub first : start ≡ queueStart (shapeOf s) n 0
+  pub walk : WalkTo s n place
   pub upto : Upto (nodeFits (shapeOf s) w) (nodeHolds (shapeOf s) w) (nodeWorks (shapeOf s) w) n held work
   pub within : n ≤ nodes (shapeOf s)
 
 module _ (s : Sizes) (w : List ℕ) where
-  pub net-start : RingsFit s → NetWalk s w 0 0 0 8 0 0
+  pub net-start : T (sizesInRange (shapeOf s)) → NetWalk s w 0 (record { at = replicate dimensions 0 }) headerWords 0 0
   unfolding queueStart sumBelow
-  net-start r =
+  net-start t =
       record {
-        place = omega arith;
-        node = omega arith;
-        column = r .x-least;
+        first = omega arith;
+        walk = walk-start s t;
         upto = upto-start (nodeFits (shapeOf s) w) (nodeHolds (shapeOf s) w) (nodeWorks (shapeOf s) w);
         within = omega arith;
       }
 
-  pub net-on : RingsFit s → (n x y start held work : ℕ) → NetWalk s w n x y start held work → n < nodes (shapeOf s) → OnTorus s x y
-  net-on r n x y start held work walk h = stands s x y n r (walk .node) (walk .column) h
+  pub net-first : (n : ℕ) (place : Place) (start held work : ℕ) → NetWalk s w n place start held work → n < nodes (shapeOf s)
+      → start ≡ queueStart (shapeOf s) (nodeAt s place) 0
+  net-first n place start held work net h = net .first ∙ ap (λ (m : ℕ). queueStart (shapeOf s) m 0) (sym (net .walk .node h))
 
-  pub net-first : (n x y start held work : ℕ) → NetWalk s w n x y start held work → start ≡ queueStart (shapeOf s) (nodeAt s x y) 0
-  net-first n x y start held work walk = walk .place ∙ ap (λ (m : ℕ). queueStart (shapeOf s) m 0) (sym (walk .node))
-
-  pub net-tally : (n x y start held work : ℕ) (t : Tally) → NetWalk s w n x y start held work → t ≡ nodeTally (shapeOf s) w (nodeAt s x y)
+  pub net-tally : (n : ℕ) (place : Place) (start held work : ℕ) (t : Tally) → NetWalk s w n place start held work → n < nodes (shapeOf s) → t ≡ nodeTally (shapeOf s) w (nodeAt s place)
       → t ≡ tally (nodeFits (shapeOf s) w n) (nodeHolds (shapeOf s) w n) (nodeWorks (shapeOf s) w n)
   unfolding nodeTally
-  net-tally n x y start held work t walk e = e ∙ ap (nodeTally (shapeOf s) w) (walk .node)
+  net-tally n place start held work t net h e = e ∙ ap (nodeTally (shapeOf s) w) (net .walk .node h)
 
   -- the next node's words begin behind this one's
   net-next : (n words : ℕ) → words ≡ nodeWords (shapeOf s) → queueStart (shapeOf s) n 0 + words ≡ queueStart (shapeOf s) (n + 1) 0
@@ -188,63 +187,62 @@ module _ (s : Sizes) (w : List ℕ) where
       omega arith
 
   -- and within the words, or at their end
-  pub net-within : Enough (shapeOf s) w → (n x y start held work words : ℕ) → NetWalk s w n x y start held work → n < nodes (shapeOf s)
+  pub net-within : Enough (shapeOf s) w → (n : ℕ) (place : Place) (start held work words : ℕ) → NetWalk s w n place start held work → n < nodes (shapeOf s)
       → words ≡ nodeWords (shapeOf s) → start + words ≤ length w
   unfolding queueStart sumBelow need
-  net-within enough n x y start held work words walk h e =
-      let p : start ≡ 8 + n * nodeWords (shapeOf s) + 0 = walk .place in
-      let l : 8 + nodes (shapeOf s) * nodeWords (shapeOf s) ≤ length w = enough .long in
+  net-within enough n place start held work words net h e =
+      let p : start ≡ headerWords + n * nodeWords (shapeOf s) + 0 = net .first in
+      let l : headerWords + nodes (shapeOf s) * nodeWords (shapeOf s) ≤ length w = enough .long in
       let m : suc n * nodeWords (shapeOf s) ≤ nodes (shapeOf s) * nodeWords (shapeOf s) = mul-le-mul-right (nodeWords (shapeOf s)) h in
       let a : suc n * nodeWords (shapeOf s) ≡ n * nodeWords (shapeOf s) + nodeWords (shapeOf s) = suc-mul n (nodeWords (shapeOf s)) in
       omega arith
 
-  pub net-more : (n x y start held work words x′ y′ : ℕ) (t : Tally) → NetWalk s w n x y start held work → n < nodes (shapeOf s)
-      → words ≡ nodeWords (shapeOf s) → t ≡ nodeTally (shapeOf s) w (nodeAt s x y) → t .ok ≡ true
-      → x′ < s .x → nodeAt s x′ y′ ≡ nodeAt s x y + 1 → NetWalk s w (n + 1) x′ y′ (start + words) (held + t .held) (work + t .work)
-  net-more n x y start held work words x′ y′ t walk h ew e ok c en =
+  pub net-more : (n : ℕ) (place : Place) (start held work words : ℕ) (next : Place) (t : Tally) → NetWalk s w n place start held work → n < nodes (shapeOf s)
+      → words ≡ nodeWords (shapeOf s) → t ≡ nodeTally (shapeOf s) w (nodeAt s place) → t .ok ≡ true
+      → OnTorus s next → nodeAt s next ≡ (nodeAt s place + 1) % nodes (shapeOf s) → NetWalk s w (n + 1) next (start + words) (held + t .held) (work + t .work)
+  net-more n place start held work words next t net h ew e ok on en =
       record {
-        place = ap (λ (k : ℕ). k + words) (walk .place) ∙ net-next n words ew;
-        node = en ∙ ap (λ (k : ℕ). k + 1) (walk .node);
-        column = c;
+        first = ap (λ (k : ℕ). k + words) (net .first) ∙ net-next n words ew;
+        walk = walk-next s n place next (net .walk) h on en;
         upto =
-            upto-more (nodeFits (shapeOf s) w) (nodeHolds (shapeOf s) w) (nodeWorks (shapeOf s) w) n held work t (walk .upto)
-            (net-tally n x y start held work t walk e) ok;
+            upto-more (nodeFits (shapeOf s) w) (nodeHolds (shapeOf s) w) (nodeWorks (shapeOf s) w) n held work t (net .upto)
+            (net-tally n place start held work t net h e) ok;
         within = omega arith;
       }
 
   -- the sums are small
-  pub net-small : Enough (shapeOf s) w → RingsFit s → (n held work : ℕ) (t : Tally)
+  pub net-small : Enough (shapeOf s) w → (n held work : ℕ) (t : Tally)
       → Upto (nodeFits (shapeOf s) w) (nodeHolds (shapeOf s) w) (nodeWorks (shapeOf s) w) n held work → n < nodes (shapeOf s)
       → t ≡ tally (nodeFits (shapeOf s) w n) (nodeHolds (shapeOf s) w n) (nodeWorks (shapeOf s) w n) → t .ok ≡ true
       → (held + t .held ≤ 18432) × (work + t .work ≤ 9418752)
-  net-small enough r n held work t upto h e ok = sums (upto-more (nodeFits S w) (nodeHolds S w) (nodeWorks S w) n held work t upto e ok)
+  net-small enough n held work t upto h e ok = sums (upto-more (nodeFits S w) (nodeHolds S w) (nodeWorks S w) n held work t upto e ok)
     where
       S : Shape
       S = shapeOf s
 
       sums : Upto (nodeFits S w) (nodeHolds S w) (nodeWorks S w) (n + 1) (held + t .held) (work + t .work) → (held + t .held ≤ 18432) × (work + t .work ≤ 9418752)
       sums u =
-          let m = rings-nodes s r in
-          let a = below-most (n + 1) 72 (nodeHolds S w) (λ k l. node-holds S w enough k (let b : k < nodes S = omega arith in b) queues (omega arith)) in
-          let b = below-most (n + 1) 36792 (nodeWorks S w) (λ k l. node-works S w enough k (let b : k < nodes S = omega arith in b) queues (omega arith)) in
+          let m = sizes-nodes s (enough .sizes) in
+          let a = sum-most (n + 1) 72 (nodeHolds S w) (λ k l. node-holds S w enough k (let b : k < nodes S = omega arith in b) queues (omega arith)) in
+          let b = sum-most (n + 1) 36792 (nodeWorks S w) (λ k l. node-works S w enough k (let b : k < nodes S = omega arith in b) queues (omega arith)) in
           let c = u .packets in
           let d = u .hops-left in
           (omega arith, omega arith)
 
-  pub net-stop : (n x y start held work : ℕ) (t r : Tally) → NetWalk s w n x y start held work → n < nodes (shapeOf s)
-      → t ≡ nodeTally (shapeOf s) w (nodeAt s x y) → t .ok ≡ false → ((held work : ℕ) → r ≡ tally false held work)
+  pub net-stop : (n : ℕ) (place : Place) (start held work : ℕ) (t r : Tally) → NetWalk s w n place start held work → n < nodes (shapeOf s)
+      → t ≡ nodeTally (shapeOf s) w (nodeAt s place) → t .ok ≡ false → ((held work : ℕ) → r ≡ tally false held work)
       → r ≡ tally (queuesFit (shapeOf s) w) (packetsHeld (shapeOf s) w) (workLeft (shapeOf s) w)
   unfolding queuesFit packetsHeld workLeft total
-  net-stop n x y start held work t r walk h e no′ u =
+  net-stop n place start held work t r net h e no′ u =
       tally-fails r (queuesFit (shapeOf s) w) (packetsHeld (shapeOf s) w) (workLeft (shapeOf s) w) u
       (upto-stop (nodeFits (shapeOf s) w) (nodeHolds (shapeOf s) w) (nodeWorks (shapeOf s) w) (nodes (shapeOf s)) n t h
-      (net-tally n x y start held work t walk e) no′)
+      (net-tally n place start held work t net h e) no′)
 
-  pub net-done : (n x y start held work : ℕ) → NetWalk s w n x y start held work → nodes (shapeOf s) ≤ n
+  pub net-done : (n : ℕ) (place : Place) (start held work : ℕ) → NetWalk s w n place start held work → nodes (shapeOf s) ≤ n
       → record { ok = true; held = held; work = work } ≡ tally (queuesFit (shapeOf s) w) (packetsHeld (shapeOf s) w) (workLeft (shapeOf s) w)
   unfolding queuesFit packetsHeld workLeft total
-  net-done n x y start held work walk h =
-      let m = walk .within in
+  net-done n place start held work net h =
+      let m = net .within in
       let e : n ≡ nodes (shapeOf s) = omega arith in
-      let u : Upto (nodeFits (shapeOf s) w) (nodeHolds (shapeOf s) w) (nodeWorks (shapeOf s) w) n held work = walk .upto in
+      let u : Upto (nodeFits (shapeOf s) w) (nodeHolds (shapeOf s) w) (nodeWorks (shapeOf s) w) n held work = net .upto in
       upto-end (nodeFits (shapeOf s) w) (nodeHolds (shapeOf s) w) (nodeWorks (shapeOf s) w) (nodes (shapeOf s)) held work (rw e at u)

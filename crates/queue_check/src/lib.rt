@@ -1,11 +1,13 @@
 // The queues' clauses of the check, and the sums over their packets, in one pass over the words: from a queue's own words to all nodes.
+use network::DIMENSIONS;
+use network::DIRECTIONS;
 use network::HEADER_WORDS;
 use network::QUEUES;
 use network::Sizes;
 use packet::torus::Place;
 use packet::torus::next_place;
-use packet_check::Limits;
-use packet_check::fill_ring;
+use packet_check::TABLE_WORDS;
+use packet_check::fill_tables;
 use packet_check::limits_of;
 use packet_check::packet_fits;
 ghost use mathlib.Core.Path.{_≡_};
@@ -15,7 +17,7 @@ ghost use lib.Dec.{eqb};
 ghost use lib.ListN.{length, drop};
 ghost use Rattle.base.specs.Tests.{allOf};
 ghost use Rattle.base.specs.Sums.{sumOf};
-ghost use Rattle.network.specs.Sizes.{shapeOf};
+ghost use Rattle.network.specs.Sizes.{shapeOf, largestCapacity};
 ghost use Rattle.network.specs.Packet.{work};
 ghost use Rattle.network.specs.Layout.{countOf, packetsOf, queueStart, queueLength};
 ghost use Rattle.network.specs.Check.{queuesFit, packetsHeld, workLeft};
@@ -65,16 +67,14 @@ fn all_zero(part: &[u64], from: usize) -> bool
 // The packets of a queue's words, which hold no more than they have room for.
 fn packets_fit(
     part: &[u64],
-    columns: &[u64],
-    rows: &[u64],
+    tables: &[u64],
     s: Sizes,
-    x: u64,
-    y: u64,
-    l: Limits,
+    place: Place,
+    l: [u64; DIRECTIONS as usize],
 ) -> Tally
-    requires { ⌜ OnTorus s x y × LimitsFit s l × (countOf (now part) < length (now part)) × (length (now part) ≤ 9)
-        × Tables s (now columns) (now rows) ⌝ }
-    ensures { λ r. ⌜ r ≡ tally (allOf (fitsWithin (shapeOf s) (nodeAt s x y) l) (packetsOf (now (part .entry))))
+    requires { ⌜ OnTorus s place × LimitsFit s l × (countOf (now part) < length (now part)) × (length (now part) ≤ largestCapacity + 1)
+        × Tables s (now tables) ⌝ }
+    ensures { λ r. ⌜ r ≡ tally (allOf (fitsWithin (shapeOf s) (nodeAt s place) l) (packetsOf (now (part .entry))))
         (length (packetsOf (now (part .entry)))) (sumOf work (packetsOf (now (part .entry)))) ⌝ }
 {
     let count = part[0] as usize;
@@ -82,7 +82,7 @@ fn packets_fit(
     let mut i = 0;
     while i < count {
         let p = part[i + 1];
-        if !packet_fits(columns, rows, s, x, y, l, p) {
+        if !packet_fits(tables, s, place, l, p) {
             return unfit();
         }
         work += packet::work(p);
@@ -95,19 +95,11 @@ fn packets_fit(
     }
 }
 
-// The words of queue q of the node in column x and row y. Most queues are empty, and need no limits.
-fn queue_fits(
-    part: &[u64],
-    columns: &[u64],
-    rows: &[u64],
-    s: Sizes,
-    x: u64,
-    y: u64,
-    q: u64,
-) -> Tally
-    requires { ⌜ OnTorus s x y × (length (now part) ≡ queueLength (shapeOf s) q) × (length (now part) ≤ 9)
-        × Tables s (now columns) (now rows) ⌝ }
-    ensures { λ r. ⌜ r ≡ tally (partFits (shapeOf s) (nodeAt s x y) q (now (part .entry)))
+// The words of queue q of the node that stands there. Most queues are empty, and need no limits.
+fn queue_fits(part: &[u64], tables: &[u64], s: Sizes, place: Place, q: u64) -> Tally
+    requires { ⌜ OnTorus s place × (length (now part) ≡ queueLength (shapeOf s) q) × (length (now part) ≤ largestCapacity + 1)
+        × Tables s (now tables) ⌝ }
+    ensures { λ r. ⌜ r ≡ tally (partFits (shapeOf s) (nodeAt s place) q (now (part .entry)))
         (length (packetsOf (now (part .entry)))) (sumOf work (packetsOf (now (part .entry)))) ⌝ }
 {
     let count = part[0];
@@ -124,22 +116,14 @@ fn queue_fits(
             work: 0,
         };
     }
-    packets_fit(part, columns, rows, s, x, y, limits_of(s, q))
+    packets_fit(part, tables, s, place, limits_of(s, q))
 }
 
-// The nine queues of the node in column x and row y, whose words begin at this place.
-fn node_fits(
-    words: &[u64],
-    columns: &[u64],
-    rows: &[u64],
-    s: Sizes,
-    x: u64,
-    y: u64,
-    start: usize,
-) -> Tally
-    requires { ⌜ OnTorus s x y × Enough (shapeOf s) (now words) × (start ≡ queueStart (shapeOf s) (nodeAt s x y) 0)
-        × Tables s (now columns) (now rows) ⌝ }
-    ensures { λ r. ⌜ r ≡ nodeTally (shapeOf s) (now (words .entry)) (nodeAt s x y) ⌝ }
+// The queues of the node that stands there, whose words begin at `start`.
+fn node_fits(words: &[u64], tables: &[u64], s: Sizes, place: Place, start: usize) -> Tally
+    requires { ⌜ OnTorus s place × Enough (shapeOf s) (now words) × (start ≡ queueStart (shapeOf s) (nodeAt s place) 0)
+        × Tables s (now tables) ⌝ }
+    ensures { λ r. ⌜ r ≡ nodeTally (shapeOf s) (now (words .entry)) (nodeAt s place) ⌝ }
 {
     let mut held = 0;
     let mut work = 0;
@@ -147,7 +131,7 @@ fn node_fits(
     let mut q = 0;
     while q < QUEUES {
         let end = at + queue::capacity(s, q) as usize + 1;
-        let t = queue_fits(&words[at..end], columns, rows, s, x, y, q);
+        let t = queue_fits(&words[at..end], tables, s, place, q);
         if !t.ok {
             return unfit();
         }
@@ -163,25 +147,25 @@ fn node_fits(
     }
 }
 
-// All nodes in order. The tables of both rings are filled first.
+// All nodes in order. The tables of the rings are filled first.
 pub fn queues_fit(words: &[u64], s: Sizes) -> Tally
     requires { ⌜ Enough (shapeOf s) (now words) ⌝ }
     ensures { λ r. ⌜ r ≡ tally (queuesFit (shapeOf s) (now (words .entry)))
         (packetsHeld (shapeOf s) (now (words .entry))) (workLeft (shapeOf s) (now (words .entry))) ⌝ }
 {
-    let mut columns = [0u64; 48];
-    fill_ring(&mut columns, s.x, 1);
-    let mut rows = [0u64; 48];
-    fill_ring(&mut rows, s.y, s.x);
+    let mut tables = [0u64; TABLE_WORDS];
+    fill_tables(&mut tables, s);
     let nodes = packet::torus::nodes(s);
     let node = queue::node_words(s) as usize;
     let mut held = 0;
     let mut work = 0;
     let mut start = HEADER_WORDS;
-    let mut place = Place { x: 0, y: 0 };
+    let mut place = Place {
+        at: [0; DIMENSIONS as usize],
+    };
     let mut n = 0;
     while n < nodes {
-        let t = node_fits(words, &columns, &rows, s, place.x, place.y, start);
+        let t = node_fits(words, &tables, s, place, start);
         if !t.ok {
             return unfit();
         }

@@ -5,10 +5,10 @@ use network::Found;
 use network::Sizes;
 ghost use mathlib.Core.Path.{_≡_};
 ghost use Prim.Native.Nat.{_<_};
-ghost use Rattle.network.specs.Sizes.{shapeOf, nodes, queues};
+ghost use lib.Dec.{T};
+ghost use Rattle.network.specs.Sizes.{shapeOf, nodes, queues, sizesInRange};
 ghost use Rattle.network.specs.CheckLaws.{Network};
 ghost use Rattle.network.specs.Calls.{firstMove};
-ghost use Rattle.packet.specs.Geometry.{RingsFit};
 ghost use Rattle.near.specs.Table.{Near};
 ghost use Rattle.headset.specs.Set.{IsSet};
 ghost use Rattle.ready.specs.ReadyHeads.{Covered, Marked, SourceMarked, ArrivalMarked, FeederMarked};
@@ -16,7 +16,7 @@ ghost use Rattle.ready.specs.ReadyHeads.{Covered, Marked, SourceMarked, 
 // The head of queue q of node n becomes a member.
 fn mark_head(ready: &mut [u64], s: Sizes, n: u64, q: u64)
     requires { ⌜ IsSet (now ready) ⌝ }
-    requires { ⌜ RingsFit s × (n < nodes (shapeOf s)) × (q < queues) ⌝ }
+    requires { ⌜ T (sizesInRange (shapeOf s)) × (n < nodes (shapeOf s)) × (q < queues) ⌝ }
     ensures { λ _. ⌜ SourceMarked (shapeOf s) n q (now (ready .entry)) (now (ready .exit)) ⌝ }
 {
     headset::insert(ready, headset::NODE_HEADS * n + q);
@@ -25,7 +25,7 @@ fn mark_head(ready: &mut [u64], s: Sizes, n: u64, q: u64)
 // The head of the queue at which a packet that left node n by output o has arrived becomes a member.
 fn mark_arrival(ready: &mut [u64], s: Sizes, near: &[u8], n: u64, o: u64)
     requires { ⌜ IsSet (now ready) ⌝ }
-    requires { ⌜ RingsFit s × (n < nodes (shapeOf s)) × (o < queues) ⌝ }
+    requires { ⌜ T (sizesInRange (shapeOf s)) × (n < nodes (shapeOf s)) × (o < queues) ⌝ }
     requires { ⌜ Near (shapeOf s) (now near) ⌝ }
     ensures { λ _. ⌜ ArrivalMarked (shapeOf s) n o (now (ready .entry)) (now (ready .exit)) ⌝ }
 {
@@ -39,7 +39,7 @@ fn mark_arrival(ready: &mut [u64], s: Sizes, near: &[u8], n: u64, o: u64)
 // The heads of the node whose output leads into queue q of node n, where a slot is free now, become members.
 fn mark_feeder(ready: &mut [u64], s: Sizes, near: &[u8], n: u64, q: u64)
     requires { ⌜ IsSet (now ready) ⌝ }
-    requires { ⌜ RingsFit s × (n < nodes (shapeOf s)) ⌝ }
+    requires { ⌜ T (sizesInRange (shapeOf s)) × (n < nodes (shapeOf s)) ⌝ }
     requires { ⌜ Near (shapeOf s) (now near) ⌝ }
     ensures { λ _. ⌜ FeederMarked (shapeOf s) n q (now (ready .entry)) (now (ready .exit)) ⌝ }
 {
@@ -55,7 +55,7 @@ fn mark_feeder(ready: &mut [u64], s: Sizes, near: &[u8], n: u64, q: u64)
 // The heads that a move may have given a permitted move become members.
 pub fn mark(ready: &mut [u64], s: Sizes, near: &[u8], n: u64, q: u64, o: u64)
     requires { ⌜ IsSet (now ready) ⌝ }
-    requires { ⌜ RingsFit s × (n < nodes (shapeOf s)) × (q < queues) × (o < queues) ⌝ }
+    requires { ⌜ T (sizesInRange (shapeOf s)) × (n < nodes (shapeOf s)) × (q < queues) × (o < queues) ⌝ }
     requires { ⌜ Near (shapeOf s) (now near) ⌝ }
     ensures { λ _. ⌜ Marked (shapeOf s) n q o (now (ready .entry)) (now (ready .exit)) ⌝ }
 {

@@ -18,10 +18,10 @@ use packet::torus::nodes;
 use queue::capacity;
 use routes::is_route;
 ghost use mathlib.Core.Path.{_≡_};
-ghost use Rattle.network.specs.Sizes.{shapeOf};
+ghost use lib.Dec.{T};
+ghost use Rattle.network.specs.Sizes.{shapeOf, sizesInRange};
 ghost use Rattle.network.specs.CheckLaws.{Network};
 ghost use Rattle.network.specs.Refusals.{offerRules, moveRules, creditRules, lookRules};
-ghost use Rattle.packet.specs.Geometry.{RingsFit};
 
 pub fn offer_rules(words: &[u64], s: Sizes, n: u64, destination: u64) -> u64
     requires { ⌜ Network (shapeOf s) (now words) ⌝ }
@@ -70,7 +70,7 @@ pub fn move_rules(words: &[u64], s: Sizes, n: u64, q: u64, o: u64) -> u64
 }
 
 pub fn credit_rules(s: Sizes, n: u64, o: u64) -> u64
-    requires { ⌜ RingsFit s ⌝ }
+    requires { ⌜ T (sizesInRange (shapeOf s)) ⌝ }
     ensures { λ r. ⌜ r ≡ creditRules (shapeOf s) n o ⌝ }
 {
     if nodes(s) <= n {
@@ -86,7 +86,7 @@ pub fn credit_rules(s: Sizes, n: u64, o: u64) -> u64
 }
 
 pub fn look_rules(s: Sizes, n: u64, q: u64) -> u64
-    requires { ⌜ RingsFit s ⌝ }
+    requires { ⌜ T (sizesInRange (shapeOf s)) ⌝ }
     ensures { λ r. ⌜ r ≡ lookRules (shapeOf s) n q ⌝ }
 {
     if nodes(s) <= n {

@@ -6,7 +6,6 @@ use Prim.Native.Nat.{_+_, _≤_}
 use native.Mathlib.Omega.{arith}
 use lib.ListN.{length}
 use Rattle.network.specs.Sizes.{shapeOf}
-use Rattle.packet.specs.GeometryLaws.{inRange-rings}
 use Rattle.checker.specs.Opening.{broken, is-open, is-shut}
 use Rattle.calls.specs.Returns.{look-broken, look-rules, Looking, looks, held-end}
 use Rattle.bench_c.specs.OutLaws.{look-cleared, look-told}
@@ -26,7 +25,7 @@ look-rules-requires : tie.Need-look-rules-requires
 look-rules-requires c κs =
     let o = c .before in
     let k = is-open (o .before .before .«open» .ensures) (o .opened2 .given .1) in
-    inRange-rings (o .opened2 .given .0 .0) (k .network .in-range)
+    k .network .in-range
 
 returns : tie.Need-returns
 returns c =

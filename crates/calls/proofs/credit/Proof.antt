@@ -8,7 +8,6 @@ use Rattle.network.specs.Sizes.{shapeOf}
 use Rattle.network.specs.declared.Credit.{Credit}
 use Rattle.network.specs.Calls.{creditAnswer}
 use Rattle.network.specs.Answers.{CreditTells, credit-tells}
-use Rattle.packet.specs.GeometryLaws.{inRange-rings}
 use Rattle.calls.specs.Returns.{credit-broken, credit-refused, credit-free, credit-place}
 use Rattle.checker.specs.Opening.{broken, is-open, is-shut}
 use Rattle.calls.proofs.credit.Statement.{statement}
@@ -30,7 +29,7 @@ credit-rules-requires : tie.Need-credit-rules-requires
 credit-rules-requires c κs =
     let o = c .before in
     let k = is-open (o .before .before .«open» .ensures) (o .opened2 .given .1) in
-    inRange-rings (o .opened2 .given .0 .0) (k .network .in-range)
+    k .network .in-range
 
 returns : tie.Need-returns
 returns c =

@@ -8,7 +8,6 @@ use denote.Ref.{now}
 use lib.ListN.{length}
 use Rattle.network.specs.Sizes.{shapeOf}
 use Rattle.network.specs.Refusals.{lookRefusal}
-use Rattle.packet.specs.GeometryLaws.{inRange-rings}
 use Rattle.calls.specs.Returns.{look-broken, look-rules, look-refused, look-shown, Looking, looks, held-part, held-end}
 use Rattle.calls.specs.Place.{place-refused, place-shown}
 use Rattle.checker.specs.Opening.{broken, is-open, is-shut}
@@ -37,7 +36,7 @@ look-rules-requires : tie.Need-look-rules-requires
 look-rules-requires c κs =
     let o = c .before in
     let k = is-open (o .before .before .«open» .ensures) (o .opened .given .1) in
-    inRange-rings (o .opened .given .0 .0) (k .network .in-range)
+    k .network .in-range
 
 sub-result-2 : tie.Need-sub-result-2
 sub-result-2 c = search needs

@@ -3,7 +3,6 @@ use borrow.Author.Needs.{needs}
 use mathlib.Core.Path.{sym, _∙_}
 use denote.Ref.{now}
 use Rattle.network.specs.Sizes.{shapeOf}
-use Rattle.packet.specs.GeometryLaws.{inRange-rings}
 use Rattle.calls.specs.Returns.{look-broken, look-rules}
 use Rattle.checker.specs.Opening.{broken, is-open, is-shut}
 use Rattle.calls.proofs.look_refusal.Statement.{statement}
@@ -22,7 +21,7 @@ look-rules-requires : tie.Need-look-rules-requires
 look-rules-requires c κs =
     let o = c .before in
     let k = is-open (o .before .before .«open» .ensures) (o .opened2 .given .1) in
-    inRange-rings (o .opened2 .given .0 .0) (k .network .in-range)
+    k .network .in-range
 
 returns : tie.Need-returns
 returns c =

@@ -3,7 +3,7 @@
 use borrow.Author.Needs.{needs}
 use native.Mathlib.Omega.{arith}
 use Rattle.network.specs.Sizes.{shapeOf}
-use Rattle.packet.specs.GeometryLaws.{inRange-rings, rings-torus}
+use Rattle.network.specs.TorusLaws.{sizes-torus}
 use Rattle.changes.proofs.ChangeLaws.{Left, network-checked, delivered-left, moves-handed, handed-words, target-checked, target-room, moves-arrived, moved-words}
 use Rattle.changes.proofs.make_move.Statement.{statement}
 use Rattle.changes.proofs.make_move.Tie as tie
@@ -21,7 +21,7 @@ left : (c : tie.After-pop)
 left c =
     let s = c .before .before .before in
     record {
-      torus = rings-torus (s .args .s) (inRange-rings (s .args .s) (s .pre .0 .in-range));
+      torus = sizes-torus (s .args .s) (s .pre .0 .in-range);
       network = s .pre .0;
       permitted = s .pre .1;
       left = c .pop .ensures .0;
@@ -53,7 +53,7 @@ sub-d c = search needs
 neighbour-requires : tie.Need-neighbour-requires
 neighbour-requires c κs =
     let s = c .before .before .before .before .before .before in
-    (inRange-rings (s .args .s) (s .pre .0 .in-range), omega arith, s .pre .1 .node)
+    (s .pre .0 .in-range, omega arith, s .pre .1 .node)
 
 hop-requires : tie.Need-hop-requires
 hop-requires c κs = search needs

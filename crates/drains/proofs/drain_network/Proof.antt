@@ -7,12 +7,11 @@ use denote.Ref.{now}
 use Rattle.network.specs.Sizes.{shapeOf}
 use Rattle.network.specs.declared.Stop.{Stop}
 use Rattle.network.specs.Layout.{accepted, delivered}
-use Rattle.packet.specs.Geometry.{RingsFit}
-use Rattle.packet.specs.GeometryLaws.{inRange-rings, rings-torus, rings-nodes}
 use Rattle.headset.specs.Set.{Filled}
 use Rattle.ready.specs.ReadyHeads.{covered-filled}
 use Rattle.turns.specs.Turns.{turn-emptied, none-held}
 use Rattle.turns.specs.Turned.{header-long}
+use Rattle.network.specs.TorusLaws.{sizes-torus, sizes-nodes}
 use Rattle.drains.specs.SoFar.{so-far-start, so-far-end}
 use Rattle.drains.proofs.drain_network.Statement.{statement}
 use Rattle.drains.proofs.drain_network.Tie as tie
@@ -22,9 +21,6 @@ use Rattle.headset.proofs.fill.Reads as fill-reads
 use Rattle.near.proofs.fill.Reads as near-fill-reads
 use Rattle.packet.proofs.torus.nodes.Reads as nodes-reads
 use Rattle.drains.proofs.take_turns.Reads as take-turns-reads
-
-rings : (c : tie.Start) → RingsFit (c .args .s)
-rings c = inRange-rings (c .args .s) (c .pre .in-range)
 
 slice-read-accepted : tie.Need-slice-read-accepted
 slice-read-accepted c =
@@ -47,7 +43,7 @@ returns c =
     let S = shapeOf (a .args .s) in
     let w = now (a .args .words) in
     let l = now (a .args .ledger) in
-    so-far-end S (rings-torus (a .args .s) (rings a)) w (a .args .budget) l w l 0 0 Stop.Emptied (so-far-start S w (a .args .budget) l (a .pre))
+    so-far-end S (sizes-torus (a .args .s) (a .pre .in-range)) w (a .args .budget) l w l 0 0 Stop.Emptied (so-far-start S w (a .args .budget) l (a .pre))
     (turn-emptied S w _ _ (none-held S w (a .pre) (c .if1 .taken)))
 
 -- src/lib.rt:234:24
@@ -58,7 +54,7 @@ slice-aggregate-fill c = search needs
 fill-requires : tie.Need-fill-requires
 fill-requires c κs =
     let a = c .before .before .before .before .before .before in
-    (rings a, refl)
+    (a .pre .in-range, refl)
 
 -- src/lib.rt:236:19
 slice-aggregate-fill-2 : tie.Need-slice-aggregate-fill-2
@@ -68,13 +64,13 @@ slice-aggregate-fill-2 c = search needs
 nodes-requires : tie.Need-nodes-requires
 nodes-requires c κs =
     let a = c .before .before .before .before .before .before .before .before .before in
-    rings a
+    a .pre .in-range
 
 -- src/lib.rt:236:5
 fill-requires-2 : tie.Need-fill-requires-2
 fill-requires-2 c κs =
     let a = c .before .before .before .before .before .before .before .before .before .before in
-    (refl, subst (λ (x : ℕ). x ≤ 256) (sym (c .nodes .ensures)) (rings-nodes (a .args .s) (rings a)))
+    (refl, subst (λ (x : ℕ). x ≤ 256) (sym (c .nodes .ensures)) (sizes-nodes (a .args .s) (a .pre .in-range)))
 
 -- src/lib.rt:237:26
 slice-aggregate-take-turns : tie.Need-slice-aggregate-take-turns

@@ -9,8 +9,8 @@ use native.Mathlib.Omega.{arith}
 use lib.ListN.{length, length-set}
 use denote.Ref.{now}
 use Rattle.network.specs.Sizes.{shapeOf}
-use Rattle.packet.specs.GeometryLaws.{inRange-rings, rings-torus}
 use Rattle.ready.specs.ReadyHeads.{Covered}
+use Rattle.network.specs.TorusLaws.{sizes-torus}
 use Rattle.drains.specs.SoFar.{SoFar, so-far-start, next-passed, next-delivered, end-of-it, passed-budget, delivered-budget}
 use Rattle.drains.proofs.take_turns.Statement.{statement}
 use Rattle.drains.proofs.take_turns.Tie as tie
@@ -72,7 +72,7 @@ returns c =
     let a = c .before .before .before .before .before .before .before .before .before .before .before .before .before .before .before in
     let l = c .before .before .before .before .before .before .before .before .before .before .loop in
     let t = c .before .before .before .before .before .before .before .take-turn in
-    end-of-it (shapeOf (a .args .s)) (rings-torus (a .args .s) (inRange-rings (a .args .s) (a .pre .0 .in-range))) (now (a .args .words)) (a .args .budget) (now (a .args .ledger))
+    end-of-it (shapeOf (a .args .s)) (sizes-torus (a .args .s) (a .pre .0 .in-range)) (now (a .args .words)) (a .args .budget) (now (a .args .ledger))
     (l .words) (l .ledger) (l .moves) (l .delivered) (c .before .turn .given .0 .0) (t .result) (t .last .0) (l .inv .0) (t .ensures .0) (t .ensures .1 .0) (c .before .turn .given .1)
 
 enum-told : tie.Need-enum-told Inv-loop μ-loop
@@ -92,7 +92,7 @@ slice-write-ledger c =
     let a = c .before .before .before .before .before .before .before .before .before .before .before .before .before .before .before in
     let l = c .before .before .before .before .before .before .before .before .before .before .loop in
     let t = c .before .before .before .before .before .before .before .take-turn in
-    let r = delivered-budget (shapeOf (a .args .s)) (rings-torus (a .args .s) (inRange-rings (a .args .s) (a .pre .0 .in-range))) (now (a .args .words)) (a .args .budget)
+    let r = delivered-budget (shapeOf (a .args .s)) (sizes-torus (a .args .s) (a .pre .0 .in-range)) (now (a .args .words)) (a .args .budget)
     (now (a .args .ledger)) (l .words) (l .ledger) (l .moves) (l .delivered) (c .before .turn2 .given .0 .0) (l .inv .0) (sym (t .ensures .0) ∙ c .before .turn2 .given .1) in
     subst (λ (x : ℕ). l .delivered < x) (sym (l .inv .1 .1 .1)) (r .1)
 
@@ -110,7 +110,7 @@ loop-less c =
     let a = c .before .before .before .before .before .before .before .before .before .before .before .before .before in
     let l = c .before .before .before .before .before .before .before .before .loop in
     let t = c .before .before .before .before .before .take-turn in
-    let tor = rings-torus (a .args .s) (inRange-rings (a .args .s) (a .pre .0 .in-range)) in
+    let tor = sizes-torus (a .args .s) (a .pre .0 .in-range) in
     less (a .args .budget) (l .moves)
     (⊎-elim
     (λ x. passed-budget (shapeOf (a .args .s)) tor (now (a .args .words)) (a .args .budget) (now (a .args .ledger)) (l .words) (l .ledger) (l .moves) (l .delivered) (l .inv .0)
@@ -125,7 +125,7 @@ loop-again c =
     let a = c .before .before .before .before .before .before .before .before .before .before .before .before .before in
     let l = c .before .before .before .before .before .before .before .before .loop in
     let t = c .before .before .before .before .before .take-turn in
-    let tor = rings-torus (a .args .s) (inRange-rings (a .args .s) (a .pre .0 .in-range)) in (
+    let tor = sizes-torus (a .args .s) (a .pre .0 .in-range) in (
       ⊎-elim
           (λ x. next-passed (shapeOf (a .args .s)) tor (now (a .args .words)) (a .args .budget) (now (a .args .ledger)) (l .words) (l .ledger) (l .moves) (l .delivered) (t .result)
           (t .last .0) (c .match .ledger) (c .match .delivered) (l .inv .0) (t .ensures .0) (t .ensures .1 .0) (x .1 .given .1) (x .2) (x .3))

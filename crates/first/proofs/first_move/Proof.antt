@@ -11,9 +11,9 @@ use Rattle.network.specs.declared.Found.{Found}
 use Rattle.network.specs.Sizes.{shapeOf, nodes, queues}
 use Rattle.network.specs.Layout.{accepted, delivered}
 use Rattle.network.specs.Calls.{firstInQueue, firstMove}
-use Rattle.packet.specs.GeometryLaws.{inRange-rings, rings-nodes}
 use Rattle.flow.specs.QueueOf.{QueueOf}
 use Rattle.flow.specs.HeldWords.{header, inside-at}
+use Rattle.network.specs.TorusLaws.{sizes-nodes}
 use Rattle.first.proofs.Searching.{Reading, AtRoute, AtQueue, AtNode, found-from-first, output-lt, route-on, route-found, route-none, end-at, queue-none, queues-begin, queue-next, queue-found, nodes-begin, node-next, node-found, nodes-none, nothing-held}
 use Rattle.first.proofs.first_move.Statement.{statement}
 use Rattle.first.proofs.first_move.Tie as tie
@@ -84,7 +84,7 @@ returns c =
 -- The search begins -------------------------------------------------------------------------------------------------------------------
 
 nodes-requires : tie.Need-nodes-requires Inv-loop2 μ-loop2 Inv-loop μ-loop Inv-search μ-search
-nodes-requires c κs = let f = c .before .before .before .before in inRange-rings (f .args .s) (f .pre .in-range)
+nodes-requires c κs = let f = c .before .before .before .before in f .pre .in-range
 
 search-holds : tie.Need-search-holds Inv-loop2 μ-loop2 Inv-loop μ-loop Inv-search μ-search
 search-holds c = nodes-begin
@@ -207,7 +207,7 @@ add-n c =
     let f = c .before .before in
     let s = entry (f .before) .args .s in
     let l = node-lt f in
-    let m = rings-nodes s (inRange-rings s (entry (f .before) .pre .in-range)) in
+    let m = sizes-nodes s (entry (f .before) .pre .in-range) in
     omega (arith, l, m)
 
 search-less : tie.Need-search-less Inv-loop2 μ-loop2 Inv-loop μ-loop Inv-search μ-search

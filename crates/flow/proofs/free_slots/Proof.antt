@@ -1,6 +1,5 @@
 -- `flow::free_slots` meets its contract: the target is a node, and its queue holds no more than its slots. Assumes nothing.
 use borrow.Author.Needs.{needs}
-use Rattle.packet.specs.GeometryLaws.{inRange-rings}
 use Rattle.flow.proofs.Targets.{at-target, target-few, target-free}
 use Rattle.flow.proofs.free_slots.Statement.{statement}
 use Rattle.flow.proofs.free_slots.Tie as tie
@@ -12,7 +11,7 @@ target-requires : tie.Need-target-requires
 target-requires c κs =
     let f = c .before .before in
     let k = f .pre .0 in
-    (inRange-rings (f .args .s) (k .network .in-range), k .node, f .pre .1, k .queue)
+    (k .network .in-range, k .node, f .pre .1, k .queue)
 
 held-count-requires : tie.Need-held-count-requires
 held-count-requires c κs =

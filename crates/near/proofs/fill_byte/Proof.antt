@@ -4,8 +4,7 @@ use mathlib.Core.Path.{refl}
 use Prim.Native.Nat.{_+_, _*_}
 use native.Mathlib.Omega.{arith}
 use Rattle.network.specs.Sizes.{shapeOf}
-use Rattle.network.specs.TorusLaws.{neighbour-lt}
-use Rattle.packet.specs.GeometryLaws.{rings-torus, rings-nodes}
+use Rattle.network.specs.TorusLaws.{sizes-torus, sizes-nodes, neighbour-lt}
 use Rattle.near.specs.Table.{near-more}
 use Rattle.near.proofs.fill_byte.Statement.{statement}
 use Rattle.near.proofs.fill_byte.Tie as tie
@@ -22,8 +21,8 @@ cast-near : tie.Need-cast-near
 cast-near c =
     let a = c .before .before in
     let e = c .step-from .ensures in
-    let l = neighbour-lt (shapeOf (a .args .s)) (a .args .d) (a .args .n) (rings-torus (a .args .s) (a .pre .0 .0)) (a .pre .0 .1) (a .pre .0 .2) in
-    let m = rings-nodes (a .args .s) (a .pre .0 .0) in
+    let l = neighbour-lt (shapeOf (a .args .s)) (a .args .d) (a .args .n) (sizes-torus (a .args .s) (a .pre .0 .0)) (a .pre .0 .1) (a .pre .0 .2) in
+    let m = sizes-nodes (a .args .s) (a .pre .0 .0) in
     omega arith
 
 -- src/near.rt:23:11

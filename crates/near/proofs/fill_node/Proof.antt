@@ -1,79 +1,79 @@
--- `near::fill_node` meets its contract. Assumes nothing.
+-- `near::fill_node` meets its contract. The loop's invariant: the bytes of the directions before d are there. Assumes nothing.
 use borrow.Author.Needs.{needs}
 use mathlib.Core.Path.{_≡_, ap, subst, _∙_}
 use mathlib.Core.List.{List}
-use Prim.Native.Nat.{ℕ, _<_}
+use Prim.Native.Nat.{ℕ, _+_, _*_, _-_, _<_, _≤_}
 use native.Mathlib.Nat.{lt-of-lt-of-le}
 use native.Mathlib.Omega.{arith}
-use Rattle.network.specs.Sizes.{Shape, shapeOf, nodes}
+use lib.ListN.{getD}
+use Rattle.network.specs.Sizes.{Shape, shapeOf, directions, dimensionOf, nodes}
+use Rattle.network.specs.PacketLaws.{dimension-lt}
 use Rattle.network.specs.Torus.{coordinate}
-use Rattle.packet.specs.GeometryLaws.{rings-nodes, node-lt, column-is, row-is}
+use Rattle.network.specs.TorusLaws.{sizes-nodes}
+use Rattle.packet.specs.GeometryLaws.{place-node, place-coordinate}
 use Rattle.near.specs.Table.{NearTo}
 use Rattle.near.proofs.fill_node.Statement.{statement}
 use Rattle.near.proofs.fill_node.Tie as tie
-use Rattle.near.proofs.fill_node.Reads as reads
-use Rattle.near.proofs.fill_node.Lts as lts
-use Rattle.near.proofs.fill_byte.Reads as fill-byte-reads
 
-is-node : (c : tie.Start) → c .args .n < nodes (shapeOf (c .args .s))
-is-node c =
-    subst (λ (k : ℕ). k < nodes (shapeOf (c .args .s))) (c .pre .1) (node-lt (c .args .s) (c .args .x) (c .args .y) (c .pre .0))
+abbrev Inv-loop : tie.InvT-loop
+Inv-loop near₀ s n at d₀ near d = NearTo (shapeOf s) (directions * n + d) near × (d ≤ directions)
 
-few : (c : tie.Start) → c .args .n < 256
-few c = lt-of-lt-of-le (is-node c) (rings-nodes (c .args .s) (c .pre .0 .rings))
+abbrev μ-loop : tie.MeasureT-loop
+μ-loop near₀ s n at d₀ near d = directions - d
 
-column : (c : tie.Start) → c .args .x ≡ coordinate (shapeOf (c .args .s)) 0 (c .args .n)
-column c = column-is (c .args .s) (c .args .x) (c .args .y) (c .pre .0) ∙ ap (coordinate (shapeOf (c .args .s)) 0) (c .pre .1)
+is-node : (c : tie.Start Inv-loop μ-loop) → c .args .n < nodes (shapeOf (c .args .s))
+is-node c = subst (λ (k : ℕ). k < nodes (shapeOf (c .args .s))) (c .pre .1) (place-node (c .pre .0))
 
-row : (c : tie.Start) → c .args .y ≡ coordinate (shapeOf (c .args .s)) 1 (c .args .n)
-row c = row-is (c .args .s) (c .args .x) (c .args .y) (c .pre .0) ∙ ap (coordinate (shapeOf (c .args .s)) 1) (c .pre .1)
+few : (c : tie.Start Inv-loop μ-loop) → c .args .n < 256
+few c = lt-of-lt-of-le (is-node c) (sizes-nodes (c .args .s) (c .pre .0 .sizes))
+
+coordinate-at : (c : tie.Start Inv-loop μ-loop) (d : ℕ) → d < directions
+    → getD (c .args .place .at) (dimensionOf d) 0 ≡ coordinate (shapeOf (c .args .s)) (dimensionOf d) (c .args .n)
+coordinate-at c d h = place-coordinate (c .pre .0) (dimensionOf d) (dimension-lt d h) ∙ ap (coordinate (shapeOf (c .args .s)) (dimensionOf d)) (c .pre .1)
 
 -- the same bytes, counted otherwise
 counted : {S : Shape} {a b : ℕ} {near : List ℕ} → a ≡ b → NearTo S a near → NearTo S b near
 counted {S} {near = near} e t = subst (λ (k : ℕ). NearTo S k near) e t
 
--- src/near.rt:31:5
-fill-byte-requires : tie.Need-fill-byte-requires
+loop-holds : tie.Need-loop-holds Inv-loop μ-loop
+loop-holds c = (counted (omega arith) (c .before .before .pre .2), omega arith)
+
+mul-fill-byte : tie.Need-mul-fill-byte Inv-loop μ-loop
+mul-fill-byte c = search needs
+
+array-read-fill-byte : tie.Need-array-read-fill-byte Inv-loop μ-loop
+array-read-fill-byte c = search needs
+
+fill-byte-requires : tie.Need-fill-byte-requires Inv-loop μ-loop
 fill-byte-requires c κs =
-    let a = c .before .before in
-    ((a .pre .0 .rings, omega arith, is-node a, column a), (few a, counted (omega arith) (a .pre .2)))
+    let st = c .before .before .before .before .before in
+    let h = c .before .loop-test .taken in
+    ((st .pre .0 .sizes, h, is-node st, coordinate-at st (c .before .before .loop .d) h), (few st, c .before .before .loop .inv .0))
 
--- src/near.rt:32:5
-fill-byte-requires-2 : tie.Need-fill-byte-requires-2
-fill-byte-requires-2 c κs =
-    let f = c .before .before .before in
-    let a = f .before .before .before in
-    ((a .pre .0 .rings, omega arith, is-node a, column a), (few a, counted (omega arith) (f .fill-byte .ensures)))
+add-d : tie.Need-add-d Inv-loop μ-loop
+add-d c = search needs
 
--- src/near.rt:33:5
-fill-byte-requires-3 : tie.Need-fill-byte-requires-3
-fill-byte-requires-3 c κs =
-    let f = c .before .before .before in
-    let a = f .before .before .before .before .before .before .before in
-    ((a .pre .0 .rings, omega arith, is-node a, row a), (few a, counted (omega arith) (f .fill-byte2 .ensures)))
+loop-less : tie.Need-loop-less Inv-loop μ-loop
+loop-less c = search needs
 
--- src/near.rt:34:5
-fill-byte-requires-4 : tie.Need-fill-byte-requires-4
-fill-byte-requires-4 c κs =
-    let f = c .before .before .before in
-    let a = f .before .before .before .before .before .before .before .before .before .before .before in
-    ((a .pre .0 .rings, omega arith, is-node a, row a), (few a, counted (omega arith) (f .fill-byte3 .ensures)))
+loop-again : tie.Need-loop-again Inv-loop μ-loop
+loop-again c =
+    let h = c .before .before .before .before .loop-test .taken in
+    (counted (omega arith) (c .before .before .fill-byte .ensures), omega arith)
 
--- src/near.rt:27:1
-same-length : tie.Need-same-length
-same-length c = search needs
+same-length : tie.Need-same-length Inv-loop μ-loop
+same-length c =
+    let a = c .before .loop .inv .0 .bytes in
+    let b = c .before .before .before .before .pre .2 .bytes in
+    omega arith
 
--- src/near.rt:27:1
-returns : tie.Need-returns
-returns c = counted (omega arith) (c .before .before .fill-byte4 .ensures)
+returns : tie.Need-returns Inv-loop μ-loop
+returns c =
+    let l = c .before .loop .inv .1 in
+    let h = c .loop-test .left in
+    counted (omega arith) (c .before .loop .inv .0)
 
 pub fill-node-spec : {M : Type 1} → statement M
 fill-node-spec =
     tie.close
-    (tie.spec
-    fill-byte-requires
-    fill-byte-requires-2
-    fill-byte-requires-3
-    fill-byte-requires-4
-    same-length
-    returns)
+    (tie.spec Inv-loop μ-loop loop-holds mul-fill-byte array-read-fill-byte fill-byte-requires add-d loop-less loop-again same-length returns)

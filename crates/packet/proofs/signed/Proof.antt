@@ -10,6 +10,9 @@ add-result c = search needs
 cast-result : tie.Need-cast-result
 cast-result c = search needs
 
+cast-result-2 : tie.Need-cast-result-2
+cast-result-2 c = search needs
+
 sub-result : tie.Need-sub-result
 sub-result c = turned-fits (c .args .b) (c .pre)
 
@@ -17,4 +20,4 @@ returns : tie.Need-returns
 returns c = turned (c .args .b) (c .pre)
 
 pub signed-spec : {M : Type 1} → statement M
-signed-spec = tie.close (tie.spec add-result cast-result sub-result returns)
+signed-spec = tie.close (tie.spec add-result cast-result cast-result-2 sub-result returns)

@@ -1,50 +1,108 @@
--- `packet_check::below_limits` meets its contract: dimension by dimension. Assumes nothing.
+-- `packet_check::below_limits` meets its contract. The loop's invariant: the hops along the dimensions before i are below their limits. Assumes nothing.
+use borrow.Author.Needs.{needs}
 use borrow.Author.Tests.{not-true, not-false}
-use mathlib.Core.Path.{_≡_, sym, _∙_}
-use mathlib.Core.Bool.{_&&_}
+use mathlib.Core.Path.{_≡_, refl, ap, sym, _∙_}
+use mathlib.Core.Bool.{true}
+use Prim.Native.Nat.{ℕ, _-_, _≤_}
 use native.Mathlib.Omega.{arith}
-use lib.Dec.{ltb}
-use Rattle.network.specs.Packet.{hops}
+use Rattle.base.specs.Tests.{allBelow}
+use Rattle.base.specs.Bools.{fails-at, all-more}
+use Rattle.network.specs.Sizes.{dimensions}
 use Rattle.network.specs.PacketLaws.{one-way}
-use Rattle.packet_check.specs.PacketLimits.{belowLimits}
-use Rattle.packet_check.proofs.Offsets.{pair-stop, pair-on}
+use Rattle.packet_check.specs.PacketLimits.{belowAlong, belowLimits}
 use Rattle.packet_check.proofs.below_limits.Statement.{statement}
 use Rattle.packet_check.proofs.below_limits.Tie as tie
 
-above-requires : tie.Need-above-requires
-above-requires c κs = omega arith
+abbrev Inv-loop : tie.InvT-loop
+Inv-loop p l i₀ i = (allBelow i (belowAlong l p) ≡ true) × (i ≤ dimensions)
 
-between-requires : tie.Need-between-requires
-between-requires c κs = omega arith
+abbrev μ-loop : tie.MeasureT-loop
+μ-loop p l i₀ i = dimensions - i
 
--- the first two tests are the one that was made along x
-first : (c : tie.After-between) → c .between .result ≡ (ltb (hops 0 (c .before .before .args .p)) (c .before .before .args .l .0) && ltb (hops 1 (c .before .before .args .p)) (c .before .before .args .l .1))
-first c = c .between .ensures _ _ (one-way 0 (c .before .before .args .p)) (c .before .above .ensures .1)
+loop-holds : tie.Need-loop-holds Inv-loop μ-loop
+unfolding allBelow
+loop-holds c = (refl, omega arith)
 
-returns : tie.Need-returns
+mul-forward : tie.Need-mul-forward Inv-loop μ-loop
+mul-forward c = search needs
+
+mul-forward-2 : tie.Need-mul-forward-2 Inv-loop μ-loop
+mul-forward-2 c = search needs
+
+array-read-forward : tie.Need-array-read-forward Inv-loop μ-loop
+array-read-forward c = search needs
+
+mul-back : tie.Need-mul-back Inv-loop μ-loop
+mul-back c = search needs
+
+add-back : tie.Need-add-back Inv-loop μ-loop
+add-back c = search needs
+
+mul-back-2 : tie.Need-mul-back-2 Inv-loop μ-loop
+mul-back-2 c = search needs
+
+array-read-back : tie.Need-array-read-back Inv-loop μ-loop
+array-read-back c = search needs
+
+above-requires : tie.Need-above-requires Inv-loop μ-loop
+above-requires c κs = search needs
+
+between-requires : tie.Need-between-requires Inv-loop μ-loop
+between-requires c κs =
+    let st = c .before .before .before in
+    let h = c .before .loop-test .taken in
+    (st .pre _ (omega arith), st .pre _ (omega arith), c .above .ensures .0)
+
+-- what the test says
+along : (c : tie.After-between Inv-loop μ-loop)
+    → c .between .result ≡ belowAlong (c .before .before .before .before .args .t1) (c .before .before .before .before .args .p) (c .before .before .before .loop .i)
+unfolding belowAlong
+along c = c .between .ensures _ _ (one-way (c .before .before .before .loop .i) (c .before .before .before .before .args .p)) (c .before .above .ensures .1)
+
+returns : tie.Need-returns Inv-loop μ-loop
 unfolding belowLimits
 returns c =
-    let l = c .before .before .before .args .l in
-    let p = c .before .before .before .args .p in
     sym
-    (pair-stop (ltb (hops 0 p) (l .0)) (ltb (hops 1 p) (l .1)) (ltb (hops 2 p) (l .2) && ltb (hops 3 p) (l .3))
-    (sym (first (c .before)) ∙ not-true _ (c .if1 .taken)))
+    (fails-at dimensions _ (c .before .before .before .before .loop .i) (c .before .before .before .loop-test .taken)
+    (sym (along (c .before)) ∙ not-true _ (c .if1 .taken)))
 
-above-requires-2 : tie.Need-above-requires-2
-above-requires-2 c κs = omega arith
+add-i : tie.Need-add-i Inv-loop μ-loop
+add-i c = search needs
 
-between-requires-2 : tie.Need-between-requires-2
-between-requires-2 c κs = omega arith
+loop-less : tie.Need-loop-less Inv-loop μ-loop
+loop-less c = search needs
 
-returns-2 : tie.Need-returns-2
+loop-again : tie.Need-loop-again Inv-loop μ-loop
+loop-again c =
+    let h = c .before .before .before .loop-test .taken in
+    (all-more _ (c .before .before .before .before .loop .i) (c .before .before .before .before .loop .inv .0) (sym (along (c .before)) ∙ not-false _ (c .if1 .left)), omega arith)
+
+returns-2 : tie.Need-returns-2 Inv-loop μ-loop
 unfolding belowLimits
 returns-2 c =
-    let l = c .before .before .before .before .before .args .l in
-    let p = c .before .before .before .before .before .args .p in
-    c .between2 .ensures _ _ (one-way 1 p) (c .before .above2 .ensures .1)
-    ∙ sym
-    (pair-on (ltb (hops 0 p) (l .0)) (ltb (hops 1 p) (l .1)) (ltb (hops 2 p) (l .2) && ltb (hops 3 p) (l .3))
-    (sym (first (c .before .before .before)) ∙ not-false _ (c .before .before .if1 .left)))
+    let l = c .before .loop .inv .1 in
+    let h = c .loop-test .left in
+    let e : c .before .loop .i ≡ dimensions = omega arith in
+    sym (ap (λ (k : ℕ). allBelow k (belowAlong (c .before .before .args .t1) (c .before .before .args .p))) (sym e) ∙ c .before .loop .inv .0)
 
 pub below-limits-spec : {M : Type 1} → statement M
-below-limits-spec = tie.close (tie.spec above-requires between-requires returns above-requires-2 between-requires-2 returns-2)
+below-limits-spec =
+    tie.close
+    (tie.spec
+    Inv-loop
+    μ-loop
+    loop-holds
+    mul-forward
+    mul-forward-2
+    array-read-forward
+    mul-back
+    add-back
+    mul-back-2
+    array-read-back
+    above-requires
+    between-requires
+    returns
+    add-i
+    loop-less
+    loop-again
+    returns-2)

@@ -1,40 +1,62 @@
--- `packet_check::led_to` meets its contract. Assumes nothing.
-use mathlib.Core.Path.{refl}
+-- `packet_check::led_to` meets its contract. The loop's invariant: the coordinates of the dimensions before i are summed up. Assumes nothing.
+use borrow.Author.Needs.{needs}
+use mathlib.Core.Path.{_≡_, ap, sym, _∙_}
+use Prim.Native.Nat.{ℕ, _+_, _-_, _≤_}
 use native.Mathlib.Omega.{arith}
-use Rattle.network.specs.Packet.{hops}
-use Rattle.packet_check.proofs.Nodes.{led, led-small}
+use Rattle.network.specs.Sizes.{dimensions}
+use Rattle.packet_check.proofs.Nodes.{ledBelow, led-none, led-more, led-small, led-all}
 use Rattle.packet_check.proofs.led_to.Statement.{statement}
 use Rattle.packet_check.proofs.led_to.Tie as tie
 
-above-requires : tie.Need-above-requires
-above-requires c κs = omega arith
+abbrev Inv-loop : tie.InvT-loop
+Inv-loop tables s p at node₀ i₀ node i = (node ≡ ledBelow s (record { at = at }) p i) × (i ≤ dimensions)
 
-moved-requires : tie.Need-moved-requires
-moved-requires c κs = omega arith
+abbrev μ-loop : tie.MeasureT-loop
+μ-loop tables s p at node₀ i₀ node i = dimensions - i
 
-above-requires-2 : tie.Need-above-requires-2
-above-requires-2 c κs = omega arith
+loop-holds : tie.Need-loop-holds Inv-loop μ-loop
+loop-holds c = (sym (led-none _ _ _), omega arith)
 
-moved-requires-2 : tie.Need-moved-requires-2
-moved-requires-2 c κs = omega arith
+mul-moved : tie.Need-mul-moved Inv-loop μ-loop
+mul-moved c = search needs
 
-returns : tie.Need-returns
-returns c =
-    let start = c .before .before .before .before .before .before in
-    let a = start .args in
-    let tables = start .pre .2 in
-    led (a .s) (a .x) (a .y) (start .pre .0) (a .p) (hops 0 (a .p)) (hops 1 (a .p)) (hops 2 (a .p)) (hops 3 (a .p)) _ _ refl refl refl refl
-    (c .moved2 .ensures (hops 0 (a .p)) (hops 1 (a .p)) 1 (tables .along-x) (omega arith) (c .before .above2 .ensures .1))
-    (c .before .before .moved .ensures (hops 2 (a .p)) (hops 3 (a .p)) (a .s .x) (tables .along-y) (omega arith) (c .before .before .before .above .ensures .1))
+array-read-moved : tie.Need-array-read-moved Inv-loop μ-loop
+array-read-moved c = search needs
 
--- the node's number is small
-add-result : tie.Need-add-result
-add-result c =
-    let start = c .before .before .before .before .before .before in
-    let a = start .args in
-    let e = returns c in
-    let l = led-small (a .s) (a .x) (a .y) (start .pre .0) (a .p) in
+moved-requires : tie.Need-moved-requires Inv-loop μ-loop
+moved-requires c κs =
+    let p = c .before .before .before .before .pre in
+    let h = c .loop-test .taken in
+    (p .2, p .0 .sizes, h, p .0 .below _ h, p .1)
+
+-- one dimension more
+more : (c : tie.After-moved Inv-loop μ-loop)
+    → c .before .before .loop .node + c .moved .result
+    ≡ ledBelow (c .before .before .before .before .before .args .s) (record { at = c .before .before .before .before .before .args .place .at })
+    (c .before .before .before .before .before .args .p) (c .before .before .loop .i + 1)
+more c =
+    let st = c .before .before .before .before .before in
+    ap (λ (n : ℕ). n + c .moved .result) (c .before .before .loop .inv .0) ∙ led-more _ _ _ (st .pre .0) _ _ (c .before .loop-test .taken) (c .moved .ensures)
+
+add-node : tie.Need-add-node Inv-loop μ-loop
+add-node c =
+    let st = c .before .before .before .before .before in
+    let e = more c in
+    let l = led-small _ _ (st .args .p) (st .pre .0) (c .before .before .loop .i + 1) in
     omega arith
 
+add-i : tie.Need-add-i Inv-loop μ-loop
+add-i c = search needs
+
+loop-less : tie.Need-loop-less Inv-loop μ-loop
+loop-less c = search needs
+
+loop-again : tie.Need-loop-again Inv-loop μ-loop
+loop-again c = let h = c .before .loop-test .taken in (more c, omega arith)
+
+returns : tie.Need-returns Inv-loop μ-loop
+returns c = c .before .loop .inv .0 ∙ led-all _ _ _ (c .before .before .before .before .pre .0) _ (c .before .loop .inv .1) (c .loop-test .left)
+
 pub led-to-spec : {M : Type 1} → statement M
-led-to-spec = tie.close (tie.spec above-requires moved-requires above-requires-2 moved-requires-2 add-result returns)
+led-to-spec =
+    tie.close (tie.spec Inv-loop μ-loop loop-holds mul-moved array-read-moved moved-requires add-node add-i loop-less loop-again returns)

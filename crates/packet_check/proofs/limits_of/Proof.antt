@@ -1,31 +1,43 @@
--- `packet_check::limits_of` meets its contract. Assumes nothing.
+-- `packet_check::limits_of` meets its contract. The loop's invariant: the limits of the directions before d are there. Assumes nothing.
 use borrow.Author.Needs.{needs}
-use Rattle.packet_check.specs.PacketLimits.{limitsOf}
+use mathlib.Core.Path.{_≡_}
+use Prim.Native.Nat.{ℕ, _-_, _<_, _≤_}
+use native.Mathlib.Omega.{arith}
+use lib.ListN.{length, getD}
+use Rattle.network.specs.Sizes.{shapeOf, directions}
+use Rattle.packet_check.specs.LimitLaws.{LimitsTo, limits-none, limits-more}
 use Rattle.packet_check.proofs.limits_of.Statement.{statement}
 use Rattle.packet_check.proofs.limits_of.Tie as tie
 
-limit-requires : tie.Need-limit-requires
+abbrev Inv-loop : tie.InvT-loop
+Inv-loop s q limits₀ d₀ limits d = LimitsTo (shapeOf s) q d limits
+
+abbrev μ-loop : tie.MeasureT-loop
+μ-loop s q limits₀ d₀ limits d = directions - d
+
+loop-holds : tie.Need-loop-holds Inv-loop μ-loop
+loop-holds c = limits-none _ _
+
+limit-requires : tie.Need-limit-requires Inv-loop μ-loop
 limit-requires c κs = search needs
 
-limit-requires-2 : tie.Need-limit-requires-2
-limit-requires-2 c κs = search needs
+mul-limits : tie.Need-mul-limits Inv-loop μ-loop
+mul-limits c = search needs
 
-limit-requires-3 : tie.Need-limit-requires-3
-limit-requires-3 c κs = search needs
+array-write-limits : tie.Need-array-write-limits Inv-loop μ-loop
+array-write-limits c = search needs
 
-limit-requires-4 : tie.Need-limit-requires-4
-limit-requires-4 c κs = search needs
+add-d : tie.Need-add-d Inv-loop μ-loop
+add-d c = search needs
 
-returns : tie.Need-returns
-unfolding limitsOf
-returns c =
-    λ i. record {
-      0 = c .before .before .before .limit .ensures i;
-      1 = c .before .before .limit2 .ensures i;
-      2 = c .before .limit3 .ensures i;
-      3 = c .limit4 .ensures i;
-    }
+loop-less : tie.Need-loop-less Inv-loop μ-loop
+loop-less c = search needs
+
+loop-again : tie.Need-loop-again Inv-loop μ-loop
+loop-again c = limits-more _ _ _ _ _ (c .before .before .loop .inv) (c .before .loop-test .taken) (c .limit .ensures)
+
+returns : tie.Need-returns Inv-loop μ-loop
+returns c = λ e h. c .before .loop .inv .at e (let l = c .loop-test .left in omega arith)
 
 pub limits-of-spec : {M : Type 1} → statement M
-limits-of-spec =
-    tie.close (tie.spec limit-requires limit-requires-2 limit-requires-3 limit-requires-4 returns)
+limits-of-spec = tie.close (tie.spec Inv-loop μ-loop loop-holds limit-requires mul-limits array-write-limits add-d loop-less loop-again returns)

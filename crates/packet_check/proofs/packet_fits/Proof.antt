@@ -4,23 +4,31 @@ use borrow.Author.Tests.{not-true, not-false}
 use mathlib.Core.Path.{_≡_, ap₂, sym, _∙_}
 use mathlib.Core.Bool.{true}
 use Prim.Native.Nat.{ℕ}
+use native.Mathlib.Omega.{arith}
 use lib.Dec.{eqb}
 use Rattle.base.specs.Tests.{true-T}
 use Rattle.base.specs.Bools.{and-stop, and-on}
+use Rattle.network.specs.Sizes.{shapeOf, dimensionOf}
+use Rattle.network.specs.TorusLaws.{inRange-size}
 use Rattle.packet_check.specs.PacketLimits.{belowLimits, fitsWithin}
 use Rattle.packet_check.specs.LimitLaws.{no-round}
 use Rattle.packet_check.proofs.packet_fits.Statement.{statement}
 use Rattle.packet_check.proofs.packet_fits.Tie as tie
 
 below-limits-requires : tie.Need-below-limits-requires
-below-limits-requires c κs = search needs
+below-limits-requires c κs =
+    λ d h.
+    let s = c .before .args .s in
+    let m = c .before .pre .1 d h in
+    let l = inRange-size (shapeOf s) (dimensionOf d) (c .before .pre .0 .sizes) in
+    omega arith
 
 returns : tie.Need-returns
 unfolding fitsWithin
 returns c = sym (and-stop _ _ (sym (c .before .below-limits .ensures) ∙ not-true _ (c .if1 .taken)))
 
 abbrev start : tie.Else1 → tie.Start
-start c = c .before .before .before .before
+start c = c .before .before .before
 
 below : (c : tie.Else1) → belowLimits (start c .args .l) (start c .args .p) ≡ true
 below c = sym (c .before .below-limits .ensures) ∙ not-false _ (c .if1 .left)

@@ -7,9 +7,9 @@ use Prim.Native.Nat.{ℕ, _+_, _-_, _<_, _≤_}
 use native.Mathlib.Omega.{arith}
 use lib.ListN.{length}
 use Rattle.base.specs.Parts.{span}
-use Rattle.network.specs.Sizes.{Shape, shapeOf, nodes, capacity}
+use Rattle.network.specs.Sizes.{Shape, shapeOf, nodes, queues, capacity}
 use Rattle.network.specs.Layout.{queuePart}
-use Rattle.packet.specs.GeometryLaws.{node-lt}
+use Rattle.packet.specs.GeometryLaws.{place-node}
 use Rattle.packet.specs.Geometry.{nodeAt}
 use Rattle.queue_check.specs.declared.Tally.{Tally}
 use Rattle.queue_check.specs.QueueTally.{tally}
@@ -18,20 +18,20 @@ use Rattle.queue_check.proofs.node_fits.Statement.{statement}
 use Rattle.queue_check.proofs.node_fits.Tie as tie
 
 abbrev Inv-loop : tie.InvT-loop
-Inv-loop words columns rows s x y start held₀ work₀ at₀ q₀ held work at q = NodeWalk (shapeOf s) words (nodeAt s x y) q at held work
+Inv-loop words tables s place start held₀ work₀ at₀ q₀ held work at q = NodeWalk (shapeOf s) words (nodeAt s place) q at held work
 
 abbrev μ-loop : tie.MeasureT-loop
-μ-loop words columns rows s x y start held₀ work₀ at₀ q₀ held work at q = 9 - q
+μ-loop words tables s place start held₀ work₀ at₀ q₀ held work at q = queues - q
 
 loop-holds : tie.Need-loop-holds Inv-loop μ-loop
-loop-holds c = node-start _ _ _ _ (c .before .before .before .pre .2)
+loop-holds c = node-start _ _ _ _ (c .before .before .pre .2)
 
 capacity-requires : tie.Need-capacity-requires Inv-loop μ-loop
 capacity-requires c κs = search needs
 
 -- where the function starts, the sizes, the words and the node, and what is known of queue q
 abbrev start : tie.At-loop Inv-loop μ-loop → tie.Start Inv-loop μ-loop
-start c = c .before .before .before .before
+start c = c .before .before .before
 
 abbrev S : tie.Start Inv-loop μ-loop → Shape
 S st = shapeOf (st .args .s)
@@ -40,7 +40,7 @@ abbrev w : tie.Start Inv-loop μ-loop → List ℕ
 w st = st .args .words .now
 
 abbrev n : tie.Start Inv-loop μ-loop → ℕ
-n st = nodeAt (st .args .s) (st .args .x) (st .args .y)
+n st = nodeAt (st .args .s) (st .args .place)
 
 abbrev Part : tie.Start Inv-loop μ-loop → ℕ → ℕ → ℕ → Type 0
 Part st q at end = span (w st) at end ≡ queuePart (S st) (w st) (n st) q
@@ -50,7 +50,7 @@ Found st q t = t ≡ tally (fits (S st) (w st) (n st) q) (holds (S st) (w st) (n
 
 -- the node is one of the network's
 is-node : (st : tie.Start Inv-loop μ-loop) → n st < nodes (S st)
-is-node st = node-lt (st .args .s) (st .args .x) (st .args .y) (st .pre .0)
+is-node st = place-node (st .pre .0)
 
 -- its capacity
 slots : (c : tie.After-capacity Inv-loop μ-loop) → c .capacity .result ≡ capacity (S (start (c .before .before))) (c .before .before .loop .q)

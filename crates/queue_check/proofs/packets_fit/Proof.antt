@@ -19,20 +19,20 @@ use Rattle.queue_check.proofs.packets_fit.Statement.{statement}
 use Rattle.queue_check.proofs.packets_fit.Tie as tie
 
 abbrev Inv-loop : tie.InvT-loop
-Inv-loop part columns rows s x y l count sum₀ i₀ sum i = Left (fitsWithin (shapeOf s) (nodeAt s x y) l) work (packetsOf part) i sum × (i ≤ count)
+Inv-loop part tables s place l count sum₀ i₀ sum i = Left (fitsWithin (shapeOf s) (nodeAt s place) l) work (packetsOf part) i sum × (i ≤ count)
 
 abbrev μ-loop : tie.MeasureT-loop
-μ-loop part columns rows s x y l count sum₀ i₀ sum i = count - i
+μ-loop part tables s place l count sum₀ i₀ sum i = count - i
 
 -- where the function starts, the queue's words, and the test of a packet
 abbrev start : tie.At-loop Inv-loop μ-loop → tie.Start Inv-loop μ-loop
-start c = c .before .before .before .before .before
+start c = c .before .before .before .before
 
 abbrev part : tie.Start Inv-loop μ-loop → List ℕ
 part st = st .args .part .now
 
 abbrev test : tie.Start Inv-loop μ-loop → ℕ → Bool
-test st = fitsWithin (shapeOf (st .args .s)) (nodeAt (st .args .s) (st .args .x) (st .args .y)) (st .args .l)
+test st = fitsWithin (shapeOf (st .args .s)) (nodeAt (st .args .s) (st .args .place)) (st .args .l)
 
 shared-slice-read-count : tie.Need-shared-slice-read-count Inv-loop μ-loop
 unfolding countOf

@@ -1,7 +1,7 @@
 -- `queue_check::queue_fits` meets its contract. Assumes nothing.
 use borrow.Author.Needs.{needs}
 use borrow.Author.Tests.{not-true, not-false}
-use mathlib.Core.Path.{_≡_, sym, subst, _∙_}
+use mathlib.Core.Path.{_≡_, sym, _∙_}
 use mathlib.Core.Bool.{true}
 use Prim.Native.Nat.{ℕ, _+_}
 use native.Mathlib.Omega.{arith}
@@ -11,8 +11,9 @@ use Rattle.base.specs.Tests.{allOf}
 use Rattle.network.specs.Sizes.{Shape, shapeOf}
 use Rattle.network.specs.Layout.{countOf, packetsOf, queueLength}
 use Rattle.packet.specs.Geometry.{nodeAt}
-use Rattle.packet.specs.GeometryLaws.{rings-torus, node-lt}
-use Rattle.packet_check.specs.PacketLimits.{LimitsFit, fitsWithin}
+use Rattle.network.specs.TorusLaws.{sizes-torus}
+use Rattle.packet.specs.GeometryLaws.{place-node}
+use Rattle.packet_check.specs.PacketLimits.{fitsWithin}
 use Rattle.packet_check.specs.LimitLaws.{limits-fit}
 use Rattle.queue_check.specs.QueueTally.{partFits}
 use Rattle.queue_check.specs.TallyLaws.{tally-fails, tally-same}
@@ -21,14 +22,14 @@ use Rattle.queue_check.proofs.queue_fits.Statement.{statement}
 use Rattle.queue_check.proofs.queue_fits.Tie as tie
 
 -- where the function starts, the sizes and the node
-abbrev start : tie.After-shared-slice-known4 → tie.Start
-start c = c .before .before .before .before
+abbrev start : tie.After-shared-slice-known3 → tie.Start
+start c = c .before .before .before
 
 abbrev S : tie.Start → Shape
 S st = shapeOf (st .args .s)
 
 abbrev n : tie.Start → ℕ
-n st = nodeAt (st .args .s) (st .args .x) (st .args .y)
+n st = nodeAt (st .args .s) (st .args .place)
 
 shared-slice-read-count : tie.Need-shared-slice-read-count
 unfolding queueLength
@@ -79,7 +80,7 @@ unfolding countOf
 packets-fit-requires c κs =
     let st = start (c .before .before .before .before .before) in (
       st .pre .0,
-      subst (LimitsFit (st .args .s)) (sym (c .limits-of .ensures)) (limits-fit (st .args .s) (st .args .q) (st .pre .0 .rings)),
+      limits-fit (st .args .s) (st .args .q) (c .limits-of .result) (st .pre .0 .sizes) (c .limits-of .ensures),
       c .before .before .before .before .if1 .left,
       st .pre .2,
       st .pre .3,
@@ -95,7 +96,7 @@ unfolding countOf
 decide c =
     let st = start (c .before .before .before .before .before) in
     part-limits (S st) (n st) (st .args .q) (st .args .part .now) (st .pre .1) (c .limits-of .result) (c .limits-of .ensures)
-    (rings-torus (st .args .s) (st .pre .0 .rings)) (node-lt (st .args .s) (st .args .x) (st .args .y) (st .pre .0))
+    (sizes-torus (st .args .s) (st .pre .0 .sizes)) (place-node (st .pre .0))
     (c .before .before .before .before .if1 .left) (zeros (c .before .before))
 
 returns-4 : tie.Need-returns-4

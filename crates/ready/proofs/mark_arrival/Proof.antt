@@ -7,7 +7,7 @@ use native.Mathlib.Omega.{arith}
 use denote.Ref.{now}
 use Rattle.network.specs.Sizes.{shapeOf}
 use Rattle.network.specs.Torus.{neighbour}
-use Rattle.packet.specs.GeometryLaws.{rings-nodes, rings-torus}
+use Rattle.network.specs.TorusLaws.{sizes-torus, sizes-nodes}
 use Rattle.ready.specs.ReadyHeads.{neighbour-node, target-is, arrival-marked}
 use Rattle.ready.proofs.mark_arrival.Statement.{statement}
 use Rattle.ready.proofs.mark_arrival.Tie as tie
@@ -28,7 +28,7 @@ sub-look-up c = search needs
 look-up-requires : tie.Need-look-up-requires
 look-up-requires c κs =
     let a = c .before .before .before in
-    (omega arith, lt-of-lt-of-le (a .pre .1 .0 .1) (rings-nodes (a .args .s) (a .pre .1 .0 .0)), a .pre .1 .1 .bytes)
+    (omega arith, lt-of-lt-of-le (a .pre .1 .0 .1) (sizes-nodes (a .args .s) (a .pre .1 .0 .0)), a .pre .1 .1 .bytes)
 
 -- the neighbour that was looked up
 abbrev start : tie.After-look-up → tie.Start
@@ -48,7 +48,7 @@ mark-head-requires c κs =
       a .pre .0,
       (
         a .pre .1 .0 .0,
-        neighbour-node (shapeOf (a .args .s)) ((a .args .o - 1) % 4) (a .args .n) (l .look-up .result) (rings-torus (a .args .s) (a .pre .1 .0 .0)) (a .pre .1 .0 .1) (omega arith) (there-is l),
+        neighbour-node (shapeOf (a .args .s)) ((a .args .o - 1) % 4) (a .args .n) (l .look-up .result) (sizes-torus (a .args .s) (a .pre .1 .0 .0)) (a .pre .1 .0 .1) (omega arith) (there-is l),
         a .pre .1 .0 .2,
       ),
     )

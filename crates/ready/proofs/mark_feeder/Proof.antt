@@ -7,7 +7,7 @@ use native.Mathlib.Omega.{arith}
 use denote.Ref.{now}
 use Rattle.network.specs.Sizes.{shapeOf, nodes}
 use Rattle.network.specs.Torus.{neighbour}
-use Rattle.packet.specs.GeometryLaws.{rings-nodes, rings-torus}
+use Rattle.network.specs.TorusLaws.{sizes-torus, sizes-nodes}
 use Rattle.ready.specs.ReadyHeads.{neighbour-node, before-is, feeder-marked}
 use Rattle.ready.proofs.mark_feeder.Statement.{statement}
 use Rattle.ready.proofs.mark_feeder.Tie as tie
@@ -40,7 +40,7 @@ add-back c = search needs
 look-up-requires : tie.Need-look-up-requires
 look-up-requires c κs =
     let a = c .before .before .before in
-    (omega arith, lt-of-lt-of-le (a .pre .1 .0 .1) (rings-nodes (a .args .s) (a .pre .1 .0 .0)), a .pre .1 .1 .bytes)
+    (omega arith, lt-of-lt-of-le (a .pre .1 .0 .1) (sizes-nodes (a .args .s) (a .pre .1 .0 .0)), a .pre .1 .1 .bytes)
 
 -- the neighbour that was looked up
 abbrev back : ℕ → ℕ
@@ -58,14 +58,14 @@ there-is c =
 is-node : (c : tie.After-look-up) → c .look-up .result < nodes (shapeOf (start c .args .s))
 is-node c =
     let a = start c in
-    neighbour-node (shapeOf (a .args .s)) (back (a .args .q)) (a .args .n) (c .look-up .result) (rings-torus (a .args .s) (a .pre .1 .0 .0)) (a .pre .1 .0 .1) (omega arith) (there-is c)
+    neighbour-node (shapeOf (a .args .s)) (back (a .args .q)) (a .args .n) (c .look-up .result) (sizes-torus (a .args .s) (a .pre .1 .0 .0)) (a .pre .1 .0 .1) (omega arith) (there-is c)
 
 -- src/lib.rt:66:5
 insert-node-requires : tie.Need-insert-node-requires
 insert-node-requires c κs =
     let l = c .before in
     let a = start l in
-    (a .pre .0, lt-of-lt-of-le (is-node l) (rings-nodes (a .args .s) (a .pre .1 .0 .0)))
+    (a .pre .0, lt-of-lt-of-le (is-node l) (sizes-nodes (a .args .s) (a .pre .1 .0 .0)))
 
 -- src/lib.rt:54:1
 same-length : tie.Need-same-length

@@ -5,7 +5,7 @@ use native.Mathlib.Nat.{lt-of-lt-of-le}
 use native.Mathlib.Omega.{arith}
 use denote.Ref.{now}
 use Rattle.network.specs.Sizes.{shapeOf}
-use Rattle.packet.specs.GeometryLaws.{rings-nodes}
+use Rattle.network.specs.TorusLaws.{sizes-nodes}
 use Rattle.ready.specs.ReadyHeads.{source-marked}
 use Rattle.ready.proofs.mark_head.Statement.{statement}
 use Rattle.ready.proofs.mark_head.Tie as tie
@@ -14,7 +14,7 @@ use Rattle.ready.proofs.mark_head.Lts as lts
 use Rattle.headset.proofs.insert.Reads as insert-reads
 
 few : (c : tie.Start) → c .args .n < 256
-few c = lt-of-lt-of-le (c .pre .1 .1) (rings-nodes (c .args .s) (c .pre .1 .0))
+few c = lt-of-lt-of-le (c .pre .1 .1) (sizes-nodes (c .args .s) (c .pre .1 .0))
 
 -- src/lib.rt:36:28
 mul-insert : tie.Need-mul-insert

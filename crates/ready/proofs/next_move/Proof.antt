@@ -7,7 +7,7 @@ use native.Mathlib.Omega.{arith}
 use lib.ListN.{length}
 use denote.Ref.{now}
 use Rattle.network.specs.Sizes.{shapeOf, nodes}
-use Rattle.packet.specs.GeometryLaws.{inRange-rings, rings-nodes}
+use Rattle.network.specs.TorusLaws.{sizes-nodes}
 use Rattle.ready.specs.ReadyHeads.{Searched, searched-start, searched-next, searched-up, searched-all, lowest-first, lowest-none, refused-some, move-some}
 use Rattle.ready.proofs.next_move.Statement.{statement}
 use Rattle.ready.proofs.next_move.Tie as tie
@@ -28,7 +28,7 @@ less t x n a b = omega arith
 
 -- there are at most 256 nodes
 few : (c : tie.Start Inv-loop μ-loop) → nodes (shapeOf (c .args .s)) ≤ 256
-few c = rings-nodes (c .args .s) (inRange-rings (c .args .s) (c .pre .0 .in-range))
+few c = sizes-nodes (c .args .s) (c .pre .0 .in-range)
 
 -- src/lib.rt:77:5
 loop-holds : tie.Need-loop-holds Inv-loop μ-loop

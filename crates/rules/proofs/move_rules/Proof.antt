@@ -12,7 +12,6 @@ use Rattle.network.specs.Sizes.{Shape, shapeOf, nodes, queues}
 use Rattle.network.specs.Layout.{held}
 use Rattle.network.specs.Routes.{routes}
 use Rattle.network.specs.Refusals.{refuse, head, flowRules, moveRules, noSuchNode, noSuchQueue, noSuchOutput, queueEmpty, noRoute}
-use Rattle.packet.specs.GeometryLaws.{inRange-rings}
 use Rattle.rules.proofs.move_rules.Statement.{statement}
 use Rattle.rules.proofs.move_rules.Tie as tie
 
@@ -33,7 +32,7 @@ there c =
     (lt-leb (c .before .before .before .nodes .result) (a .n) (c .before .before .if1 .left), lt-leb queues (a .q) (c .before .if2 .left), lt-leb queues (a .o) (c .if3 .left))
 
 nodes-requires : tie.Need-nodes-requires
-nodes-requires c κs = let f = c .before in inRange-rings (f .args .s) (f .pre .in-range)
+nodes-requires c κs = let f = c .before in f .pre .in-range
 
 returns : tie.Need-returns
 returns c =

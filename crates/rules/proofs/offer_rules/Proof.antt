@@ -12,7 +12,6 @@ use Rattle.network.specs.Sizes.{Shape, shapeOf, nodes, capacity, injectionQueue
 use Rattle.network.specs.Layout.{accepted, held}
 use Rattle.network.specs.Check.{mostAccepted}
 use Rattle.network.specs.Refusals.{refuse, offerRules, noSuchNode, countSpent, injectionFull}
-use Rattle.packet.specs.GeometryLaws.{inRange-rings}
 use Rattle.flow.specs.HeldWords.{header}
 use Rattle.rules.proofs.offer_rules.Statement.{statement}
 use Rattle.rules.proofs.offer_rules.Tie as tie
@@ -26,7 +25,7 @@ unfolding offerRules
 tested S w n destination count held-there slots a b d e ec eh es ea eb ed ee = cc
 
 nodes-requires : tie.Need-nodes-requires
-nodes-requires c κs = let f = c .before in inRange-rings (f .args .s) (f .pre .in-range)
+nodes-requires c κs = let f = c .before in f .pre .in-range
 
 returns : tie.Need-returns
 returns c =

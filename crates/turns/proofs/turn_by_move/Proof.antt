@@ -2,7 +2,7 @@
 use borrow.Author.Needs.{needs}
 use denote.Ref.{now}
 use Rattle.network.specs.Sizes.{shapeOf}
-use Rattle.packet.specs.GeometryLaws.{inRange-rings, rings-torus}
+use Rattle.network.specs.TorusLaws.{sizes-torus}
 use Rattle.turns.specs.Turned.{turned-passed, turned-delivered, turned-full}
 use Rattle.turns.proofs.turn_by_move.Statement.{statement}
 use Rattle.turns.proofs.turn_by_move.Tie as tie
@@ -19,7 +19,7 @@ make-move-requires c κs = search needs
 mark-requires : tie.Need-mark-requires
 mark-requires c κs =
     let a = c .before .before .before .before .before .before .before .before .before in
-    (a .pre .1 .1 .0 .set-of, ((inRange-rings (a .args .s) (a .pre .0 .in-range), a .pre .1 .1 .1 .node, a .pre .1 .1 .1 .queue, a .pre .1 .1 .1 .output), a .pre .1 .0))
+    (a .pre .1 .1 .0 .set-of, ((a .pre .0 .in-range, a .pre .1 .1 .1 .node, a .pre .1 .1 .1 .queue, a .pre .1 .1 .1 .output), a .pre .1 .0))
 
 -- src/lib.rt:123:9
 same-length : tie.Need-same-length
@@ -33,7 +33,7 @@ same-length-2 c = search needs
 returns : tie.Need-returns
 returns c =
     let a = c .before .before .before .before .before .before .before .before .before .before .before .before in
-    turned-passed (shapeOf (a .args .s)) (rings-torus (a .args .s) (inRange-rings (a .args .s) (a .pre .0 .in-range))) (now (a .args .words)) (now (a .args .ready))
+    turned-passed (shapeOf (a .args .s)) (sizes-torus (a .args .s) (a .pre .0 .in-range)) (now (a .args .words)) (now (a .args .ready))
     (a .pre .0) (a .pre .1 .1 .0) (a .args .room) (a .args .n) (a .args .q) (a .args .o) (c .before .before .before .before .before .before .make-move .last .0) (c .before .before .mark .last .0) (a .pre .1 .1 .1)
     (c .before .before .mark .ensures) (c .before .before .before .before .before .before .make-move .ensures .0) (c .before .before .before .before .before .before .before .before .if1 .taken)
 
@@ -41,7 +41,7 @@ returns c =
 returns-2 : tie.Need-returns-2
 returns-2 c =
     let a = c .before .before .before .before .before in
-    turned-full (shapeOf (a .args .s)) (rings-torus (a .args .s) (inRange-rings (a .args .s) (a .pre .0 .in-range))) (now (a .args .words)) (now (a .args .ready))
+    turned-full (shapeOf (a .args .s)) (sizes-torus (a .args .s) (a .pre .0 .in-range)) (now (a .args .words)) (now (a .args .ready))
     (a .pre .0) (a .pre .1 .1 .0) (a .args .room) (a .args .n) (a .args .q) (a .args .o) (c .before .if1 .left) (c .if2 .taken)
 
 -- src/lib.rt:128:9
@@ -52,7 +52,7 @@ make-move-requires-2 c κs = search needs
 mark-requires-2 : tie.Need-mark-requires-2
 mark-requires-2 c κs =
     let a = c .before .before .before .before .before .before .before .before .before .before in
-    (a .pre .1 .1 .0 .set-of, ((inRange-rings (a .args .s) (a .pre .0 .in-range), a .pre .1 .1 .1 .node, a .pre .1 .1 .1 .queue, a .pre .1 .1 .1 .output), a .pre .1 .0))
+    (a .pre .1 .1 .0 .set-of, ((a .pre .0 .in-range, a .pre .1 .1 .1 .node, a .pre .1 .1 .1 .queue, a .pre .1 .1 .1 .output), a .pre .1 .0))
 
 -- src/lib.rt:104:1
 same-length-3 : tie.Need-same-length-3
@@ -66,7 +66,7 @@ same-length-4 c = search needs
 returns-3 : tie.Need-returns-3
 returns-3 c =
     let a = c .before .before .before .before .before .before .before .before .before .before .before .before .before in
-    turned-delivered (shapeOf (a .args .s)) (rings-torus (a .args .s) (inRange-rings (a .args .s) (a .pre .0 .in-range))) (now (a .args .words)) (now (a .args .ready))
+    turned-delivered (shapeOf (a .args .s)) (sizes-torus (a .args .s) (a .pre .0 .in-range)) (now (a .args .words)) (now (a .args .ready))
     (a .pre .0) (a .pre .1 .1 .0) (a .args .room) (a .args .n) (a .args .q) (a .args .o) (c .before .before .before .before .before .before .make-move2 .result) (c .before .before .before .before .before .before .make-move2 .last .0) (c .before .before .mark2 .last .0)
     (a .pre .1 .1 .1) (c .before .before .mark2 .ensures) (c .before .before .before .before .before .before .make-move2 .ensures .0) (c .before .before .before .before .before .before .before .before .before .if1 .left) (c .before .before .before .before .before .before .before .before .if2 .left) (c .before .before .before .before .before .before .make-move2 .ensures .1)
 

@@ -1,24 +1,34 @@
 -- `packet::torus::coordinate` meets its contract. Assumes nothing.
+use native.Mathlib.Omega.{arith}
 use borrow.Author.Needs.{needs}
-use Rattle.packet.specs.GeometryLaws.{coordinate-x, coordinate-y}
-use Rattle.packet.proofs.FieldWords.{other-dimension}
+use Rattle.network.specs.Sizes.{shapeOf}
+use Rattle.network.specs.TorusLaws.{sizes-torus, size-pos}
+use Rattle.packet.specs.GeometryLaws.{coordinate-is, weight-some}
 use Rattle.packet.proofs.torus.coordinate.Statement.{statement}
 use Rattle.packet.proofs.torus.coordinate.Tie as tie
 
-rem-result : tie.Need-rem-result
-rem-result c = search needs
+weight-requires : tie.Need-weight-requires
+weight-requires c κs = search needs
+
+size-requires : tie.Need-size-requires
+size-requires c κs = search needs
 
 div-result : tie.Need-div-result
-div-result c = search needs
+div-result c =
+    let st = c .before .before in
+    let e = c .before .weight .ensures in
+    omega (arith, weight-some (st .args .s) (st .args .i) (st .pre .0) (st .pre .1))
+
+rem-result : tie.Need-rem-result
+rem-result c =
+    let st = c .before .before in
+    let e = c .size .ensures in
+    omega (arith, size-pos (shapeOf (st .args .s)) (st .args .i) (sizes-torus (st .args .s) (st .pre .0)) (st .pre .1))
 
 returns : tie.Need-returns
-returns c = let a = c .before .before .args in coordinate-x (a .s) (a .i) (a .n) (c .before .if1 .taken)
-
-returns-2 : tie.Need-returns-2
-returns-2 c =
-    let a = c .before .before .args in
-    let p = c .before .before .pre in
-    coordinate-y (a .s) (a .i) (a .n) (p .0) (p .2) (other-dimension (a .i) (p .1) (c .before .if1 .left))
+returns c =
+    let st = c .before .before in
+    coordinate-is (st .args .s) (st .args .i) (st .args .n) _ _ (st .pre .1) (c .size .ensures) (c .before .weight .ensures)
 
 pub coordinate-spec : {M : Type 1} → statement M
-coordinate-spec = tie.close (tie.spec rem-result div-result returns returns-2)
+coordinate-spec = tie.close (tie.spec weight-requires size-requires div-result rem-result returns)

@@ -1,11 +1,12 @@
 -- `packet::torus::nodes` meets its contract. Assumes nothing.
 use native.Mathlib.Omega.{arith}
-use Rattle.packet.specs.GeometryLaws.{nodes-is, rings-nodes}
+use Rattle.network.specs.TorusLaws.{sizes-nodes}
+use Rattle.packet.specs.GeometryLaws.{nodes-is}
 use Rattle.packet.proofs.torus.nodes.Statement.{statement}
 use Rattle.packet.proofs.torus.nodes.Tie as tie
 
 mul-result : tie.Need-mul-result
-mul-result c = let s = c .before .args .s in omega (arith, nodes-is s, rings-nodes s (c .before .pre))
+mul-result c = let s = c .before .args .s in omega (arith, nodes-is s, sizes-nodes s (c .before .pre))
 
 returns : tie.Need-returns
 returns c = nodes-is (c .before .args .s)

@@ -1,75 +1,76 @@
--- `packet::torus::offered` meets its contract. Assumes nothing.
+-- `packet::torus::offered` meets its contract. The loop's invariant: the offsets of the dimensions below i stand in the word. Assumes nothing.
 use mathlib.Core.Path.{_≡_}
-use Prim.Native.Nat.{_<_}
+use Prim.Native.Nat.{_-_, _*_, _≤_}
 use native.Mathlib.Omega.{arith}
 use borrow.Author.Needs.{needs}
-use Rattle.network.specs.Sizes.{shapeOf}
-use Rattle.network.specs.Packet.{byte}
-use Rattle.network.specs.PacketLaws.{byte-lt}
+use Rattle.base.specs.Digits.{product, putDigit}
+use Rattle.network.specs.Sizes.{shapeOf, dimensions}
+use Rattle.network.specs.Packet.{fields, destinationField, withOffsets, packetWord}
+use Rattle.network.specs.TorusLaws.{sizes-nodes}
 use Rattle.network.specs.Calls.{offered}
 use Rattle.network.specs.OfferLaws.{offeredWay}
-use Rattle.packet.specs.GeometryLaws.{rings-nodes, rings-way}
-use Rattle.packet.proofs.FieldWords.{word-of}
+use Rattle.packet.specs.GeometryLaws.{sizes-way}
+use Rattle.packet.proofs.Numbers.{back, range-back}
+use Rattle.packet.proofs.FieldWords.{word-start, word-more, word-end}
 use Rattle.packet.proofs.torus.offered.Statement.{statement}
 use Rattle.packet.proofs.torus.offered.Tie as tie
 
--- the fields are small enough for their places
-x-small : (c : tie.After-way-byte2) → c .before .way-byte .result < 256
-x-small c =
-    let a = c .before .before .args in
-    let e : c .before .way-byte .result ≡ byte (offeredWay (shapeOf (a .s)) (a .n) (a .destination) 0) = c .before .way-byte .ensures in
-    omega (arith, byte-lt (rings-way (a .n) (a .destination) 0 (c .before .before .pre .0) (omega arith)))
+abbrev Inv-loop : tie.InvT-loop
+Inv-loop s n destination tag p₀ i₀ p i =
+    (p ≡ withOffsets i (offeredWay (shapeOf s) n destination) (putDigit fields destinationField destination (tag * product fields))) × (i ≤ dimensions)
 
-y-small : (c : tie.After-way-byte2) → c .way-byte2 .result < 256
-y-small c =
-    let a = c .before .before .args in
-    let e : c .way-byte2 .result ≡ byte (offeredWay (shapeOf (a .s)) (a .n) (a .destination) 1) = c .way-byte2 .ensures in
-    omega (arith, byte-lt (rings-way (a .n) (a .destination) 1 (c .before .before .pre .0) (omega arith)))
+abbrev μ-loop : tie.MeasureT-loop
+μ-loop s n destination tag p₀ i₀ p i = dimensions - i
 
-destination-small : (c : tie.After-way-byte2) → c .before .before .args .destination < 256
-destination-small c = let p = c .before .before .pre in omega (arith, p .2, rings-nodes (c .before .before .args .s) (p .0))
+mul-p : tie.Need-mul-p Inv-loop μ-loop
+mul-p c = search needs
 
-way-byte-requires : tie.Need-way-byte-requires
-way-byte-requires c κs = search needs
+mul-p-2 : tie.Need-mul-p-2 Inv-loop μ-loop
+mul-p-2 c = let m = sizes-nodes (c .args .s) (c .pre .0) in omega (arith, c .pre .2)
 
-way-byte-requires-2 : tie.Need-way-byte-requires-2
-way-byte-requires-2 c κs = search needs
+add-p : tie.Need-add-p Inv-loop μ-loop
+add-p c = let m = sizes-nodes (c .args .s) (c .pre .0) in omega (arith, c .pre .2)
 
-mul-result : tie.Need-mul-result
-mul-result c = search needs
+loop-holds : tie.Need-loop-holds Inv-loop μ-loop
+loop-holds c =
+    let m = sizes-nodes (c .args .s) (c .pre .0) in
+    let h = c .pre .2 in
+    (word-start (c .args .tag) (c .args .destination) _ (omega arith), omega arith)
 
-mul-result-2 : tie.Need-mul-result-2
-mul-result-2 c = omega (arith, destination-small c)
+way-requires : tie.Need-way-requires Inv-loop μ-loop
+way-requires c κs = search needs
 
-add-result : tie.Need-add-result
-add-result c = omega (arith, destination-small c)
+with-offset-requires : tie.Need-with-offset-requires Inv-loop μ-loop
+with-offset-requires c κs =
+    let st = c .before .before .before in
+    let i = c .before .before .loop .i in
+    let h = c .before .loop-test .taken in
+    (h, range-back (c .way .ensures) (sizes-way (st .args .s) (st .args .n) (st .args .destination) i (st .pre .0) h))
 
-mul-result-3 : tie.Need-mul-result-3
-mul-result-3 c = omega (arith, x-small c)
+add-i : tie.Need-add-i Inv-loop μ-loop
+add-i c = search needs
 
-add-result-2 : tie.Need-add-result-2
-add-result-2 c = omega (arith, destination-small c, x-small c)
+loop-less : tie.Need-loop-less Inv-loop μ-loop
+loop-less c = search needs
 
-add-result-3 : tie.Need-add-result-3
-add-result-3 c = omega (arith, destination-small c, x-small c, y-small c)
+loop-again : tie.Need-loop-again Inv-loop μ-loop
+loop-again c =
+    let st = c .before .before .before .before in
+    let i = c .before .before .before .loop .i in
+    let h = c .before .before .loop-test .taken in (
+      word-more i _ _ _ _ _ (c .with-offset .ensures)
+          (back (c .before .way .ensures) (sizes-way (st .args .s) (st .args .n) (st .args .destination) i (st .pre .0) h)) (c .before .before .before .loop .inv .0),
+      omega arith,
+    )
 
-returns : tie.Need-returns
-unfolding offered
+returns : tie.Need-returns Inv-loop μ-loop
+unfolding offered packetWord
 returns c =
-    let a = c .before .before .args in
-    word-of (a .tag) (a .destination) (offeredWay (shapeOf (a .s)) (a .n) (a .destination)) (c .before .way-byte .result) (c .way-byte2 .result)
-    (c .before .way-byte .ensures) (c .way-byte2 .ensures) (x-small c) (y-small c) (let d = destination-small c in omega arith)
+    let l = c .before .loop .inv .1 in
+    let h = c .loop-test .left in
+    word-end (c .before .loop .i) _ _ _ (c .before .loop .inv .0) (omega arith)
 
 pub offered-spec : {M : Type 1} → statement M
 offered-spec =
     tie.close
-    (tie.spec
-    way-byte-requires
-    way-byte-requires-2
-    mul-result
-    mul-result-2
-    add-result
-    mul-result-3
-    add-result-2
-    add-result-3
-    returns)
+    (tie.spec Inv-loop μ-loop mul-p mul-p-2 add-p loop-holds way-requires with-offset-requires add-i loop-less loop-again returns)

@@ -3,8 +3,8 @@ use native.Mathlib.Omega.{arith}
 use native.Mathlib.Nat.{le-trans, le-of-eq}
 use borrow.Author.Needs.{needs}
 use Rattle.network.specs.Sizes.{shapeOf, dimensionOf}
-use Rattle.network.specs.PacketLaws.{dimension-lt}
-use Rattle.packet.specs.GeometryLaws.{Ring, rings-torus, rings-nodes, size-most, within-ring, neighbour-small, step-on, step-round, step-back, step-back-round}
+use Rattle.network.specs.TorusLaws.{sizes-torus, sizes-nodes, inRange-size}
+use Rattle.packet.specs.GeometryLaws.{Ring, within-ring, neighbour-small, step-on, step-round, step-back, step-back-round}
 use Rattle.packet.proofs.torus.step_from.Statement.{statement}
 use Rattle.packet.proofs.torus.step_from.Tie as tie
 
@@ -20,13 +20,13 @@ ring c =
     let a = start c .args in
     let p = start c .pre in
     record {
-      torus = rings-torus (a .s) (p .0);
+      torus = sizes-torus (a .s) (p .0);
       way = p .1;
       node = p .2;
-      few = rings-nodes (a .s) (p .0);
+      few = sizes-nodes (a .s) (p .0);
       at = p .3;
       round = c .before .size .ensures;
-      short = le-trans (le-of-eq (c .before .size .ensures)) (size-most (a .s) (dimensionOf (a .d)) (p .0) (dimension-lt (a .d) (p .1)));
+      short = le-trans (le-of-eq (c .before .size .ensures)) (inRange-size (shapeOf (a .s)) (dimensionOf (a .d)) (p .0));
       step = c .weight .ensures;
     }
 

@@ -1,14 +1,14 @@
--- `packet::torus::way_byte` meets its contract. Assumes nothing.
+-- `packet::torus::way` meets its contract. Assumes nothing.
 use mathlib.Core.Path.{_≡_, ap, _∙_}
 use Prim.Native.Nat.{ℕ}
 use borrow.Author.Needs.{needs}
 use Rattle.network.specs.Sizes.{shapeOf}
-use Rattle.network.specs.Packet.{byte, shorterWay}
+use Rattle.network.specs.Packet.{shorterWay}
 use Rattle.network.specs.OfferLaws.{offeredWay}
-use Rattle.packet.specs.GeometryLaws.{on-ring, rings-way}
-use Rattle.packet.proofs.Numbers.{back, range-back}
-use Rattle.packet.proofs.torus.way_byte.Statement.{statement}
-use Rattle.packet.proofs.torus.way_byte.Tie as tie
+use Rattle.packet.specs.GeometryLaws.{on-ring, sizes-way}
+use Rattle.packet.proofs.Numbers.{back}
+use Rattle.packet.proofs.torus.way.Statement.{statement}
+use Rattle.packet.proofs.torus.way.Tie as tie
 
 same-way : {k a b k′ a′ b′ : ℕ} → k ≡ k′ → a ≡ a′ → b ≡ b′ → shorterWay k a b ≡ shorterWay k′ a′ b′
 same-way ek ea eb = cc
@@ -38,22 +38,14 @@ shorter-way-requires : tie.Need-shorter-way-requires
 shorter-way-requires c κs =
     let a = c .before .before .before .args in
     let p = c .before .before .before .pre in
-    let from = on-ring (a .i) (a .n) (p .0) (p .1) (c .before .coordinate .ensures) (c .before .before .size .ensures) in
-    let to = on-ring (a .i) (a .destination) (p .0) (p .1) (c .coordinate2 .ensures) (c .before .before .size .ensures) in
+    let from = on-ring (a .s) (a .i) (a .n) (p .0) (p .1) (c .before .coordinate .ensures) (c .before .before .size .ensures) in
+    let to = on-ring (a .s) (a .i) (a .destination) (p .0) (p .1) (c .coordinate2 .ensures) (c .before .before .size .ensures) in
     (from .0, to .0, to .1)
-
-byte-requires : tie.Need-byte-requires
-byte-requires c κs =
-    let a = start c .args in
-    let p = start c .pre in
-    range-back (way-is c) (rings-way (a .n) (a .destination) (a .i) (p .0) (p .1))
 
 returns : tie.Need-returns
 returns c =
-    let a = start (c .before) .args in
-    let p = start (c .before) .pre in
-    c .byte .ensures ∙ ap byte (back (way-is (c .before)) (rings-way (a .n) (a .destination) (a .i) (p .0) (p .1)))
+    let st = start c in
+    back (way-is c) (sizes-way (st .args .s) (st .args .n) (st .args .destination) (st .args .i) (st .pre .0) (st .pre .1))
 
-pub way-byte-spec : {M : Type 1} → statement M
-way-byte-spec =
-    tie.close (tie.spec size-requires coordinate-requires coordinate-requires-2 shorter-way-requires byte-requires returns)
+pub way-spec : {M : Type 1} → statement M
+way-spec = tie.close (tie.spec size-requires coordinate-requires coordinate-requires-2 shorter-way-requires returns)

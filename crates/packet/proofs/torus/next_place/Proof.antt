@@ -1,0 +1,86 @@
+-- `packet::torus::next_place` meets its contract. The loop's invariant: the coordinates below i have gone round. Assumes nothing.
+use mathlib.Core.Path.{refl}
+use Prim.Native.Nat.{_-_}
+use native.Mathlib.Omega.{arith}
+use borrow.Author.Needs.{needs}
+use Rattle.network.specs.Sizes.{shapeOf, dimensions}
+use Rattle.network.specs.TorusLaws.{inRange-size}
+use Rattle.packet.specs.GeometryLaws.{Carrying, carry-start, carry-end, carry-more, carry-round}
+use Rattle.packet.proofs.torus.next_place.Statement.{statement}
+use Rattle.packet.proofs.torus.next_place.Tie as tie
+
+abbrev Inv-loop : tie.InvT-loop
+Inv-loop s at₀ i₀ at i = Carrying s (record { at = at₀ }) at i
+
+abbrev μ-loop : tie.MeasureT-loop
+μ-loop s at₀ i₀ at i = dimensions - i
+
+loop-holds : tie.Need-loop-holds Inv-loop μ-loop
+loop-holds c = carry-start _ _ (c .before .pre)
+
+mul-c : tie.Need-mul-c Inv-loop μ-loop
+mul-c c = search needs
+
+array-read-c : tie.Need-array-read-c Inv-loop μ-loop
+array-read-c c = c .loop-test .taken
+
+add-c : tie.Need-add-c Inv-loop μ-loop
+add-c c =
+    let at = c .before .before .before in
+    let b = c .before .loop .inv .on .below (c .before .loop .i) (c .loop-test .taken) in
+    let m = inRange-size (shapeOf (at .args .s)) (c .before .loop .i) (at .pre .sizes) in
+    omega arith
+
+size-requires : tie.Need-size-requires Inv-loop μ-loop
+size-requires c κs = search needs
+
+mul-at : tie.Need-mul-at Inv-loop μ-loop
+mul-at c = search needs
+
+array-write-at : tie.Need-array-write-at Inv-loop μ-loop
+array-write-at c = c .before .before .loop-test .taken
+
+returns : tie.Need-returns Inv-loop μ-loop
+returns c =
+    let st = c .before .before .before .before .before in
+    carry-end _ _ _ _ _ _ (st .pre) (c .before .before .before .loop .inv) (c .before .before .loop-test .taken) refl (c .before .size .ensures) (c .if1 .taken)
+
+mul-at-2 : tie.Need-mul-at-2 Inv-loop μ-loop
+mul-at-2 c = search needs
+
+array-write-at-2 : tie.Need-array-write-at-2 Inv-loop μ-loop
+array-write-at-2 c = c .before .before .loop-test .taken
+
+add-i : tie.Need-add-i Inv-loop μ-loop
+add-i c = search needs
+
+loop-less : tie.Need-loop-less Inv-loop μ-loop
+loop-less c = search needs
+
+loop-again : tie.Need-loop-again Inv-loop μ-loop
+loop-again c =
+    carry-more _ _ _ _ _ _ (c .before .before .before .loop .inv) (c .before .before .loop-test .taken) refl (c .before .size .ensures) (c .if1 .left)
+
+returns-2 : tie.Need-returns-2 Inv-loop μ-loop
+returns-2 c = carry-round _ _ _ _ (c .before .before .before .pre) (c .before .loop .inv) (c .loop-test .left)
+
+pub next-place-spec : {M : Type 1} → statement M
+next-place-spec =
+    tie.close
+    (tie.spec
+    Inv-loop
+    μ-loop
+    loop-holds
+    mul-c
+    array-read-c
+    add-c
+    size-requires
+    mul-at
+    array-write-at
+    returns
+    mul-at-2
+    array-write-at-2
+    add-i
+    loop-less
+    loop-again
+    returns-2)

@@ -1,0 +1,79 @@
+-- `packet_check::fill_tables` meets its contract. The loop's invariant: the rings of the dimensions before i are filled. Assumes nothing.
+use borrow.Author.Needs.{needs}
+use mathlib.Core.Path.{_≡_, subst, sym, _∙_}
+use Prim.Native.Nat.{ℕ, _-_, _≤_}
+use native.Mathlib.Omega.{arith}
+use native.Mathlib.Nat.{le-trans}
+use Rattle.base.specs.Numbers.{weight-most}
+use Rattle.network.specs.Sizes.{shapeOf, nodes, dimensions}
+use Rattle.network.specs.TorusLaws.{sizes-torus, sizes-nodes, inRange-size, size-pos}
+use Rattle.packet_check.specs.Tables.{TablesTo}
+use Rattle.packet_check.proofs.TableLaws.{tables-none, tables-more, tables-all}
+use Rattle.packet_check.proofs.fill_tables.Statement.{statement}
+use Rattle.packet_check.proofs.fill_tables.Tie as tie
+
+abbrev Inv-loop : tie.InvT-loop
+Inv-loop tables₀ s i₀ tables i = TablesTo s i tables × (i ≤ dimensions)
+
+abbrev μ-loop : tie.MeasureT-loop
+μ-loop tables₀ s i₀ tables i = dimensions - i
+
+loop-holds : tie.Need-loop-holds Inv-loop μ-loop
+loop-holds c = (tables-none _ _ (c .before .pre .1), omega arith)
+
+size-requires : tie.Need-size-requires Inv-loop μ-loop
+size-requires c κs = search needs
+
+weight-requires : tie.Need-weight-requires Inv-loop μ-loop
+weight-requires c κs = search needs
+
+fill-ring-requires : tie.Need-fill-ring-requires Inv-loop μ-loop
+unfolding nodes
+fill-ring-requires c κs =
+    let at = c .before .before .before .before in
+    let st = at .before .before in
+    let s = st .args .s in
+    let t = st .pre .0 in
+    let i = at .loop .i in
+    let h = c .before .before .before .loop-test .taken in
+    let torus = sizes-torus s t in
+    let e = c .before .size .ensures in
+    let f = c .weight .ensures in
+    let p = size-pos (shapeOf s) i torus h in
+    let m = inRange-size (shapeOf s) i t in
+    let w = weight-most (shapeOf s .sizes) i (torus .positive) in
+    let n = sizes-nodes s t in
+    (at .loop .inv .0 .words, h, omega arith, omega arith, omega arith)
+
+add-i : tie.Need-add-i Inv-loop μ-loop
+add-i c = search needs
+
+loop-less : tie.Need-loop-less Inv-loop μ-loop
+loop-less c = search needs
+
+loop-again : tie.Need-loop-again Inv-loop μ-loop
+loop-again c =
+    let fill = c .before .before in
+    let at = fill .before .before .before .before .before in
+    let h = fill .before .before .before .before .loop-test .taken in (
+      tables-more _ _ _ _ _ _ (at .before .before .pre .0) (at .loop .inv .0) h (fill .fill-ring .ensures .0)
+          (fill .before .before .size .ensures) (fill .before .weight .ensures) (fill .fill-ring .ensures .1 .0) (fill .fill-ring .ensures .1 .1),
+      omega arith,
+    )
+
+same-length : tie.Need-same-length Inv-loop μ-loop
+same-length c =
+    let a = c .before .loop .inv .0 .words in
+    let b = c .before .before .before .pre .1 in
+    omega arith
+
+returns : tie.Need-returns Inv-loop μ-loop
+returns c =
+    let l = c .before .loop .inv .1 in
+    let h = c .loop-test .left in
+    tables-all _ _ _ (c .before .loop .inv .0) (omega arith)
+
+pub fill-tables-spec : {M : Type 1} → statement M
+fill-tables-spec =
+    tie.close
+    (tie.spec Inv-loop μ-loop loop-holds size-requires weight-requires fill-ring-requires add-i loop-less loop-again same-length returns)
