@@ -1,13 +1,14 @@
--- Sums of a number for each number below n, and of a number for each element of a list. Order: the two definitions; equal sums; a change at one
--- place; a term, small terms, and fewer terms, against the sum; a term that is not 0. Assumes nothing.
+-- Sums of a number for each number below n, and of a number for each element of a list. Order: the two definitions; sums over a list; equal sums;
+-- a change at one place; a term, small terms, and fewer terms, against the sum; a term that is not 0. Assumes nothing.
 use mathlib.Core.Path.{_≡_, refl, ap, _∙_}
 use mathlib.Core.List.{List, [], _∷_, _++_}
 use mathlib.Core.Logic.{_⊎_, inl, inr, _≢_}
 use Prim.Native.Nat.{ℕ, zero, suc, _+_, _*_, _<_, _≤_}
 use native.Mathlib.Numerals.{add-one}
 use native.Mathlib.Decide.{ℕ-discrete}
-use native.Mathlib.Nat.{eq-or-lt-of-le, le-of-suc-le-suc, not-suc-le-zero, le-step, lt-suc-self, ne-of-gt, lt-irrefl, suc-mul}
+use native.Mathlib.Nat.{add-zero, eq-or-lt-of-le, le-of-suc-le-suc, not-suc-le-zero, le-step, lt-suc-self, ne-of-gt, lt-irrefl, suc-mul}
 use native.Mathlib.Omega.{arith}
+use lib.ListN.{length}
 
 unfoldable pub sumBelow : ℕ → (ℕ → ℕ) → ℕ
 sumBelow zero f = 0
@@ -26,6 +27,21 @@ pub sumOf-append : {A : Type 0} (f : A → ℕ) (xs ys : List A) → sumOf f (xs
 unfolding sumOf
 sumOf-append f [] ys = omega arith
 sumOf-append f (x ∷ xs) ys = let e = sumOf-append f xs ys in omega arith
+
+pub sumOf-one : {A : Type 0} (f : A → ℕ) (x : A) → sumOf f (x ∷ []) ≡ f x
+unfolding sumOf
+sumOf-one f x = add-zero (f x)
+
+-- where each element counts one, the sum is their number; where each counts at least one, it is no less
+pub sumOf-ones : {A : Type 0} (f : A → ℕ) (xs : List A) → ((x : A) → f x ≡ 1) → sumOf f xs ≡ length xs
+unfolding sumOf
+sumOf-ones f [] h = refl
+sumOf-ones f (x ∷ xs) h = let a = h x in let e = sumOf-ones f xs h in omega arith
+
+pub sumOf-least : {A : Type 0} (f : A → ℕ) (xs : List A) → ((x : A) → 0 < f x) → length xs ≤ sumOf f xs
+unfolding sumOf
+sumOf-least f [] h = omega arith
+sumOf-least f (x ∷ xs) h = let a = h x in let l = sumOf-least f xs h in omega arith
 
 pub sum-same : (n : ℕ) (f g : ℕ → ℕ) → ((i : ℕ) → i < n → f i ≡ g i) → sumBelow n f ≡ sumBelow n g
 unfolding sumBelow

@@ -1,6 +1,6 @@
 -- The queue that an output leads to. Order: it is one of the network's; it holds no more than its slots; the others are free. Assumes
 -- nothing.
-use mathlib.Core.Path.{_≡_, ap, ap₂, _∙_}
+use mathlib.Core.Path.{_≡_, ap, ap₂, sym, _∙_}
 use mathlib.Core.List.{List}
 use Prim.Native.Nat.{ℕ, _-_, _≤_}
 use native.Mathlib.Omega.{arith}
@@ -9,6 +9,7 @@ use Rattle.network.specs.Sizes.{shapeOf, directionOf, capacity}
 use Rattle.network.specs.Layout.{held}
 use Rattle.network.specs.TorusLaws.{neighbour-lt, sizes-torus}
 use Rattle.network.specs.Routes.{target, freeSlots}
+use Rattle.network.specs.RoutesLaws.{free-slots-held}
 use Rattle.network.specs.declared.Sizes.{Sizes}
 use Rattle.flow.specs.QueueOf.{QueueOf}
 use Rattle.flow.specs.HeldWords.{held-few}
@@ -27,5 +28,5 @@ module _ (s : Sizes) (w : List ℕ) (n o there : ℕ) (k : QueueOf s w n o) (e :
 
   pub target-free : (slots count : ℕ) → slots ≡ capacity (shapeOf s) o → count ≡ length (held (shapeOf s) w there o)
       → slots - count ≡ freeSlots (shapeOf s) w n o
-  unfolding freeSlots
-  target-free slots count f g = ap₂ (λ (a b : ℕ). a - b) f (g ∙ ap (λ (i : ℕ). length (held (shapeOf s) w i o)) e)
+  target-free slots count f g =
+      ap₂ (λ (a b : ℕ). a - b) f (g ∙ ap (λ (i : ℕ). length (held (shapeOf s) w i o)) e) ∙ sym (free-slots-held (shapeOf s) w n o)

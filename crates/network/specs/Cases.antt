@@ -25,14 +25,14 @@ use Rattle.network.specs.Sizes.{Shape, shapeOf, sized, size, within, siz
 use Rattle.network.specs.SizesLaws.{escape-capacity}
 use Rattle.network.specs.Packet.{signed, byte, packetWord, tag, destination, offset, withOffset, withOffsets, distance, forward, backward, hops, heading, hopsLeft, work, shrunk, hop, shorterWay}
 use Rattle.network.specs.Torus.{coordinate, stride, along, neighbour, movedBelow, movedBy}
-use Rattle.network.specs.Layout.{headerWords, shape, accepted, delivered, movesMade, raised, acceptedAt, queueLength, nodeWords, queueStart, queueEnd, need, queueWords, queuePart, countOf, packetsOf, unusedOf, held, putQueue, total}
+use Rattle.network.specs.Layout.{headerWords, shape, accepted, delivered, movesMade, raised, acceptedAt, queueLength, nodeWords, queueStart, queueEnd, need, queueWords, queuePart, countOf, packetsOf, unusedOf, held, load, fill, putQueue, total}
 use Rattle.network.specs.Check.{rightPlace, isQueueOf, reach, nearEnough, opposite, rightSign, lowerDone, packetFits, queueFits, queuesFit, hasRoom, ringHasRoom, ringsHaveRoom, packetsHeld, workLeft, countersFit, isNetwork}
 use Rattle.network.specs.Routes.{deliver, inOrder, without, incoming, incomingFirst, headings, routes, target, freeSlots, entersRing, slotsNeeded}
 use Rattle.network.specs.Refusals.{refuse, noRoute, noSlot, noBubble, networkRefusal, makeRefusal, offerRules, offerRefusal, head, flowRules, moveRules, moveRefusal}
 use Rattle.network.specs.Calls.{Progress, emptyNetwork, makeWords, offered, afterOffer, offerWords, headLeaves, packetArrives, afterMove, firstOutput, firstInQueue, orElse, search, firstInNode, firstMove, firstAnswer, stopped, oneMore, deliverNext, moveNext, drainFrom, drained, drainAnswer}
 use Rattle.network.specs.TorusLaws.{along-lt, inRange-torus}
-use Rattle.network.specs.CheckLaws.{Network, network-of}
-use Rattle.network.specs.RoutesLaws.{Onward, route-of}
+use Rattle.network.specs.CheckLaws.{Network, network-of, has-room-held}
+use Rattle.network.specs.RoutesLaws.{Onward, route-of, free-slots-held}
 use Rattle.network.specs.RefusalLaws.{elseBy-zero, network-passes}
 
 -- a packet with tag 0, this destination and these offsets dx and dy
@@ -240,8 +240,7 @@ past-holds w n q o s h =
 -- K5 to K7: the free slots are what the packets ahead leave of two
 module _ (w : List ℕ) (n q d : ℕ) (s : Entering w n q d) where
   free : (count : ℕ) → ahead w n d ≡ count → freeSlots (shape w) w n (escapeQueue d) ≡ 2 - count
-  unfolding freeSlots
-  free count e = ap₂ (λ (a b : ℕ). a - b) (escape-capacity (shape w) d ∙ s .two-slots) e
+  free count e = free-slots-held (shape w) w n (escapeQueue d) ∙ ap₂ (λ (a b : ℕ). a - b) (escape-capacity (shape w) d ∙ s .two-slots) e
 
   needed : slotsNeeded q (escapeQueue d) ≡ cond (eqb q (escapeQueue d)) 1 2
   unfolding entersRing slotsNeeded
@@ -371,8 +370,15 @@ module _ (w : List ℕ) (d : ℕ) (r : RingsOfTwo w d) where
   sum n = rw (r .two-nodes) (omega arith)
 
   clause : (n : ℕ) → ringHasRoom (shape w) w d n ≡ (ltb (round n 0) 2 || ltb (round n 1) 2)
-  unfolding ringHasRoom hasRoom someBelow round
-  clause n = rw (r .two-nodes, escape-capacity (shape w) d, r .two-slots)
+  unfolding ringHasRoom someBelow round
+  clause n =
+      rw (
+        r .two-nodes,
+        has-room-held (shape w) w (along (shape w) d 0 n) (escapeQueue d),
+        has-room-held (shape w) w (along (shape w) d 1 n) (escapeQueue d),
+        escape-capacity (shape w) d,
+        r .two-slots,
+      )
 
   few : Network (shape w) w → (n j : ℕ) → n < nodes (shape w) → round n j ≤ 2
   unfolding round held packetsOf shape
@@ -426,7 +432,7 @@ module _ (w : List ℕ) (d : ℕ) (r : RingsOfTwo w d) where
       ring e n he hn (no ne) = others e n he hn ne
 
 pub keptCases : KeptCases
-unfolding next oneHop chosen outside sources inEach crossing allBelow someBelow allOf elem sumBelow sumOf product digit putDigit turn size within sizesInRange nodes capacity signed byte packetWord tag destination offset withOffset withOffsets distance forward backward hops heading hopsLeft work shrunk hop shorterWay coordinate stride along neighbour movedBelow movedBy shape accepted delivered movesMade raised queueLength nodeWords queueStart queueEnd need queueWords queuePart countOf packetsOf unusedOf held putQueue total rightPlace isQueueOf reach nearEnough opposite rightSign lowerDone packetFits queueFits queuesFit hasRoom ringHasRoom ringsHaveRoom packetsHeld workLeft countersFit isNetwork inOrder without incoming incomingFirst headings routes target freeSlots entersRing slotsNeeded networkRefusal makeRefusal offerRules offerRefusal head flowRules moveRules moveRefusal shapeOf emptyNetwork makeWords offered afterOffer offerWords headLeaves packetArrives afterMove firstOutput firstInQueue orElse search firstInNode firstMove firstAnswer stopped oneMore deliverNext moveNext drainFrom drained drainAnswer
+unfolding next oneHop chosen outside sources inEach crossing allBelow someBelow allOf elem sumBelow sumOf product digit putDigit turn size within sizesInRange nodes capacity signed byte packetWord tag destination offset withOffset withOffsets distance forward backward hops heading hopsLeft work shrunk hop shorterWay coordinate stride along neighbour movedBelow movedBy shape accepted delivered movesMade raised queueLength nodeWords queueStart queueEnd need queueWords queuePart countOf packetsOf unusedOf held load fill putQueue total rightPlace isQueueOf reach nearEnough opposite rightSign lowerDone packetFits queueFits queuesFit hasRoom ringHasRoom ringsHaveRoom packetsHeld workLeft countersFit isNetwork inOrder without incoming incomingFirst headings routes target freeSlots entersRing slotsNeeded networkRefusal makeRefusal offerRules offerRefusal head flowRules moveRules moveRefusal shapeOf emptyNetwork makeWords offered afterOffer offerWords headLeaves packetArrives afterMove firstOutput firstInQueue orElse search firstInNode firstMove firstAnswer stopped oneMore deliverNext moveNext drainFrom drained drainAnswer
 keptCases =
     record {
       k1 = refl;

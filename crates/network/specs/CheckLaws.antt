@@ -1,5 +1,5 @@
 -- The check of a network as facts, and back: each Boolean definition of Check.antt is the record of its clauses that stands here.
--- Order: a packet; a queue; the whole. Assumes nothing.
+-- Order: a packet; a queue; its room; the whole. Assumes nothing.
 use mathlib.Core.Path.{_≡_, refl, ap, sym, _∙_}
 use mathlib.Core.Logic.{_⊎_, inl, inr, _≢_}
 use mathlib.Core.Bool.{Bool, true, false, cond, not, _&&_}
@@ -17,8 +17,9 @@ use Rattle.network.specs.Packet.{destination, distance, hops}
 use Rattle.network.specs.PacketLaws.{one-way, distance-is}
 use Rattle.network.specs.Torus.{stride, along, neighbour, movedBy}
 use Rattle.network.specs.TorusLaws.{Torus}
-use Rattle.network.specs.Layout.{held, queuePart, countOf, unusedOf, need, accepted, delivered, movesMade}
-use Rattle.network.specs.Check.{longest, rightPlace, isQueueOf, reach, nearEnough, opposite, rightSign, lowerDone, packetFits, queueFits, queuesFit, ringHasRoom, ringsHaveRoom, packetsHeld, workLeft, mostAccepted, mostWork, countersFit, isNetwork}
+use Rattle.network.specs.Layout.{held, fill, queuePart, countOf, unusedOf, need, accepted, delivered, movesMade}
+use Rattle.network.specs.LayoutLaws.{fill-length}
+use Rattle.network.specs.Check.{longest, rightPlace, isQueueOf, reach, nearEnough, opposite, rightSign, lowerDone, packetFits, queueFits, queuesFit, hasRoom, ringHasRoom, ringsHaveRoom, packetsHeld, workLeft, mostAccepted, mostWork, countersFit, isNetwork}
 
 -- the test of an equation, as a fact and back
 pub eq-T : (a b : ℕ) → a ≡ b → T (eqb a b)
@@ -244,6 +245,19 @@ queue-by S w n q f =
 
     c : Bool
     c = allOf (packetFits S n q) (held S w n q)
+
+-- room in a queue, as a fact and back, and by the number held
+pub has-room-of : (S : Shape) (w : List ℕ) (n q : ℕ) → T (hasRoom S w n q) → fill S w n q < capacity S q
+unfolding hasRoom
+has-room-of S w n q t = ltb→lt (fill S w n q) (capacity S q) t
+
+pub has-room-by : (S : Shape) (w : List ℕ) (n q : ℕ) → fill S w n q < capacity S q → T (hasRoom S w n q)
+unfolding hasRoom
+has-room-by S w n q h = lt→ltb (fill S w n q) (capacity S q) h
+
+pub has-room-held : (S : Shape) (w : List ℕ) (n q : ℕ) → hasRoom S w n q ≡ ltb (length (held S w n q)) (capacity S q)
+unfolding hasRoom
+has-room-held S w n q = ap (λ (k : ℕ). ltb k (capacity S q)) (fill-length S w n q)
 
 -- the clauses for the words
 pub record Network (S : Shape) (w : List ℕ) : Type 0 where

@@ -1,9 +1,9 @@
--- R40 to R49: where everything stands in the lent words. Order: the header; where each queue's words stand; a queue's words; reading and
--- replacing a queue; sums over all queues. Assumes nothing.
+-- R40 to R49: where everything stands in the lent words. Order: the header; where each queue's words stand; a queue's words; reading a queue;
+-- how full it is (R20); replacing it; sums over all queues. Assumes nothing.
 use mathlib.Core.List.{List, [], _∷_, _++_}
 use Prim.Native.Nat.{ℕ, _+_, _*_, _-_}
 use lib.ListN.{length, getD, take, drop, set, replicate}
-use Rattle.base.specs.Sums.{sumBelow}
+use Rattle.base.specs.Sums.{sumBelow, sumOf}
 use Rattle.base.specs.Parts.{span, splice}
 use Rattle.network.specs.Sizes.{Shape, nodes, queues, directions, capacity}
 
@@ -73,6 +73,14 @@ unusedOf part = drop (countOf part) (drop 1 part)
 
 unfoldable pub held : Shape → List ℕ → ℕ → ℕ → List ℕ
 held S w n q = packetsOf (queuePart S w n q)
+
+-- R20: the slots that packet p takes in queue q: one, whatever the packet and whatever the queue
+unfoldable pub load : ℕ → ℕ → ℕ
+load q p = 1
+
+-- R20: the slots of queue q of node n that are taken, the sum of the loads of the packets that it holds
+unfoldable pub fill : Shape → List ℕ → ℕ → ℕ → ℕ
+fill S w n q = sumOf (load q) (held S w n q)
 
 -- R49: the words with the part of one queue replaced, and nothing else
 unfoldable pub putQueue : Shape → List ℕ → ℕ → ℕ → List ℕ → List ℕ

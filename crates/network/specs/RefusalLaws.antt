@@ -4,7 +4,7 @@ use mathlib.Core.Path.{_≡_, refl, ap, _∙_}
 use mathlib.Core.Logic.{_≢_}
 use mathlib.Core.Bool.{Bool, true, false, cond, not}
 use mathlib.Core.List.{List}
-use Prim.Native.Nat.{ℕ, suc, _-_, _<_, _≤_}
+use Prim.Native.Nat.{ℕ, suc, _+_, _<_, _≤_}
 use native.Mathlib.Nat.{le-trans, le-add-right}
 use native.Mathlib.Decide.{ℕ-discrete}
 use native.Mathlib.Omega.{arith}
@@ -12,11 +12,13 @@ use borrow.Author.Tests.{eq-eqb, ne-eqb, lt-leb, le-ltb, ltb-false, leb-false, e
 use lib.Dec.{T, leb, ltb, eqb}
 use lib.ListN.{length}
 use Rattle.base.specs.Tests.{elem, T-true, true-T}
-use Rattle.network.specs.Sizes.{Shape, sizesInRange, nodes, queues}
-use Rattle.network.specs.Layout.{shape, headerWords, need, held}
+use Rattle.network.specs.Sizes.{Shape, sizesInRange, nodes, queues, capacity}
+use Rattle.network.specs.Layout.{shape, headerWords, need, held, load, fill}
+use Rattle.network.specs.LayoutLaws.{load-one, load-pos}
 use Rattle.network.specs.Check.{isNetwork}
 use Rattle.network.specs.CheckLaws.{Network, network-of, network-by}
-use Rattle.network.specs.Routes.{routes, deliver, freeSlots, entersRing, slotsNeeded}
+use Rattle.network.specs.Routes.{routes, deliver, target, freeSlots, entersRing, slotsNeeded}
+use Rattle.network.specs.RoutesLaws.{free-slots-is}
 use Rattle.network.specs.Refusals.{refuse, elseBy, networkRefusal, head, flowRules, moveRules, shortStore, wrongSize, noNetwork, noSuchNode, noSuchQueue, noSuchOutput, queueEmpty, noRoute, noSlot, noBubble}
 
 -- a test that would refuse by k + 1 did not apply, and the later ones say 0
@@ -80,13 +82,24 @@ flow-of S w n q o e ne =
     let (b, r₂) = not-refused (ltb (freeSlots S w n o) (slotsNeeded q o)) 11 _ r₁ in
     ltb-false (freeSlots S w n o) (slotsNeeded q o) b
 
-pub needed-pos : (q o : ℕ) → 0 < slotsNeeded q o
+needed-pos : (q o : ℕ) → 0 < slotsNeeded q o
 unfolding slotsNeeded
 needed-pos q o = go (entersRing q o)
   where
     go : (b : Bool) → 0 < cond b 2 1
     go true = omega arith
     go false = omega arith
+
+-- a move needs no less than its packet takes: where as much is free as it needs, the target takes the packet
+load-needed : (q o p : ℕ) → load o p ≤ slotsNeeded q o
+load-needed q o p = let a = load-one o p in let b = needed-pos q o in omega arith
+
+pub target-takes : (S : Shape) (w : List ℕ) (n q o p : ℕ) → slotsNeeded q o ≤ freeSlots S w n o → fill S w (target S n o) o + load o p ≤ capacity S o
+target-takes S w n q o p h =
+    let a = free-slots-is S w n o in
+    let b = load-needed q o p in
+    let c = load-pos o p in
+    omega arith
 
 pub flow-by : (S : Shape) (w : List ℕ) (n q o : ℕ) → (o ≢ deliver → slotsNeeded q o ≤ freeSlots S w n o) → flowRules S w n q o ≡ 0
 unfolding flowRules

@@ -2,13 +2,13 @@
 -- output; its free slots; how many a move needs. Assumes nothing.
 use mathlib.Core.Bool.{Bool, cond, not, _&&_}
 use mathlib.Core.List.{List, [], _∷_, _++_, map}
-use Prim.Native.Nat.{ℕ, zero, suc, _+_, _-_}
+use Prim.Native.Nat.{ℕ, zero, suc, _-_}
 use lib.Dec.{eqb}
-use lib.ListN.{length, take}
+use lib.ListN.{take}
 use Rattle.network.specs.Sizes.{Shape, dimensions, dimensionOf, directionOf, isEscape, injectionQueue, adaptiveQueue, escapeQueue, capacity}
 use Rattle.network.specs.Packet.{distance, heading, hopsLeft}
 use Rattle.network.specs.Torus.{neighbour}
-use Rattle.network.specs.Layout.{held}
+use Rattle.network.specs.Layout.{fill}
 
 -- the dimensions in the order x, y: i, i + 1, .., so many of them
 unfoldable pub inOrder : ℕ → ℕ → List ℕ
@@ -47,9 +47,9 @@ routes q p =
 unfoldable pub target : Shape → ℕ → ℕ → ℕ
 target S n o = neighbour S (directionOf o) n
 
--- R116
+-- R116: the slots of the target that are not taken
 unfoldable pub freeSlots : Shape → List ℕ → ℕ → ℕ → ℕ
-freeSlots S w n o = capacity S o - length (held S w (target S n o) o)
+freeSlots S w n o = capacity S o - fill S w (target S n o) o
 
 -- R151, R152: a head that goes into an escape queue enters its ring, unless it stands in the escape queue of that direction: there its queue has the
 -- output's number, and it travels in the ring already

@@ -1,5 +1,5 @@
--- The routes of a head as facts: which outputs are routes, and that a head always has an escape route or is delivered.
--- Order: headings; the routes. Assumes nothing.
+-- The routes of a head as facts: which outputs are routes, and that a head always has an escape route or is delivered; and what is free in a target.
+-- Order: headings; the routes; free slots. Assumes nothing.
 use mathlib.Core.Path.{_≡_, refl, ap, _∙_}
 use mathlib.Core.Logic.{_⊎_, inl, inr, _≢_}
 use mathlib.Core.Bool.{Bool, true, false, cond, _||_}
@@ -9,12 +9,14 @@ use native.Mathlib.Decide.{ℕ-discrete}
 use native.Mathlib.Omega.{arith}
 use borrow.Author.Tests.{eq-eqb, ne-eqb}
 use lib.Dec.{T, eqb, eqb→eq, eqb-refl}
-use lib.ListN.{take}
+use lib.ListN.{length, take}
 use Rattle.base.specs.Tests.{elem, or-e, or-l, or-r, elem-append-r}
-use Rattle.network.specs.Sizes.{dimensions, dimensionOf, directionOf, adaptiveQueue, escapeQueue}
+use Rattle.network.specs.Sizes.{Shape, capacity, dimensions, dimensionOf, directionOf, adaptiveQueue, escapeQueue}
 use Rattle.network.specs.Packet.{distance, heading, hopsLeft}
 use Rattle.base.specs.Sums.{sumBelow, sum-zero}
-use Rattle.network.specs.Routes.{inOrder, without, incoming, incomingFirst, headings, routes, deliver}
+use Rattle.network.specs.Layout.{held, fill}
+use Rattle.network.specs.LayoutLaws.{fill-length}
+use Rattle.network.specs.Routes.{inOrder, without, incoming, incomingFirst, headings, routes, deliver, target, freeSlots}
 
 -- a member of two lists joined, or of a list mapped
 elem-either : (a : ℕ) (xs ys : List ℕ) → T (elem a (xs ++ ys)) → T (elem a xs) ⊎ T (elem a ys)
@@ -272,3 +274,15 @@ escape-route q p ne = go (lowest 0 dimensions p)
       where
         below : (i : ℕ) → i < dimensions → i < 0 + dimensions
         below i h = omega arith
+
+-- the free slots of a target, by its fill, and by the number that it holds
+pub free-slots-is : (S : Shape) (w : List ℕ) (n o : ℕ) → freeSlots S w n o ≡ capacity S o - fill S w (target S n o) o
+unfolding freeSlots
+free-slots-is S w n o = refl
+
+pub free-slots-held : (S : Shape) (w : List ℕ) (n o : ℕ) → freeSlots S w n o ≡ capacity S o - length (held S w (target S n o) o)
+free-slots-held S w n o = free-slots-is S w n o ∙ ap (λ (k : ℕ). capacity S o - k) (fill-length S w (target S n o) o)
+
+-- where no less is taken, no more is free
+pub free-slots-fewer : (S : Shape) (w v : List ℕ) (n o : ℕ) → fill S w (target S n o) o ≤ fill S v (target S n o) o → freeSlots S v n o ≤ freeSlots S w n o
+free-slots-fewer S w v n o l = let a = free-slots-is S w n o in let b = free-slots-is S v n o in omega arith

@@ -22,6 +22,7 @@ use Rattle.network.specs.TorusLaws.{Torus, size-pos, coordinate-lt}
 use Rattle.network.specs.Layout.{need, nodeWords, queueStart, queueEnd, queueLength, queuePart, countOf, packetsOf, held}
 use Rattle.network.specs.LayoutLaws.{Fits, end-start, end-length, length-queuePart}
 use Rattle.network.specs.Check.{hasRoom, ringHasRoom}
+use Rattle.network.specs.CheckLaws.{has-room-held}
 use Rattle.packet.specs.Geometry.{RingsFit, weight, nodeAt, OnTorus}
 use Rattle.packet.specs.GeometryLaws.{rings-torus, size-x, size-y, weight-x, weight-y, put-weight, node-is, nodes-is, node-lt, column-is, row-is, moved-is}
 use Rattle.network.specs.declared.Sizes.{Sizes}
@@ -306,8 +307,9 @@ some-alike (suc n) f g h = ap₂ (λ a b. a || b) (some-alike n f g (λ i l. h i
 
 -- the first word of a queue tells whether it has room, even if it says too much
 room-is : (S : Shape) (w : List ℕ) (m q : ℕ) → Fits S w m q → ltb (getD w (queueStart S m q) 0) (capacity S q) ≡ hasRoom S w m q
-unfolding hasRoom held packetsOf countOf queuePart queueLength
-room-is S w m q fits = ap (λ (k : ℕ). ltb k (capacity S q)) (sym first) ∙ go (decLt (countOf (queuePart S w m q)) (capacity S q))
+unfolding held packetsOf countOf queuePart queueLength
+room-is S w m q fits =
+    ap (λ (k : ℕ). ltb k (capacity S q)) (sym first) ∙ go (decLt (countOf (queuePart S w m q)) (capacity S q)) ∙ sym (has-room-held S w m q)
   where
     first : getD (queuePart S w m q) 0 0 ≡ getD w (queueStart S m q) 0
     first =

@@ -19,12 +19,12 @@ use Rattle.network.specs.Packet.{distance, hops, heading, hopsLeft}
 use Rattle.network.specs.PacketLaws.{dimension-lt, heading-lt, heading-dimension, heading-of}
 use Rattle.network.specs.Torus.{along, neighbour}
 use Rattle.network.specs.TorusLaws.{Torus, along-lt, along-add, along-zero, along-round, neighbour-lt, size-pos}
-use Rattle.network.specs.Layout.{held}
-use Rattle.network.specs.LayoutLaws.{some-held}
+use Rattle.network.specs.Layout.{held, fill}
+use Rattle.network.specs.LayoutLaws.{fill-none, fill-some, some-held}
 use Rattle.network.specs.Check.{packetFits, packetsHeld, opposite}
 use Rattle.network.specs.CheckLaws.{PacketFits, packet-of, Network, both-zero}
 use Rattle.network.specs.Routes.{deliver, target, entersRing, slotsNeeded, freeSlots}
-use Rattle.network.specs.RoutesLaws.{EscapeRoute, escape-route, arrived-route}
+use Rattle.network.specs.RoutesLaws.{EscapeRoute, escape-route, arrived-route, free-slots-is}
 use Rattle.network.specs.Refusals.{head}
 use Rattle.network.specs.RefusalLaws.{Permitted}
 use Rattle.run.specs.Queues.{allOf-first}
@@ -92,7 +92,7 @@ last S w (suc m) = go (some-or-none (nodes S) (λ n. length (held S w n (escapeQ
         at e (inr b) n h = a e b n h
 
 -- from a place that holds something to a later one with room there are two next to each other, the first of which holds something and the second
--- of which has room: `f j` is the number held at the j-th place
+-- of which has room: `f j` is how much is taken at the j-th place
 pub step-over : (c : ℕ) (f : ℕ → ℕ) (j : ℕ) → f 0 ≢ 0 → f (suc j) < c → 0 < c → (i : ℕ) × (f i ≢ 0) × (f (suc i) < c)
 step-over c f zero start room pos = (0, start, room)
 step-over c f (suc j) start room pos = go (ℕ-discrete (f (suc j)) 0) (λ r. step-over c f j start r pos)
@@ -116,10 +116,11 @@ one-more S d i n tor hd = along-add S d 1 i n tor hd ∙ ap (λ (x : ℕ). along
 -- along its own ring a packet needs one slot
 fits-one : (S : Shape) (w : List ℕ) (n d : ℕ) → d < directions → Room S w (neighbour S d n) (escapeQueue d)
     → slotsNeeded (escapeQueue d) (escapeQueue d) ≤ freeSlots S w n (escapeQueue d)
-unfolding entersRing slotsNeeded freeSlots target Room
-fits-one S w n d hd room = rw (eq-eqb (escapeQueue d) (escapeQueue d) refl, escape-direction d hd) (go (isEscape (escapeQueue d)))
+unfolding entersRing slotsNeeded target Room
+fits-one S w n d hd room =
+    rw (free-slots-is S w n (escapeQueue d), eq-eqb (escapeQueue d) (escapeQueue d) refl, escape-direction d hd) (go (isEscape (escapeQueue d)))
   where
-    go : (b : Bool) → cond (b && false) 2 1 ≤ capacity S (escapeQueue d) - length (held S w (neighbour S d n) (escapeQueue d))
+    go : (b : Bool) → cond (b && false) 2 1 ≤ capacity S (escapeQueue d) - fill S w (neighbour S d n) (escapeQueue d)
     go true = omega arith
     go false = omega arith
 
@@ -181,14 +182,14 @@ module _ (S : Shape) (w : List ℕ) (tor : Torus S) (N : Network S w) where
 
   -- an empty ring takes anybody
   into-empty : (n q e : ℕ) → n < nodes S → e < directions → Empty S w e → slotsNeeded q (escapeQueue e) ≤ freeSlots S w n (escapeQueue e)
-  unfolding freeSlots target entersRing slotsNeeded Empty
+  unfolding target entersRing slotsNeeded Empty
   into-empty n q e hn he z =
-      let a : length (held S w (neighbour S (directionOf (escapeQueue e)) n) (escapeQueue e)) ≡ 0 =
-      z (neighbour S (directionOf (escapeQueue e)) n)
-      (neighbour-lt S (directionOf (escapeQueue e)) n tor (rw (escape-direction e he) he) hn) in
+      let a : fill S w (target S n (escapeQueue e)) (escapeQueue e) ≡ 0 =
+      fill-none S w (target S n (escapeQueue e)) (escapeQueue e)
+      (z (target S n (escapeQueue e)) (neighbour-lt S (directionOf (escapeQueue e)) n tor (rw (escape-direction e he) he) hn)) in
       let b : 2 ≤ capacity S (escapeQueue e) = two-slots e in
-      go (isEscape (escapeQueue e) && not (eqb q (escapeQueue e))) (capacity S (escapeQueue e))
-      (length (held S w (neighbour S (directionOf (escapeQueue e)) n) (escapeQueue e))) a b
+      rw (free-slots-is S w n (escapeQueue e))
+      (go (isEscape (escapeQueue e) && not (eqb q (escapeQueue e))) (capacity S (escapeQueue e)) (fill S w (target S n (escapeQueue e)) (escapeQueue e)) a b)
     where
       go : (t : Bool) (c l : ℕ) → l ≡ 0 → 2 ≤ c → cond t 2 1 ≤ c - l
       go true c l a b = omega arith
@@ -277,10 +278,10 @@ module _ (S : Shape) (w : List ℕ) (tor : Torus S) (N : Network S w) where
       old = ring-of S w d (l .node) (N .ring d (l .node) hd (l .inside))
 
       at : ℕ → ℕ
-      at j = length (held S w (along S d j (l .node)) (escapeQueue d))
+      at j = fill S w (along S d j (l .node)) (escapeQueue d)
 
       start : at 0 ≢ 0
-      start z = l .holds (sym (ap (λ (n : ℕ). length (held S w n (escapeQueue d))) (along-zero S d (l .node) tor hd)) ∙ z)
+      start z = fill-some S w (l .node) (escapeQueue d) (l .holds) (sym (ap (λ (n : ℕ). fill S w n (escapeQueue d)) (along-zero S d (l .node) tor hd)) ∙ z)
 
       -- once round the ring and on to the free slot
       round : along S d (suc (old .steps + (k - 1))) (l .node) ≡ along S d (old .steps) (l .node)
@@ -299,7 +300,8 @@ module _ (S : Shape) (w : List ℕ) (tor : Torus S) (N : Network S w) where
 
       go : (i : ℕ) × (at i ≢ 0) × (at (suc i) < capacity S (escapeQueue d)) → Some S w
       go r =
-          along-or-later d hd (l .later) (along S d (r .0) (l .node)) (along-lt S d (r .0) (l .node) tor hd (l .inside)) (r .1)
+          along-or-later d hd (l .later) (along S d (r .0) (l .node)) (along-lt S d (r .0) (l .node) tor hd (l .inside))
+          (λ z. r .1 (fill-none S w (along S d (r .0) (l .node)) (escapeQueue d) z))
           (rw (one-more S d (r .0) (l .node) tor hd) (r .2))
 
   pub alive : packetsHeld S w ≢ 0 → Some S w

@@ -4,19 +4,21 @@
 use mathlib.Core.Path.{_≡_, refl, ap, sym, _∙_, subst}
 use mathlib.Core.Logic.{_≢_}
 use mathlib.Core.List.{List}
-use Prim.Native.Nat.{ℕ, _-_, _<_, _≤_}
+use Prim.Native.Nat.{ℕ, _<_, _≤_}
+use native.Mathlib.Nat.{le-trans}
 use native.Mathlib.Omega.{arith}
 use lib.Dec.{T}
 use lib.ListN.{length}
 use Rattle.base.specs.Tests.{elem}
 use Rattle.network.specs.declared.Found.{Found}
-use Rattle.network.specs.Sizes.{Shape, nodes, queues, directions, directionOf, capacity}
+use Rattle.network.specs.Sizes.{Shape, nodes, queues, directions, directionOf}
 use Rattle.network.specs.Torus.{neighbour}
 use Rattle.network.specs.TorusLaws.{Torus, neighbour-lt}
-use Rattle.network.specs.Layout.{held}
+use Rattle.network.specs.Layout.{held, fill}
 use Rattle.network.specs.Check.{opposite}
 use Rattle.network.specs.CheckLaws.{Network, neighbour-back}
-use Rattle.network.specs.Routes.{routes, deliver, target, freeSlots, slotsNeeded}
+use Rattle.network.specs.Routes.{routes, deliver, target}
+use Rattle.network.specs.RoutesLaws.{free-slots-fewer}
 use Rattle.network.specs.Refusals.{head}
 use Rattle.network.specs.RefusalLaws.{Permitted}
 use Rattle.network.specs.FirstLaws.{Finds, nothing, named, Its, queue-finds, queue-nothing, search-at, search-nowhere}
@@ -47,7 +49,6 @@ pub record Untouched (S : Shape) (n q o k r : ℕ) : Type 0 where
 -- a permitted move of such a head was permitted before
 pub permitted-before : (S : Shape) (w : List ℕ) (n q o : ℕ) → Torus S → Network S w → Permitted S w n q o → (k r t : ℕ) → Untouched S n q o k r
     → Permitted S (afterMove S w n q o) k r t → Permitted S w k r t
-unfolding freeSlots
 permitted-before S w n q o tor N P k r t u p =
     record {
       node = p .node;
@@ -55,7 +56,7 @@ permitted-before S w n q o tor N P k r t u p =
       output = p .output;
       holds = subst (λ (ps : List ℕ). length ps ≢ 0) same (p .holds);
       route = subst (λ (ps : List ℕ). T (elem t (routes r (head ps)))) same (p .route);
-      room = λ ne. fewer (capacity S t) (length (held S w (target S k t) t)) (length (held S v (target S k t) t)) (slotsNeeded r t) (p .room ne) (grown ne);
+      room = λ ne. le-trans (p .room ne) (free-slots-fewer S w v k t (grown ne));
     }
   where
     v : List ℕ
@@ -67,13 +68,10 @@ permitted-before S w n q o tor N P k r t u p =
     same : held S v k r ≡ held S w k r
     same = away .same k r (p .node) (p .queue) (u .source) (u .arrival)
 
-    grown : t ≢ deliver → length (held S w (target S k t) t) ≤ length (held S v (target S k t) t)
+    grown : t ≢ deliver → fill S w (target S k t) t ≤ fill S v (target S k t) t
     grown ne =
         away .no-less (target S k t) t (target-lt S k t tor (p .node)) (p .output)
         (λ e. u .feeder (λ z. ne (sym (e .1) ∙ z)) (sym (before-is S k n q tor (ap (target S k) (e .1) ∙ sym (e .0)))))
-
-    fewer : (c a b x : ℕ) → x ≤ c - b → a ≤ b → x ≤ c - a
-    fewer c a b x h l = omega arith
 
 -- so a head at which First found nothing has nothing still
 pub still-nothing : (S : Shape) (w : List ℕ) (n q o : ℕ) → Torus S → Network S w → Permitted S w n q o → (k r : ℕ) → Untouched S n q o k r

@@ -1,16 +1,17 @@
--- The queue clause of the check under the changes that calls make to words: one queue replaced, one counter raised. Assumes nothing.
+-- The queue clause of the check under the changes that calls make to words: one queue replaced, one counter raised; and a queue's oldest packet
+-- apart from the rest. Assumes nothing.
 use mathlib.Core.Path.{_≡_, refl}
 use mathlib.Core.Logic.{_≢_}
 use mathlib.Core.List.{List, [], _∷_, _++_}
-use Prim.Native.Nat.{ℕ, suc, _+_, _-_, _<_, _≤_}
+use Prim.Native.Nat.{ℕ, suc, _<_, _≤_}
 use native.Mathlib.Decide.{ℕ-discrete}
 use native.Mathlib.Omega.{arith}
 use lib.Dec.{T}
 use lib.ListN.{length, drop}
 use Rattle.base.specs.Tests.{allOf, allOf-head, allOf-tail, allOf-append}
 use Rattle.network.specs.Sizes.{Shape, nodes, queues, capacity}
-use Rattle.network.specs.Layout.{headerWords, queueLength, queuePart, countOf, packetsOf, queueWords, held, putQueue, raised}
-use Rattle.network.specs.LayoutLaws.{Fits, length-queuePart, length-packetsOf, countOf-queueWords, packetsOf-queueWords, unused-zero, part-put-same, part-put-other, part-raised}
+use Rattle.network.specs.Layout.{headerWords, queueLength, queuePart, countOf, packetsOf, queueWords, held, fill, putQueue, raised}
+use Rattle.network.specs.LayoutLaws.{Fits, length-queuePart, length-packetsOf, countOf-queueWords, packetsOf-queueWords, unused-zero, fill-length, part-put-same, part-put-other, part-raised}
 use Rattle.network.specs.Check.{packetFits}
 use Rattle.network.specs.CheckLaws.{QueueFits}
 use Rattle.network.specs.Refusals.{head}
@@ -24,7 +25,7 @@ same? n q m r = go (ℕ-discrete n m) (ℕ-discrete q r)
     go (yes a) (no b) = no (λ e. b (e .1))
     go (no a) d = no (λ e. a (e .0))
 
--- a queue that fits holds at most its capacity
+-- a queue that fits holds at most its capacity, and no more of it is taken
 pub held-few : (S : Shape) (w : List ℕ) (n q : ℕ) → Fits S w n q → QueueFits S w n q → length (held S w n q) ≤ capacity S q
 unfolding held queueLength
 held-few S w n q at f =
@@ -32,6 +33,9 @@ held-few S w n q at f =
     length-packetsOf (capacity S q) (queuePart S w n q) (length-queuePart S w n q at) (f .few) in
     let l : countOf (queuePart S w n q) ≤ capacity S q = f .few in
     omega arith
+
+pub fill-few : (S : Shape) (w : List ℕ) (n q : ℕ) → Fits S w n q → QueueFits S w n q → fill S w n q ≤ capacity S q
+fill-few S w n q at f = let e = fill-length S w n q in let l = held-few S w n q at f in omega arith
 
 -- the same part in other words
 pub fits-part : (S : Shape) (w v : List ℕ) (n q : ℕ) → queuePart S v n q ≡ queuePart S w n q → QueueFits S w n q → QueueFits S v n q
@@ -76,6 +80,11 @@ fit-raised S at w h f m r hm hr = fits-part S w (raised at w) m r (part-raised S
 pub length-rest : (ps : List ℕ) → length ps ≢ 0 → suc (length (drop 1 ps)) ≡ length ps
 length-rest [] ne = absurd (ne refl)
 length-rest (p ∷ ps) ne = refl
+
+pub first-rest : (ps : List ℕ) → length ps ≢ 0 → ps ≡ head ps ∷ drop 1 ps
+unfolding head
+first-rest [] ne = absurd (ne refl)
+first-rest (p ∷ ps) ne = refl
 
 pub allOf-rest : (f : ℕ → mathlib.Core.Bool.Bool) (ps : List ℕ) → T (allOf f ps) → T (allOf f (drop 1 ps))
 allOf-rest f [] t = t

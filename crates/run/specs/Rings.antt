@@ -4,26 +4,28 @@ use mathlib.Core.Path.{_≡_, ap, sym, _∙_}
 use mathlib.Core.Logic.{_≢_}
 use mathlib.Core.Bool.{Bool, true, false, cond, not, _&&_}
 use mathlib.Core.List.{List}
-use Prim.Native.Nat.{ℕ, suc, _+_, _-_, _*_, _/_, _%_, _<_, _≤_}
+use Prim.Native.Nat.{ℕ, _+_, _-_, _*_, _/_, _%_, _<_, _≤_}
 use native.Mathlib.Nat.{mod-lt, mod-add-div', lt-of-le-of-lt}
 use native.Mathlib.Decide.{ℕ-discrete}
 use native.Mathlib.Omega.{arith}
 use borrow.Author.Tests.{ne-eqb}
-use lib.Dec.{T, ltb, ltb→lt, lt→ltb, eqb}
-use lib.ListN.{length}
+use lib.Dec.{T, lt→ltb, eqb}
 use Rattle.base.specs.Tests.{some-at, some-by}
 use Rattle.network.specs.Sizes.{Shape, size, nodes, queues, directions, dimensionOf, directionOf, isEscape, escapeQueue, capacity}
 use Rattle.network.specs.PacketLaws.{dimension-lt}
 use Rattle.network.specs.Torus.{along, neighbour}
 use Rattle.network.specs.TorusLaws.{Torus, along-lt, along-add, along-rounds, along-round, size-pos}
-use Rattle.network.specs.Layout.{held}
+use Rattle.network.specs.Layout.{load, fill}
+use Rattle.network.specs.LayoutLaws.{load-escape}
 use Rattle.network.specs.Check.{hasRoom, ringHasRoom}
+use Rattle.network.specs.CheckLaws.{has-room-of, has-room-by}
 use Rattle.network.specs.Routes.{entersRing, slotsNeeded, freeSlots, target}
+use Rattle.network.specs.RoutesLaws.{free-slots-is}
 use Rattle.run.specs.Queues.{same?}
 
 -- a free slot in one queue
 unfoldable pub Room : Shape → List ℕ → ℕ → ℕ → Type 0
-Room S w n q = length (held S w n q) < capacity S q
+Room S w n q = fill S w n q < capacity S q
 
 pub record RingRoom (S : Shape) (w : List ℕ) (d n : ℕ) : Type 0 where
   pub steps : ℕ
@@ -31,17 +33,17 @@ pub record RingRoom (S : Shape) (w : List ℕ) (d n : ℕ) : Type 0 where
   pub room : Room S w (along S d steps n) (escapeQueue d)
 
 pub ring-of : (S : Shape) (w : List ℕ) (d n : ℕ) → T (ringHasRoom S w d n) → RingRoom S w d n
-unfolding ringHasRoom hasRoom Room
+unfolding ringHasRoom Room
 ring-of S w d n t =
-    let (j, h, u) = some-at (size S (dimensionOf d)) (λ j. ltb (length (held S w (along S d j n) (escapeQueue d))) (capacity S (escapeQueue d))) t in
-    record { steps = j; within = h; room = ltb→lt (length (held S w (along S d j n) (escapeQueue d))) (capacity S (escapeQueue d)) u }
+    let (j, h, u) = some-at (size S (dimensionOf d)) (λ j. hasRoom S w (along S d j n) (escapeQueue d)) t in
+    record { steps = j; within = h; room = has-room-of S w (along S d j n) (escapeQueue d) u }
 
 -- however far round the free slot is
 pub ring-by : (S : Shape) (w : List ℕ) (d n c : ℕ) → Torus S → d < directions → Room S w (along S d c n) (escapeQueue d) → T (ringHasRoom S w d n)
-unfolding ringHasRoom hasRoom Room
+unfolding ringHasRoom Room
 ring-by S w d n c tor hd r =
-    some-by k (λ j. ltb (length (held S w (along S d j n) (escapeQueue d))) (capacity S (escapeQueue d))) (c % k) (mod-lt c pos)
-    (lt→ltb (length (held S w (along S d (c % k) n) (escapeQueue d))) (capacity S (escapeQueue d)) (rw around r))
+    some-by k (λ j. hasRoom S w (along S d j n) (escapeQueue d)) (c % k) (mod-lt c pos)
+    (has-room-by S w (along S d (c % k) n) (escapeQueue d) (rw around r))
   where
     k : ℕ
     k = size S (dimensionOf d)
@@ -63,11 +65,13 @@ back-to S d n tor hd =
     let whole : 1 + (size S (dimensionOf d) - 1) ≡ size S (dimensionOf d) = omega arith in
     along-add S d (size S (dimensionOf d) - 1) 1 n tor hd ∙ ap (λ (x : ℕ). along S d x n) whole ∙ along-round S d n tor hd
 
--- how a move changes how much the queues hold: its target t, o by one packet more, its source n, q by one less, every other queue not
+-- how a move of a packet changes how much of the queues is taken: more of its target, by the packet's load there, less of its source n, q, no more of
+-- any other queue
 pub record Shifted (S : Shape) (w v : List ℕ) (n q o : ℕ) : Type 0 where
-  pub others : (m r : ℕ) → m < nodes S → r < queues → ((target S n o ≡ m) × (o ≡ r) → ⊥) → length (held S v m r) ≤ length (held S w m r)
-  pub newest : length (held S v (target S n o) o) ≡ suc (length (held S w (target S n o) o))
-  pub source : length (held S v n q) < length (held S w n q)
+  pub packet : ℕ
+  pub others : (m r : ℕ) → m < nodes S → r < queues → ((target S n o ≡ m) × (o ≡ r) → ⊥) → fill S v m r ≤ fill S w m r
+  pub newest : fill S v (target S n o) o ≡ fill S w (target S n o) o + load o packet
+  pub source : fill S v n q < fill S w n q
 
 -- the direction and the kind of an escape queue
 pub escape-direction : (d : ℕ) → d < directions → directionOf (escapeQueue d) ≡ d
@@ -89,10 +93,10 @@ needs-two q d ne = go (isEscape (escapeQueue d)) (escape-is d) (eqb q (escapeQue
     go false t b e = absurd t
 
 -- a ring keeps a free slot: where the move enters it, one of two stays free at the target; where it travels along it, it frees one at the source
-pub ring-kept : (S : Shape) (w v : List ℕ) (n q o : ℕ) → Torus S → n < nodes S → (length (held S w n q) ≤ capacity S q)
+pub ring-kept : (S : Shape) (w v : List ℕ) (n q o : ℕ) → Torus S → n < nodes S → fill S w n q ≤ capacity S q
     → slotsNeeded q o ≤ freeSlots S w n o → Shifted S w v n q o
     → (d m : ℕ) → d < directions → m < nodes S → T (ringHasRoom S w d m) → T (ringHasRoom S v d m)
-unfolding Room freeSlots target
+unfolding Room target
 ring-kept S w v n q o tor hn few flow sh d m hd hm t = go (same? (target S n o) o a (escapeQueue d))
   where
     old : RingRoom S w d m
@@ -115,13 +119,16 @@ ring-kept S w v n q o tor hn few flow sh d m hd hm t = go (same? (target S n o) 
         let freed : Room S v n q = native.Mathlib.Nat.lt-of-lt-of-le (sh .source) few in
         ring-by S v d m (old .steps + (size S (dimensionOf d) - 1)) tor hd (rw (before, ← eq) freed)
     travels eo et (no ne) =
-        let two : 2 ≤ capacity S o - length (held S w (target S n o) o) = rw (ap (slotsNeeded q) eo ∙ needs-two q d ne) at flow in
-        let one : length (held S v (target S n o) o) ≡ suc (length (held S w (target S n o) o)) = sh .newest in
-        let still : Room S v (target S n o) o = roomy (capacity S o) (length (held S w (target S n o) o)) (length (held S v (target S n o) o)) two one in
+        let two : 2 ≤ freeSlots S w n o = rw (ap (slotsNeeded q) eo ∙ needs-two q d ne) at flow in
+        let free : freeSlots S w n o ≡ capacity S o - fill S w (target S n o) o = free-slots-is S w n o in
+        let more : fill S v (target S n o) o ≡ fill S w (target S n o) o + load o (sh .packet) = sh .newest in
+        let one : load o (sh .packet) ≡ 1 = ap (λ (r : ℕ). load r (sh .packet)) eo ∙ load-escape d (sh .packet) in
+        let still : Room S v (target S n o) o =
+        roomy (capacity S o) (fill S w (target S n o) o) (fill S v (target S n o) o) (load o (sh .packet)) (freeSlots S w n o) two free more one in
         ring-by S v d m (old .steps) tor hd (rw (← et, ← eo) still)
       where
-        roomy : (c x y : ℕ) → 2 ≤ c - x → y ≡ suc x → y < c
-        roomy c x y h e = omega arith
+        roomy : (c x y l f : ℕ) → 2 ≤ f → f ≡ c - x → y ≡ x + l → l ≡ 1 → y < c
+        roomy c x y l f h e g one = omega arith
 
     go : Dec ((target S n o ≡ a) × (o ≡ escapeQueue d)) → T (ringHasRoom S v d m)
     go (yes e) = travels (e .1) (e .0) (ℕ-discrete q (escapeQueue d))

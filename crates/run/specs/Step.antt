@@ -4,30 +4,30 @@ use mathlib.Core.Path.{_≡_, refl, ap, sym, _∙_, fun-ext}
 use mathlib.Core.Logic.{_⊎_, inl, inr, _≢_}
 use mathlib.Core.Bool.{true, cond, _&&_}
 use mathlib.Core.List.{List, [], _∷_, _++_}
-use Prim.Native.Nat.{ℕ, suc, _+_, _-_, _*_, _<_, _≤_}
+use Prim.Native.Nat.{ℕ, suc, _+_, _*_, _<_, _≤_}
 use native.Mathlib.Nat.{zero-add, add-zero}
 use native.Mathlib.Omega.{arith}
 use borrow.Author.Tests.{eq-eqb, ne-eqb}
 use lib.Dec.{T, eqb}
 use lib.ListN.{length, drop, length-append}
 use Rattle.base.specs.Tests.{allOf, allOf-append, and-i}
-use Rattle.base.specs.Sums.{sumOf, sumOf-append}
+use Rattle.base.specs.Sums.{sumOf, sumOf-append, sumOf-one, sumOf-ones}
 use Rattle.network.specs.Sizes.{Shape, size, nodes, queues, directions, dimensionOf, directionOf, escapeQueue, capacity}
 use Rattle.network.specs.Packet.{destination, distance, hops, heading, hop, label, hopsLeft, work}
 use Rattle.network.specs.PacketLaws.{arrived-label, label-hop, work-hop, hops-le, dimension-lt}
 use Rattle.network.specs.Torus.{along, neighbour}
 use Rattle.network.specs.TorusLaws.{Torus, along-lt, neighbour-lt, neighbour-apart, movedBy-here}
-use Rattle.network.specs.Layout.{headerWords, shape, need, held, putQueue, raised, total, accepted, delivered, movesMade, acceptedAt, deliveredAt, movesAt}
-use Rattle.network.specs.LayoutLaws.{Fits, held-put-same, held-put-other, length-put, shape-put, accepted-put, delivered-put, movesMade-put, rest-put, fits-put, length-raised, held-raised, raised-same, raised-other, shape-raised, rest-raised, total-raised, total-put}
+use Rattle.network.specs.Layout.{headerWords, shape, need, held, load, fill, putQueue, raised, total, accepted, delivered, movesMade, acceptedAt, deliveredAt, movesAt}
+use Rattle.network.specs.LayoutLaws.{Fits, load-pos, length-fill, fill-same, fill-joined, fill-left, held-put-same, held-put-other, length-put, shape-put, accepted-put, delivered-put, movesMade-put, rest-put, fits-put, length-raised, held-raised, raised-same, raised-other, shape-raised, rest-raised, total-raised, total-put}
 use Rattle.network.specs.Check.{longest, packetFits, ringHasRoom, packetsHeld, workLeft, mostWork, reach}
 use Rattle.network.specs.CheckLaws.{PacketFits, packet-of, packet-by, Network, reach-least, eq-T}
 use Rattle.network.specs.Routes.{deliver, target, slotsNeeded, freeSlots}
 use Rattle.network.specs.RoutesLaws.{Onward, route-of}
 use Rattle.network.specs.Refusals.{head}
-use Rattle.network.specs.RefusalLaws.{Permitted, needed-pos}
+use Rattle.network.specs.RefusalLaws.{Permitted, target-takes}
 use Rattle.network.specs.Calls.{Delivery, headLeaves, packetArrives, afterMove}
 use Rattle.network.specs.Run.{isLabelled, heldWith, handedWith, atHome}
-use Rattle.run.specs.Queues.{same?, held-few, AllFit, fit-put, fit-raised, length-rest, allOf-rest, allOf-first, allOf-newest}
+use Rattle.run.specs.Queues.{same?, held-few, fill-few, AllFit, fit-put, fit-raised, length-rest, first-rest, allOf-rest, allOf-first, allOf-newest}
 use Rattle.run.specs.Rings.{Shifted, ring-kept, ring-of, ring-by, Room, RingRoom, escape-lt}
 use Rattle.run.specs.Hop.{Going, going, hopped-fits}
 
@@ -44,10 +44,10 @@ pub record Ran (S : Shape) (w v : List ℕ) (ds : List Delivery) (m : ℕ) : Typ
   pub same-length : length v ≡ length w
   pub rest : drop (need S) v ≡ drop (need S) w
 
--- what a move leaves alone: every queue but its source and its target; and no queue but the source comes to hold less
+-- what a move leaves alone: every queue but its source and its target; and of no queue but the source less is taken than before
 pub record Elsewhere (S : Shape) (w v : List ℕ) (n q o : ℕ) : Type 0 where
   pub same : (m r : ℕ) → m < nodes S → r < queues → ((n ≡ m) × (q ≡ r) → ⊥) → (o ≢ deliver → (target S n o ≡ m) × (o ≡ r) → ⊥) → held S v m r ≡ held S w m r
-  pub no-less : (m r : ℕ) → m < nodes S → r < queues → ((n ≡ m) × (q ≡ r) → ⊥) → length (held S w m r) ≤ length (held S v m r)
+  pub no-less : (m r : ℕ) → m < nodes S → r < queues → ((n ≡ m) × (q ≡ r) → ⊥) → fill S w m r ≤ fill S v m r
 
 -- no move
 pub ran-none : (S : Shape) (w : List ℕ) → Network S w → Ran S w w [] 0
@@ -107,28 +107,13 @@ ran-then S u w v ds es m k a b =
 one : ℕ → ℕ
 one p = 1
 
-length-sum : (ps : List ℕ) → length ps ≡ sumOf one ps
-unfolding sumOf one
-length-sum [] = refl
-length-sum (p ∷ ps) = let e : length ps ≡ sumOf one ps = length-sum ps in omega arith
-
 packets-sum : (S : Shape) (w : List ℕ) → packetsHeld S w ≡ total S w (sumOf one)
-unfolding packetsHeld
-packets-sum S w = ap (total S w) (fun-ext length-sum)
-
--- a counter raised, read by its name
-sum-one : (g : ℕ → ℕ) (p : ℕ) → sumOf g (p ∷ []) ≡ g p
-unfolding sumOf
-sum-one g p = add-zero (g p)
+unfolding packetsHeld one
+packets-sum S w = ap (total S w) (fun-ext (λ ps. sym (sumOf-ones one ps (λ p. refl))))
 
 sum-head : (g : ℕ → ℕ) (ps : List ℕ) → length ps ≢ 0 → sumOf g ps ≡ g (head ps) + sumOf g (drop 1 ps)
-unfolding sumOf head
-sum-head g [] ne = absurd (ne refl)
-sum-head g (p ∷ ps) ne = refl
-
-sum-single : (g : Delivery → ℕ) (d : Delivery) → sumOf g (d ∷ []) ≡ g d
 unfolding sumOf
-sum-single g d = add-zero (g d)
+sum-head g ps ne = ap (sumOf g) (first-rest ps ne)
 
 -- packets of one label count alike
 label-same : (l p r : ℕ) → label p ≡ label r → isLabelled l p ≡ isLabelled l r
@@ -145,15 +130,15 @@ work-arrived : (p : ℕ) → hopsLeft p ≡ 0 → work p ≡ 1
 unfolding work
 work-arrived p z = let e : hopsLeft p ≡ 0 = z in omega arith
 
--- where no queue holds more, each ring keeps its free slot
-ring-less : (S : Shape) (w v : List ℕ) → Torus S → ((m r : ℕ) → m < nodes S → r < queues → length (held S v m r) ≤ length (held S w m r))
+-- where no more of any queue is taken, each ring keeps its free slot
+ring-less : (S : Shape) (w v : List ℕ) → Torus S → ((m r : ℕ) → m < nodes S → r < queues → fill S v m r ≤ fill S w m r)
     → (d m : ℕ) → d < directions → m < nodes S → T (ringHasRoom S w d m) → T (ringHasRoom S v d m)
 unfolding Room
 ring-less S w v tor less d m hd hm t =
     let r : RingRoom S w d m = ring-of S w d m t in
-    let a : length (held S v (along S d (r .steps) m) (escapeQueue d)) ≤ length (held S w (along S d (r .steps) m) (escapeQueue d)) =
+    let a : fill S v (along S d (r .steps) m) (escapeQueue d) ≤ fill S w (along S d (r .steps) m) (escapeQueue d) =
     less (along S d (r .steps) m) (escapeQueue d) (along-lt S d (r .steps) m tor hd hm) (escape-lt d hd) in
-    let b : length (held S w (along S d (r .steps) m) (escapeQueue d)) < capacity S (escapeQueue d) = r .room in
+    let b : fill S w (along S d (r .steps) m) (escapeQueue d) < capacity S (escapeQueue d) = r .room in
     ring-by S v d m (r .steps) tor hd (native.Mathlib.Nat.lt-of-le-of-lt a b)
 
 module _ (S : Shape) (w : List ℕ) (n q : ℕ) (tor : Torus S) (N : Network S w) (hn : n < nodes S) (hq : q < queues) (holds : length (held S w n q) ≢ 0) where
@@ -200,18 +185,20 @@ module _ (S : Shape) (w : List ℕ) (n q : ℕ) (tor : Torus S) (N : Network S w
   unfolding headLeaves
   left-other m r hm hr ne = held-put-other S w n q (drop 1 (held S w n q)) m r place few-rest hm hr ne
 
-  -- no queue holds more once the head has left
-  left-less : (m r : ℕ) → m < nodes S → r < queues → length (held S (headLeaves S w n q) m r) ≤ length (held S w m r)
+  -- its queue has less taken, by the head's load, and no queue has more
+  left-fill : fill S w n q ≡ load q (head (held S w n q)) + fill S (headLeaves S w n q) n q
+  left-fill =
+      fill-left S w (headLeaves S w n q) n q (head (held S w n q))
+      (first-rest (held S w n q) holds ∙ ap (λ (ps : List ℕ). head (held S w n q) ∷ ps) (sym left-held))
+
+  left-less : (m r : ℕ) → m < nodes S → r < queues → fill S (headLeaves S w n q) m r ≤ fill S w m r
   left-less m r hm hr = go (same? n q m r)
     where
-      go : Dec ((n ≡ m) × (q ≡ r)) → length (held S (headLeaves S w n q) m r) ≤ length (held S w m r)
+      go : Dec ((n ≡ m) × (q ≡ r)) → fill S (headLeaves S w n q) m r ≤ fill S w m r
       go (yes e) =
-          let a : length (held S (headLeaves S w n q) n q) ≤ length (held S w n q) =
-          (let x : length (held S (headLeaves S w n q) n q) ≡ length (drop 1 (held S w n q)) = ap length left-held in
-          let y = length-rest (held S w n q) holds in
-          omega arith) in
+          let a : fill S (headLeaves S w n q) n q ≤ fill S w n q = (let b = left-fill in omega arith) in
           rw (← e .0, ← e .1) a
-      go (no ne) = native.Mathlib.Nat.le-of-eq (ap length (left-other m r hm hr ne))
+      go (no ne) = native.Mathlib.Nat.le-of-eq (fill-same S w (headLeaves S w n q) m r (left-other m r hm hr ne))
 
   -- the header's words are there
   header : headerWords ≤ length w
@@ -255,11 +242,15 @@ module _ (S : Shape) (w : List ℕ) (n q : ℕ) (tor : Torus S) (N : Network S w
         let c = left-sum g in
         omega arith
 
-    handed-less : (m r : ℕ) → m < nodes S → r < queues → length (held S handed m r) ≤ length (held S w m r)
+    -- its queues are as the head left them
+    handed-left : (m r : ℕ) → held S handed m r ≡ held S (headLeaves S w n q) m r
     unfolding handed
-    handed-less m r hm hr =
-        rw (held-raised S movesAt (raised deliveredAt (headLeaves S w n q)) m r (omega arith), held-raised S deliveredAt (headLeaves S w n q) m r (omega arith))
-        (left-less m r hm hr)
+    handed-left m r =
+        held-raised S movesAt (raised deliveredAt (headLeaves S w n q)) m r (omega arith)
+        ∙ held-raised S deliveredAt (headLeaves S w n q) m r (omega arith)
+
+    handed-less : (m r : ℕ) → m < nodes S → r < queues → fill S handed m r ≤ fill S w m r
+    handed-less m r hm hr = rw (fill-same S (headLeaves S w n q) handed m r (handed-left m r)) (left-less m r hm hr)
 
     handed-length : length handed ≡ length w
     unfolding handed
@@ -352,7 +343,7 @@ module _ (S : Shape) (w : List ℕ) (n q : ℕ) (tor : Torus S) (N : Network S w
               λ l.
               let a = handed-sum (isLabelled l) in
               let b : sumOf (λ (d : Delivery). isLabelled l (d .packet)) (record { node = n; packet = head (held S w n q) } ∷ []) ≡ isLabelled l (head (held S w n q)) =
-              sum-single (λ (d : Delivery). isLabelled l (d .packet)) (record { node = n; packet = head (held S w n q) }) in
+              sumOf-one (λ (d : Delivery). isLabelled l (d .packet)) (record { node = n; packet = head (held S w n q) }) in
               omega arith;
           packets = let a = handed-packets in omega arith;
           work-done = let a = handed-work in omega arith;
@@ -369,17 +360,13 @@ module _ (S : Shape) (w : List ℕ) (n q : ℕ) (tor : Torus S) (N : Network S w
         resting = rest-raised S movesAt (raised deliveredAt (headLeaves S w n q)) (omega arith) ∙ rest-raised S deliveredAt (headLeaves S w n q) (omega arith) ∙ left-rest
 
     handed-held : (m r : ℕ) → m < nodes S → r < queues → ((n ≡ m) × (q ≡ r) → ⊥) → held S handed m r ≡ held S w m r
-    unfolding handed
-    handed-held m r hm hr ne =
-        held-raised S movesAt (raised deliveredAt (headLeaves S w n q)) m r (omega arith)
-        ∙ held-raised S deliveredAt (headLeaves S w n q) m r (omega arith)
-        ∙ left-other m r hm hr ne
+    handed-held m r hm hr ne = handed-left m r ∙ left-other m r hm hr ne
 
     handed-elsewhere : (o : ℕ) → Elsewhere S w handed n q o
     handed-elsewhere o =
         record {
           same = λ m r hm hr ne ne′. handed-held m r hm hr ne;
-          no-less = λ m r hm hr ne. native.Mathlib.Nat.le-of-eq (sym (ap length (handed-held m r hm hr ne)));
+          no-less = λ m r hm hr ne. native.Mathlib.Nat.le-of-eq (sym (fill-same S w handed m r (handed-held m r hm hr ne)));
         }
 
   -- a hop: the packet leaves its queue and comes to the queue o of the neighbour in direction d
@@ -434,11 +421,12 @@ module _ (S : Shape) (w : List ℕ) (n q : ℕ) (tor : Torus S) (N : Network S w
         omega arith
 
     joined-few : length joined ≤ capacity S o
-    unfolding freeSlots there
+    unfolding there
     joined-few =
         let a : length joined ≡ suc (length (held S w (target S n o) o)) = joined-length in
-        let b : slotsNeeded q o ≤ capacity S o - length (held S w (target S n o) o) = flow in
-        let c : 0 < slotsNeeded q o = needed-pos q o in
+        let b : length (held S w (target S n o) o) ≤ fill S w (target S n o) o = length-fill S w (target S n o) o in
+        let c : 0 < load o hopped = load-pos o hopped in
+        let e : fill S w (target S n o) o + load o hopped ≤ capacity S o = target-takes S w n q o hopped flow in
         omega arith
 
     joined-fit : T (allOf (packetFits S there o) joined)
@@ -467,7 +455,7 @@ module _ (S : Shape) (w : List ℕ) (n q : ℕ) (tor : Torus S) (N : Network S w
         total-put S (headLeaves S w n q) there o joined (sumOf f) there-place joined-few in
         let b : sumOf f joined ≡ sumOf f (held S (headLeaves S w n q) there o) + sumOf f (hopped ∷ []) =
         sumOf-append f (held S (headLeaves S w n q) there o) (hopped ∷ []) in
-        let c : sumOf f (hopped ∷ []) ≡ f hopped = sum-one f hopped in
+        let c : sumOf f (hopped ∷ []) ≡ f hopped = sumOf-one f hopped in
         let e : total S (headLeaves S w n q) (sumOf f) + f (head (held S w n q)) ≡ total S w (sumOf f) = left-sum f in
         omega arith
 
@@ -484,17 +472,19 @@ module _ (S : Shape) (w : List ℕ) (n q : ℕ) (tor : Torus S) (N : Network S w
     moved-sum f = rw (total-raised S movesAt gone (sumOf f) (omega arith)) (gone-sum f)
 
     moved-shifted : Shifted S w moved n q o
-    unfolding there
+    unfolding there joined
     moved-shifted =
         record {
+          packet = hopped;
           others =
               λ m r hm hr ne.
-              rw (moved-held m r, gone-other m r hm hr ne) (left-less m r hm hr);
-          newest = ap length (moved-held there o ∙ gone-there) ∙ joined-length;
+              rw (fill-same S (headLeaves S w n q) moved m r (moved-held m r ∙ gone-other m r hm hr ne)) (left-less m r hm hr);
+          newest = fill-joined S w moved there o hopped (moved-held there o ∙ gone-there ∙ ap (λ (ps : List ℕ). ps ++ (hopped ∷ [])) there-held);
           source =
-              let a : length (held S moved n q) ≡ length (drop 1 (held S w n q)) =
-              ap length (moved-held n q ∙ gone-other n q hn hq (λ e. there-apart (e .0)) ∙ left-held) in
-              let b = length-rest (held S w n q) holds in
+              let a : fill S moved n q ≡ fill S (headLeaves S w n q) n q =
+              fill-same S (headLeaves S w n q) moved n q (moved-held n q ∙ gone-other n q hn hq (λ e. there-apart (e .0))) in
+              let b = left-fill in
+              let c = load-pos q (head (held S w n q)) in
               omega arith;
         }
 
@@ -506,12 +496,12 @@ module _ (S : Shape) (w : List ℕ) (n q : ℕ) (tor : Torus S) (N : Network S w
           no-less = λ m r hm hr ne. more m r hm hr ne (same? there o m r);
         }
       where
-        more : (m r : ℕ) → m < nodes S → r < queues → ((n ≡ m) × (q ≡ r) → ⊥) → Dec ((there ≡ m) × (o ≡ r)) → length (held S w m r) ≤ length (held S moved m r)
+        more : (m r : ℕ) → m < nodes S → r < queues → ((n ≡ m) × (q ≡ r) → ⊥) → Dec ((there ≡ m) × (o ≡ r)) → fill S w m r ≤ fill S moved m r
         more m r hm hr ne (yes e) =
-            let a : length (held S moved there o) ≡ suc (length (held S w there o)) = moved-shifted .newest in
-            let b : length (held S w there o) ≤ length (held S moved there o) = omega arith in
+            let a : fill S moved there o ≡ fill S w there o + load o (moved-shifted .packet) = moved-shifted .newest in
+            let b : fill S w there o ≤ fill S moved there o = omega arith in
             rw (← e .0, ← e .1) b
-        more m r hm hr ne (no ne′) = native.Mathlib.Nat.le-of-eq (sym (ap length (moved-held m r ∙ gone-other m r hm hr ne′ ∙ left-other m r hm hr ne)))
+        more m r hm hr ne (no ne′) = native.Mathlib.Nat.le-of-eq (sym (fill-same S w moved m r (moved-held m r ∙ gone-other m r hm hr ne′ ∙ left-other m r hm hr ne)))
 
     moved-length : length moved ≡ length w
     unfolding moved gone packetArrives joined
@@ -590,7 +580,7 @@ module _ (S : Shape) (w : List ℕ) (n q : ℕ) (tor : Torus S) (N : Network S w
           in-range = N .in-range;
           long = rw moved-length (N .long);
           queue = fit-raised S movesAt gone (omega arith) gone-fit;
-          ring = λ e m he hm. ring-kept S w moved n q o tor hn few flow moved-shifted e m he hm (N .ring e m he hm);
+          ring = λ e m he hm. ring-kept S w moved n q o tor hn (fill-few S w n q place (N .queue n q hn hq)) flow moved-shifted e m he hm (N .ring e m he hm);
           few-accepted = rw moved-accepted (N .few-accepted);
           counted = rw (moved-delivered, moved-packets, moved-accepted) (N .counted);
           bounded =

@@ -14,7 +14,7 @@ use native.Mathlib.Omega.{arith}
 use borrow.Author.Tests.{eq-eqb, ne-eqb}
 use lib.Dec.{eqb}
 use lib.ListN.{length, length-append}
-use Rattle.base.specs.Sums.{sumOf, sumBelow, sum-zero}
+use Rattle.base.specs.Sums.{sumOf, sumOf-least, sumBelow, sum-zero}
 use Rattle.network.specs.declared.Moved.{Moved}
 use Rattle.network.specs.Sizes.{Shape, nodes, queues}
 use Rattle.network.specs.Packet.{work}
@@ -35,9 +35,8 @@ use Rattle.run.specs.DrainMoves.{drain-ran, drain-leads}
 
 -- every packet held is some work
 some-work : (ps : List ℕ) → length ps ≤ sumOf work ps
-unfolding sumOf work
-some-work [] = omega arith
-some-work (p ∷ ps) = let a : length ps ≤ sumOf work ps = some-work ps in omega arith
+unfolding work
+some-work ps = sumOf-least work ps (λ p. omega arith)
 
 work-somewhere : (S : Shape) (w : List ℕ) → packetsHeld S w ≢ 0 → workLeft S w ≡ 0 → ⊥
 unfolding packetsHeld workLeft

@@ -1,5 +1,5 @@
 -- `rules::offer_rules` meets its contract. Assumes nothing.
-use mathlib.Core.Path.{_≡_, refl}
+use mathlib.Core.Path.{_≡_, refl, sym, _∙_}
 use mathlib.Core.Bool.{Bool, true, false, _||_}
 use mathlib.Core.List.{List}
 use Prim.Native.Nat.{ℕ}
@@ -7,9 +7,9 @@ use native.Mathlib.Omega.{arith}
 use borrow.Author.Needs.{needs}
 use borrow.Author.Tests.{eq-eqb, ne-eqb, le-leb, lt-leb}
 use lib.Dec.{leb, eqb}
-use lib.ListN.{length}
 use Rattle.network.specs.Sizes.{Shape, shapeOf, nodes, capacity, injectionQueue}
-use Rattle.network.specs.Layout.{accepted, held}
+use Rattle.network.specs.Layout.{accepted, fill}
+use Rattle.network.specs.LayoutLaws.{fill-length}
 use Rattle.network.specs.Check.{mostAccepted}
 use Rattle.network.specs.Refusals.{refuse, offerRules, noSuchNode, countSpent, injectionFull}
 use Rattle.flow.specs.HeldWords.{header}
@@ -18,7 +18,7 @@ use Rattle.rules.proofs.offer_rules.Tie as tie
 
 -- by what the tests said
 tested : (S : Shape) (w : List ℕ) (n destination count held-there slots : ℕ) (a b d e : Bool) → count ≡ nodes S
-    → held-there ≡ length (held S w n injectionQueue) → slots ≡ capacity S injectionQueue
+    → held-there ≡ fill S w n injectionQueue → slots ≡ capacity S injectionQueue
     → leb count n ≡ a → leb count destination ≡ b → eqb (accepted w) mostAccepted ≡ d → eqb held-there slots ≡ e
     → refuse (a || b) noSuchNode (refuse d countSpent (refuse e injectionFull 0)) ≡ offerRules S w n destination
 unfolding offerRules
@@ -68,7 +68,7 @@ by-last c d e ed ee =
     let a = f .before .before .before .before .args in
     let count = f .before .before .nodes in
     tested (shapeOf (a .s)) (a .words .now) (a .n) (a .destination) (count .result) (held .result) (slots .result) false false d e
-    (count .ensures) (held .ensures) (slots .ensures)
+    (count .ensures) (held .ensures ∙ sym (fill-length (shapeOf (a .s)) (a .words .now) (a .n) injectionQueue)) (slots .ensures)
     (lt-leb (count .result) (a .n) (f .before .if1 .left)) (lt-leb (count .result) (a .destination) (f .if2 .left)) ed ee
 
 returns-3 : tie.Need-returns-3
