@@ -1,13 +1,14 @@
 -- A number as digits in mixed radix, lowest first: `ks` lists the radices. A node's coordinates are such digits.
--- Order: the product of the radices, reading a digit, writing one; laws of one written and one read; turning a digit round.
+-- Order: the product of the radices, reading a digit, writing one, its weight; laws of one written and one read; turning a digit round; a number
+-- by what stands below and above a digit.
 -- Assumes nothing.
 use mathlib.Core.Path.{_≡_, refl, ap, ap₂, sym, _∙_}
 use mathlib.Core.List.{List, [], _∷_}
 use mathlib.Core.Logic.{_≢_}
 use Prim.Native.Nat.{ℕ, zero, suc, _+_, _*_, _/_, _%_, _-_, _<_, _≤_}
-use native.Mathlib.Nat.{le-of-suc-le-suc, not-suc-le-zero, mod-lt, mod-eq-of-lt, mod-add-div, add-mul-div-left, add-mul-mod-self-left, div-eq-of-lt, zero-add, mul-comm, mod-add-mod, add-assoc, div-lt-iff-lt-mul, mul-le-mul-left, mul-pos, add-mul-mod-self-right, add-comm, div-div-eq-div-mul}
+use native.Mathlib.Nat.{le-of-suc-le-suc, not-suc-le-zero, mod-lt, mod-eq-of-lt, mod-add-div, add-mul-div-left, add-mul-mod-self-left, div-eq-of-lt, zero-add, mul-comm, mod-add-mod, add-assoc, div-lt-iff-lt-mul, mul-le-mul-left, mul-pos, add-mul-mod-self-right, add-comm, div-div-eq-div-mul, div-one, mul-one, mul-add, mul-left-comm}
 use native.Mathlib.Omega.{arith}
-use lib.ListN.{length, getD}
+use lib.ListN.{length, getD, drop}
 
 unfoldable pub product : List ℕ → ℕ
 product [] = 1
@@ -22,6 +23,12 @@ unfoldable pub putDigit : List ℕ → ℕ → ℕ → ℕ → ℕ
 putDigit [] i c n = n
 putDigit (k ∷ ks) zero c n = c + k * (n / k)
 putDigit (k ∷ ks) (suc i) c n = n % k + k * putDigit ks i c (n / k)
+
+-- by how much a number differs whose digit i is one more: the product of the radices below i
+unfoldable pub weight : List ℕ → ℕ → ℕ
+weight [] i = 1
+weight (k ∷ ks) zero = 1
+weight (k ∷ ks) (suc i) = k * weight ks i
 
 -- all radices are above 0
 unfoldable pub Positive : List ℕ → Type 0
@@ -206,3 +213,84 @@ turn-rounds ks i m n p h =
     ap (λ (c : ℕ). putDigit ks i c n)
     (add-mul-mod-self-right (digit ks i n) m (getD ks i 0) ∙ mod-eq-of-lt (digit-lt ks i n p h))
     ∙ put-digit ks i n
+
+pub weight-pos : (ks : List ℕ) (i : ℕ) → Positive ks → 0 < weight ks i
+unfolding weight Positive
+weight-pos [] i p = omega arith
+weight-pos (k ∷ ks) zero p = omega arith
+weight-pos (k ∷ ks) (suc i) p = mul-pos (p .0) (weight-pos ks i (p .1))
+
+pub digit-weight : (ks : List ℕ) (i n : ℕ) → i < length ks → digit ks i n ≡ n / weight ks i % getD ks i 0
+unfolding digit weight
+digit-weight [] i n h = absurd (not-suc-le-zero h)
+digit-weight (k ∷ ks) zero n h = ap (λ (m : ℕ). m % k) (sym (div-one n))
+digit-weight (k ∷ ks) (suc i) n h =
+    digit-weight ks i (n / k) (le-of-suc-le-suc h) ∙ ap (λ (m : ℕ). m % getD ks i 0) (div-div-eq-div-mul n k (weight ks i))
+
+pub put-weight : (ks : List ℕ) (i b n : ℕ) → i < length ks → putDigit ks i b n + digit ks i n * weight ks i ≡ n + b * weight ks i
+unfolding putDigit digit weight
+put-weight [] i b n h = absurd (not-suc-le-zero h)
+put-weight (k ∷ ks) zero b n h = let e = mod-add-div n k in let f = mul-one (n % k) in let g = mul-one b in omega arith
+put-weight (k ∷ ks) (suc i) b n h =
+    let e : n % k + k * (n / k) ≡ n = mod-add-div n k in
+    let f : k * (putDigit ks i b (n / k) + digit ks i (n / k) * weight ks i) ≡ k * (n / k + b * weight ks i) =
+    ap (λ (m : ℕ). k * m) (put-weight ks i b (n / k) (le-of-suc-le-suc h)) in
+    let l = mul-add k (putDigit ks i b (n / k)) (digit ks i (n / k) * weight ks i) in
+    let m = mul-add k (n / k) (b * weight ks i) in
+    let o = mul-left-comm k (digit ks i (n / k)) (weight ks i) in
+    let p = mul-left-comm k b (weight ks i) in
+    omega arith
+
+-- the product of the radices above i
+unfoldable pub above : List ℕ → ℕ → ℕ
+above ks i = product (drop (suc i) ks)
+
+pub product-weight : (ks : List ℕ) (i : ℕ) → i < length ks → product ks ≡ weight ks i * (getD ks i 0 * above ks i)
+unfolding product weight above
+product-weight [] i h = absurd (not-suc-le-zero h)
+product-weight (k ∷ ks) zero h = omega arith
+product-weight (k ∷ ks) (suc i) h =
+    let e : k * product ks ≡ k * (weight ks i * (getD ks i 0 * product (drop (suc i) ks))) = ap (λ (m : ℕ). k * m) (product-weight ks i (le-of-suc-le-suc h)) in
+    omega arith
+
+-- the number with b below digit i, j at it and a above it
+unfoldable pub around : List ℕ → ℕ → ℕ → ℕ → ℕ → ℕ
+around ks i b j a = b + weight ks i * (j + getD ks i 0 * a)
+
+module _ (ks : List ℕ) (i : ℕ) (h : i < length ks) where
+  pub digit-around : (b j a : ℕ) → b < weight ks i → j < getD ks i 0 → digit ks i (around ks i b j a) ≡ j
+  unfolding around
+  digit-around b j a hb hj =
+      digit-weight ks i (b + weight ks i * (j + getD ks i 0 * a)) h
+      ∙ ap (λ (m : ℕ). m % getD ks i 0) (high b (weight ks i) (j + getD ks i 0 * a) hb)
+      ∙ low j (getD ks i 0) a hj
+
+  pub put-around : (b j a c : ℕ) → b < weight ks i → j < getD ks i 0 → putDigit ks i c (around ks i b j a) ≡ around ks i b c a
+  unfolding around
+  put-around b j a c hb hj =
+      let n : ℕ = b + weight ks i * (j + getD ks i 0 * a) in
+      let e : putDigit ks i c n + digit ks i n * weight ks i ≡ n + c * weight ks i = put-weight ks i c n h in
+      let f : digit ks i n * weight ks i ≡ j * weight ks i = ap (λ (m : ℕ). m * weight ks i) (digit-around b j a hb hj) in
+      omega arith
+
+  pub around-lt : (b j a : ℕ) → b < weight ks i → j < getD ks i 0 → a < above ks i → around ks i b j a < product ks
+  unfolding around
+  around-lt b j a hb hj ha =
+      rw (product-weight ks i h)
+      (below-product b (weight ks i) (j + getD ks i 0 * a) (getD ks i 0 * above ks i) hb (below-product j (getD ks i 0) a (above ks i) hj ha))
+
+  -- every number is such a one
+  pub is-around : (n : ℕ) → n ≡ around ks i (n % weight ks i) (digit ks i n) (n / weight ks i / getD ks i 0)
+  unfolding around
+  is-around n =
+      sym
+      (ap (λ (m : ℕ). n % weight ks i + weight ks i * m)
+      (ap (λ (m : ℕ). m + getD ks i 0 * (n / weight ks i / getD ks i 0)) (digit-weight ks i n h) ∙ mod-add-div (n / weight ks i) (getD ks i 0))
+      ∙ mod-add-div n (weight ks i))
+
+  pub above-lt : (n : ℕ) → Positive ks → n < product ks → n / weight ks i / getD ks i 0 < above ks i
+  above-lt n p hn =
+      let e = product-weight ks i h in
+      let l : n < getD ks i 0 * above ks i * weight ks i = omega arith in
+      let m : n / weight ks i < getD ks i 0 * above ks i = div-lt-iff-lt-mul (weight-pos ks i p) .1 l in
+      div-lt-iff-lt-mul (radix-pos ks i p h) .1 (rw mul-comm at m)

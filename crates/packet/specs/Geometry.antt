@@ -1,6 +1,5 @@
 -- The code's sizes as the definitions read them, and what the functions on them ask. Assumes nothing.
-use mathlib.Core.List.{List, [], _∷_}
-use Prim.Native.Nat.{ℕ, zero, suc, _+_, _*_, _<_, _≤_}
+use Prim.Native.Nat.{ℕ, _+_, _*_, _<_, _≤_}
 use Rattle.network.specs.declared.Sizes.{Sizes}
 
 -- R21
@@ -18,9 +17,3 @@ pub record OnTorus (s : Sizes) (x y : ℕ) : Type 0 where
   pub rings : RingsFit s
   pub column : x < s .x
   pub row : y < s .y
-
--- by how much a number differs whose digit i is one more
-unfoldable pub weight : List ℕ → ℕ → ℕ
-weight [] i = 1
-weight (k ∷ ks) zero = 1
-weight (k ∷ ks) (suc i) = k * weight ks i

@@ -1,23 +1,21 @@
--- Laws of the code's sizes. Order: they make a torus; the two dimensions one by one; a digit put in, by its weight; the neighbour by the weight;
+-- Laws of the code's sizes. Order: they make a torus; the two dimensions one by one; the neighbour by the weight;
 -- a node by its coordinates; a coordinate moved; an offer's way. `s` are the code's sizes, `n` is a node. Assumes nothing.
 use mathlib.Core.Path.{_≡_, refl, ap, ap₂, sym, _∙_}
 use mathlib.Core.Bool.{cond}
-use mathlib.Core.List.{List, [], _∷_}
 use mathlib.Core.Logic.{_≢_}
 use Prim.Native.Nat.{ℕ, zero, suc, _+_, _*_, _-_, _/_, _%_, _<_, _≤_}
-use native.Mathlib.Nat.{mul-one, one-mul, mul-le-mul, mul-comm, mul-left-comm, mul-add, zero-mul, add-mul, suc-mul, add-zero, mul-le-mul-right, mul-add-mod-self-right, mul-add-div-right, lt-of-mul-lt-mul-right, mod-eq-of-lt, div-eq-of-lt, mod-self, add-mod-right, add-mul-mod-self-right, mul-suc, mod-add-div, div-add-mod', div-lt-iff-lt-mul, not-suc-le-zero, le-of-suc-le-suc}
+use native.Mathlib.Nat.{mul-one, one-mul, mul-le-mul, mul-comm, zero-mul, add-mul, suc-mul, add-zero, mul-le-mul-right, mul-add-mod-self-right, mul-add-div-right, lt-of-mul-lt-mul-right, mod-eq-of-lt, div-eq-of-lt, mod-self, add-mod-right, add-mul-mod-self-right, mul-suc, div-add-mod', div-lt-iff-lt-mul, not-suc-le-zero, le-of-suc-le-suc}
 use native.Mathlib.Omega.{arith}
 use lib.Dec.{T}
-use lib.ListN.{length}
 use borrow.Author.Tests.{eq-eqb, ne-eqb}
-use Rattle.base.specs.Digits.{product, digit, putDigit, turn, Positive}
+use Rattle.base.specs.Digits.{product, digit, putDigit, weight, turn, Positive, put-weight}
 use Rattle.network.specs.Sizes.{Shape, shapeOf, size, nodes, dimensions, directions, dimensionOf, sizesInRange}
 use Rattle.network.specs.PacketLaws.{ByteRange, dimension-lt}
 use Rattle.network.specs.Torus.{coordinate, stride, along, neighbour}
 use Rattle.network.specs.TorusLaws.{Torus, inRange-torus, inRange-size, size-pos, coordinate-lt, neighbour-lt}
 use Rattle.network.specs.OfferLaws.{offeredWay, offered-range}
 use Rattle.network.specs.declared.Sizes.{Sizes}
-use Rattle.packet.specs.Geometry.{RingsFit, nodeAt, OnTorus, weight}
+use Rattle.packet.specs.Geometry.{RingsFit, nodeAt, OnTorus}
 
 -- They make a torus -------------------------------------------------------------------------------------------------------------------
 
@@ -89,22 +87,6 @@ on-ring {s} i n r h ec ek =
     let l = coordinate-lt (shapeOf s) i n (rings-torus s r) h in
     let m = size-most s i r h in
     (omega arith, omega arith)
-
--- A digit put in, by its weight -------------------------------------------------------------------------------------------------------
-
-pub put-weight : (ks : List ℕ) (i b n : ℕ) → i < length ks → putDigit ks i b n + digit ks i n * weight ks i ≡ n + b * weight ks i
-unfolding putDigit digit weight
-put-weight [] i b n h = absurd (not-suc-le-zero h)
-put-weight (k ∷ ks) zero b n h = let e = mod-add-div n k in let f = mul-one (n % k) in let g = mul-one b in omega arith
-put-weight (k ∷ ks) (suc i) b n h =
-    let e : n % k + k * (n / k) ≡ n = mod-add-div n k in
-    let f : k * (putDigit ks i b (n / k) + digit ks i (n / k) * weight ks i) ≡ k * (n / k + b * weight ks i) =
-    ap (λ (m : ℕ). k * m) (put-weight ks i b (n / k) (le-of-suc-le-suc h)) in
-    let l = mul-add k (putDigit ks i b (n / k)) (digit ks i (n / k) * weight ks i) in
-    let m = mul-add k (n / k) (b * weight ks i) in
-    let o = mul-left-comm k (digit ks i (n / k)) (weight ks i) in
-    let p = mul-left-comm k b (weight ks i) in
-    omega arith
 
 -- The neighbour by the weight ---------------------------------------------------------------------------------------------------------
 

@@ -5,12 +5,13 @@ use super::shorter_way;
 use network::Sizes;
 ghost use mathlib.Core.Path.{_≡_};
 ghost use Prim.Native.Nat.{_+_, _<_, _≤_};
+ghost use Rattle.base.specs.Digits.{weight};
 ghost use Rattle.network.specs.Sizes.{shapeOf, dimensions, directions, dimensionOf, largestRing, nodes, size};
 ghost use Rattle.network.specs.Packet.{byte};
 ghost use Rattle.network.specs.Torus.{coordinate, neighbour};
 ghost use Rattle.network.specs.Calls.{offered};
 ghost use Rattle.network.specs.OfferLaws.{offeredWay};
-ghost use Rattle.packet.specs.Geometry.{RingsFit, nodeAt, weight};
+ghost use Rattle.packet.specs.Geometry.{RingsFit, nodeAt};
 
 pub fn nodes(s: Sizes) -> u64
     requires { ⌜ RingsFit s ⌝ }
@@ -27,7 +28,7 @@ pub fn size(s: Sizes, i: u64) -> u64
 }
 
 // By how much the numbers of two nodes differ that are one step apart in dimension i.
-fn weight(s: Sizes, i: u64) -> u64
+pub fn weight(s: Sizes, i: u64) -> u64
     requires { ⌜ i < dimensions ⌝ }
     ensures { λ r. ⌜ r ≡ weight (shapeOf s .sizes) i ⌝ }
 {

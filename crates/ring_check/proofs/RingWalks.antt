@@ -12,7 +12,7 @@ use lib.Dec.{T, ltb}
 use lib.ListN.{length, getD, take, drop, length-take, length-drop}
 use Rattle.base.specs.Tests.{allBelow, someBelow, all-at, all-by, some-at, some-by}
 use Rattle.base.specs.Parts.{getD-span}
-use Rattle.base.specs.Digits.{digit, putDigit, turn}
+use Rattle.base.specs.Digits.{digit, putDigit, weight, turn, put-weight}
 use Rattle.base.specs.Bools.{same-test, fails-at, all-more, passes-at, none-more}
 use Rattle.network.specs.Sizes.{Shape, shapeOf, size, nodes, directions, dimensionOf, isPlus, escapeQueue, capacity}
 use Rattle.network.specs.SizesLaws.{escape-capacity}
@@ -22,8 +22,8 @@ use Rattle.network.specs.TorusLaws.{Torus, size-pos, coordinate-lt}
 use Rattle.network.specs.Layout.{need, nodeWords, queueStart, queueEnd, queueLength, queuePart, countOf, packetsOf, held}
 use Rattle.network.specs.LayoutLaws.{Fits, end-start, end-length, length-queuePart}
 use Rattle.network.specs.Check.{hasRoom, ringHasRoom}
-use Rattle.packet.specs.Geometry.{RingsFit, weight, nodeAt, OnTorus}
-use Rattle.packet.specs.GeometryLaws.{rings-torus, size-x, size-y, weight-x, weight-y, put-weight, node-is, nodes-is, node-lt, column-is, row-is, moved-is}
+use Rattle.packet.specs.Geometry.{RingsFit, nodeAt, OnTorus}
+use Rattle.packet.specs.GeometryLaws.{rings-torus, size-x, size-y, weight-x, weight-y, node-is, nodes-is, node-lt, column-is, row-is, moved-is}
 use Rattle.network.specs.declared.Sizes.{Sizes}
 use Rattle.queue.specs.Queue.{Enough}
 use Rattle.ring_check.specs.RingLines.{ringRoom, RingIn, linesRoom, LinesIn}
