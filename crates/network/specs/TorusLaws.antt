@@ -12,7 +12,7 @@ use borrow.Author.Tests.{eq-eqb, ne-eqb}
 use lib.Dec.{T, leb, leb→le}
 use lib.ListN.{length, getD}
 use Rattle.base.specs.Tests.{and-l, and-r, allOf, allOf-head, allOf-tail}
-use Rattle.base.specs.Digits.{product, digit, turn, Positive, digit-lt, digits-eq, radix-pos, turn-lt, turn-turn, turn-comm, turn-rounds, digit-turn-same, digit-turn-other}
+use Rattle.base.specs.Digits.{product, digit, turn, Positive, product-pos, digit-lt, digits-eq, radix-pos, turn-lt, turn-turn, turn-comm, turn-rounds, digit-turn-same, digit-turn-other}
 use Rattle.network.specs.Sizes.{Shape, shapeOf, size, nodes, mostNodes, within, sizesInRange, dimensions, directions, dimensionOf, isPlus, plus, minus}
 use Rattle.network.specs.declared.Sizes.{Sizes}
 use Rattle.network.specs.Packet.{hops, hopsLeft, hop}
@@ -79,6 +79,10 @@ sizes-nodes s t = inRange-nodes (shapeOf s) t refl
 pub size-pos : (S : Shape) (i : ℕ) → Torus S → i < dimensions → 0 < size S i
 unfolding size
 size-pos S i t h = let l = t .dims in radix-pos (S .sizes) i (t .positive) (omega arith)
+
+pub nodes-pos : (S : Shape) → Torus S → 0 < nodes S
+unfolding nodes
+nodes-pos S t = product-pos (S .sizes) (t .positive)
 
 -- the dimension of a direction is one of the sizes
 on-list : (S : Shape) (d : ℕ) → Torus S → d < directions → dimensionOf d < length (S .sizes)

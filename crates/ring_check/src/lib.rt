@@ -1,5 +1,5 @@
-// The rings' clause of the check (R80, R81): no escape ring is full. The queues of a ring stand at equal distances in the words, and
-// so do the first queues of the rings of a direction: each ring is looked at once, and no node is computed.
+// The rings' clause of the check (R80, R81): no escape ring is full. The queues of a ring stand at equal distances in the words, so do
+// the rings of a group and the groups of a dimension: each ring is looked at once, and no node is computed.
 use network::DIRECTIONS;
 use network::FIRST_ESCAPE;
 use network::Sizes;
@@ -9,78 +9,92 @@ ghost use Rattle.base.specs.Tests.{allBelow};
 ghost use Rattle.network.specs.Sizes.{shapeOf, directions, nodes};
 ghost use Rattle.network.specs.Check.{ringHasRoom, ringsHaveRoom};
 ghost use Rattle.queue.specs.Queue.{Enough};
-ghost use Rattle.ring_check.specs.RingLines.{ringRoom, RingIn, linesRoom, LinesIn};
+ghost use Rattle.ring_check.specs.RingLines.{ringRoom, groupRoom, groupsRoom, RingsIn};
 
-// Whether one of the queues, the first at this place and each a step behind the one before, holds fewer packets than it has slots.
-fn ring_room(words: &[u64], slots: u64, first: usize, step: usize, count: u64) -> bool
-    requires { ⌜ RingIn (now words) first step count ⌝ }
-    ensures { λ r. ⌜ r ≡ ringRoom (now (words .entry)) slots first step count ⌝ }
+// The slots of a queue, and how far it is in the words from a node to the next, from a node of a ring to the ring's next, from a group
+// of rings to the next, and over all nodes. A group is the rings between one node of a ring and the next.
+struct Rings {
+    slots: u64,
+    node: usize,
+    step: usize,
+    group: usize,
+    all: usize,
+}
+
+// Whether a queue of the ring whose first one is at this place holds fewer packets than it has slots.
+fn ring_room(words: &[u64], r: Rings, first: usize) -> bool
+    requires { ⌜ RingsIn (now words) r first (r .group) (r .step) ⌝ }
+    ensures { λ b. ⌜ b ≡ ringRoom (now (words .entry)) r first ⌝ }
 {
+    let slots = r.slots;
+    let step = r.step;
+    let end = first + r.group;
     let mut at = first;
-    let mut j = 0;
-    while j < count {
+    while at < end {
         if words[at] < slots {
             return true;
         }
         at += step;
-        j += 1;
     }
     false
 }
 
-// The same of each of so many rings.
-fn lines_room(
-    words: &[u64],
-    slots: u64,
-    first: usize,
-    line: usize,
-    lines: u64,
-    step: usize,
-    count: u64,
-) -> bool
-    requires { ⌜ LinesIn (now words) first line lines step count ⌝ }
-    ensures { λ r. ⌜ r ≡ linesRoom (now (words .entry)) slots first line lines step count ⌝ }
+// The same of each ring of a group.
+fn group_room(words: &[u64], r: Rings, first: usize) -> bool
+    requires { ⌜ RingsIn (now words) r first (r .group) (r .node) ⌝ }
+    ensures { λ b. ⌜ b ≡ groupRoom (now (words .entry)) r first ⌝ }
 {
+    let node = r.node;
+    let end = first + r.step;
     let mut at = first;
-    let mut l = 0;
-    while l < lines {
-        if !ring_room(words, slots, at, step, count) {
+    while at < end {
+        if !ring_room(words, r, at) {
             return false;
         }
-        at += line;
-        l += 1;
+        at += node;
     }
     true
 }
 
-// The rings of direction d: rows for x, and columns for y.
+// And of each group.
+fn groups_room(words: &[u64], r: Rings, first: usize) -> bool
+    requires { ⌜ RingsIn (now words) r first (r .all) (r .node) ⌝ }
+    ensures { λ b. ⌜ b ≡ groupsRoom (now (words .entry)) r first ⌝ }
+{
+    let group = r.group;
+    let end = first + r.all;
+    let mut at = first;
+    while at < end {
+        if !group_room(words, r, at) {
+            return false;
+        }
+        at += group;
+    }
+    true
+}
+
+// The rings of direction d run along its dimension.
 fn direction_has_room(words: &[u64], s: Sizes, d: u64) -> bool
     requires { ⌜ Enough (shapeOf s) (now words) × (d < directions) ⌝ }
     ensures { λ r. ⌜ r ≡ allBelow (nodes (shapeOf s)) (λ n. ringHasRoom (shapeOf s) (now (words .entry)) d n) ⌝ }
 {
+    let i = d / 2;
     let node = queue::node_words(s);
-    let row = s.x * node;
+    let weight = packet::torus::weight(s, i);
+    let size = packet::torus::size(s, i);
+    let nodes = packet::torus::nodes(s);
     let first = queue::queue_start(s, 0, FIRST_ESCAPE + d);
-    if d < 2 {
-        return lines_room(
-            words,
-            s.escape,
-            first,
-            row as usize,
-            s.y,
-            node as usize,
-            s.x,
-        );
-    }
-    lines_room(
-        words,
-        s.escape,
-        first,
-        node as usize,
-        s.x,
-        row as usize,
-        s.y,
-    )
+    let step = weight * node;
+    let group = size * step;
+    let all = nodes * node;
+    let r = Rings {
+        slots: s.escape,
+        node: node as usize,
+        step: step as usize,
+        group: group as usize,
+        all: all as usize,
+    };
+    groups_room(words, r, first)
 }
 
 pub fn rings_have_room(words: &[u64], s: Sizes) -> bool

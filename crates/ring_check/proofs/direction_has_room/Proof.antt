@@ -1,85 +1,87 @@
 -- `ring_check::direction_has_room` meets its contract. Assumes nothing.
 use borrow.Author.Needs.{needs}
-use mathlib.Core.Path.{_≡_, refl}
-use Prim.Native.Nat.{_*_, _≤_}
-use native.Mathlib.Nat.{mul-le-mul}
+use Prim.Native.Nat.{_*_}
 use native.Mathlib.Omega.{arith}
 use Rattle.network.specs.Sizes.{shapeOf}
-use Rattle.network.specs.Layout.{nodeWords}
-use Rattle.packet.specs.Geometry.{RingsFit}
-use Rattle.packet.specs.GeometryLaws.{inRange-rings, nodes-some}
-use Rattle.queue.specs.QueueLaws.{Small, small}
-use Rattle.ring_check.proofs.RingWalks.{Found, rows-in, rows-are, columns-in, columns-are}
+use Rattle.network.specs.TorusLaws.{sizes-torus, nodes-pos}
+use Rattle.ring_check.specs.RingLines.{RingsIn}
+use Rattle.ring_check.proofs.RingWalks.{Found, made, found-in, found-are}
 use Rattle.ring_check.proofs.direction_has_room.Statement.{statement}
 use Rattle.ring_check.proofs.direction_has_room.Tie as tie
 
-rings : (c : tie.Start) → RingsFit (c .args .s)
-rings c = inRange-rings (c .args .s) (c .pre .0 .sizes)
-
-few : (c : tie.Start) → Small (c .args .s)
-few c = small (c .args .s) (c .pre .0 .sizes)
-
 node-words-requires : tie.Need-node-words-requires
-node-words-requires c κs = c .before .pre .0 .sizes
+node-words-requires c κs = search needs
 
-words-is : (c : tie.After-node-words) → c .node-words .result ≡ nodeWords (shapeOf (c .before .before .args .s))
-words-is c = c .node-words .ensures
+weight-requires : tie.Need-weight-requires
+weight-requires c κs = search needs
 
-node-small : (c : tie.After-node-words) → c .node-words .result ≤ 81
-unfolding nodeWords shapeOf
-node-small c = let e = words-is c in let k = few (c .before .before) in let a = k .escape in let b = k .adaptive in let d = k .injection in omega arith
+size-requires : tie.Need-size-requires
+size-requires c κs = search needs
 
-mul-row : tie.Need-mul-row
-mul-row c =
-    let x = few (c .before .before .before) .columns in
-    let m : c .before .before .before .args .s .x * c .before .node-words .result ≤ 16 * 81 = mul-le-mul x (node-small (c .before)) in
-    omega arith
+nodes-requires : tie.Need-nodes-requires
+nodes-requires c κs = c .before .before .before .before .pre .0 .sizes
 
 add-queue-start : tie.Need-add-queue-start
 add-queue-start c = search needs
 
 queue-start-requires : tie.Need-queue-start-requires
 queue-start-requires c κs =
-    let st = c .before .before .before in
-    let h = st .pre .1 in
-    (st .pre .0 .sizes, nodes-some (st .args .s) (rings st), omega arith)
-
-found : (c : tie.After-queue-start)
-    → Found (c .before .before .before .before .args .s) (c .before .before .before .before .args .d) (c .queue-start .result) (c .before .before .node-words .result)
-    (c .before .before .before .before .args .s .x * c .before .before .node-words .result)
-found c =
-    let s = c .before .before .before .before .args .s in
-    record { start = c .queue-start .ensures; one = words-is (c .before .before); all = refl }
-
-lines-room-requires : tie.Need-lines-room-requires
-lines-room-requires c κs =
     let st = c .before .before .before .before .before in
-    rows-in _ _ _ _ _ _ (rings st) (st .pre .0) (st .pre .1) (found (c .before)) (c .if1 .taken)
+    let h = st .pre .1 in
+    (st .pre .0 .sizes, nodes-pos (shapeOf (st .args .s)) (sizes-torus (st .args .s) (st .pre .0 .sizes)), omega arith)
+
+abbrev start : tie.After-queue-start → tie.Start
+start c = c .before .before .before .before .before .before
+
+-- what the calls have found
+found : (c : tie.After-queue-start)
+    → Found (start c .args .s) (start c .args .d) (c .before .before .before .before .node-words .result) (c .before .before .before .weight .result) (c .before .before .size .result)
+    (c .before .nodes .result) (c .queue-start .result)
+found c =
+    record {
+      one = c .before .before .before .before .node-words .ensures;
+      apart = c .before .before .before .weight .ensures;
+      ring = c .before .before .size .ensures;
+      every = c .before .nodes .ensures;
+      start = c .queue-start .ensures;
+    }
+
+inside : (c : tie.After-queue-start)
+    → RingsIn (start c .args .words .now)
+    (made (start c .args .s .escape) (c .before .before .before .before .node-words .result) (c .before .before .before .weight .result) (c .before .before .size .result)
+    (c .before .nodes .result)) (c .queue-start .result) (c .before .nodes .result * c .before .before .before .before .node-words .result)
+    (c .before .before .before .before .node-words .result)
+inside c = found-in (start c .pre .0) (start c .pre .1) (found c)
+
+mul-step : tie.Need-mul-step
+mul-step c = omega (arith, inside c, start c .good)
+
+mul-group : tie.Need-mul-group
+mul-group c = omega (arith, inside c, start c .good)
+
+mul-all : tie.Need-mul-all
+mul-all c = omega (arith, inside c, start c .good)
+
+groups-room-requires : tie.Need-groups-room-requires
+groups-room-requires c κs = inside c
 
 returns : tie.Need-returns
 returns c =
-    let st = c .before .before .before .before .before .before in
-    rows-are _ _ _ _ _ _ (rings st) (st .pre .0) (st .pre .1) (found (c .before .before)) (c .before .if1 .taken) _ (c .lines-room .ensures)
-
-lines-room-requires-2 : tie.Need-lines-room-requires-2
-lines-room-requires-2 c κs =
-    let st = c .before .before .before .before .before in
-    columns-in _ _ _ _ _ _ (rings st) (st .pre .0) (st .pre .1) (found (c .before)) (c .if1 .left)
-
-returns-2 : tie.Need-returns-2
-returns-2 c =
-    let st = c .before .before .before .before .before .before in
-    columns-are _ _ _ _ _ _ (rings st) (st .pre .0) (st .pre .1) (found (c .before .before)) (c .before .if1 .left) _ (c .lines-room2 .ensures)
+    let st = start (c .before) in
+    found-are (st .pre .0) (st .pre .1) (found (c .before)) _ (c .groups-room .ensures)
 
 pub direction-has-room-spec : {M : Type 1} → statement M
 direction-has-room-spec =
     tie.close
     (tie.spec
     node-words-requires
-    mul-row
+    weight-requires
+    size-requires
+    nodes-requires
     add-queue-start
     queue-start-requires
-    lines-room-requires
-    returns
-    lines-room-requires-2
-    returns-2)
+    mul-step
+    mul-group
+    mul-all
+    groups-room-requires
+    returns)
