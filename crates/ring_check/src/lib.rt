@@ -12,7 +12,7 @@ ghost use Rattle.queue.specs.Queue.{Enough};
 ghost use Rattle.ring_check.specs.RingLines.{ringRoom, groupRoom, groupsRoom, RingsIn};
 
 // The slots of a queue, and how far it is in the words from a node to the next, from a node of a ring to the ring's next, from a group
-// of rings to the next, and over all nodes. A group is the rings between one node of a ring and the next.
+// of rings to the next, and over all nodes. A group is the rings that begin between a ring's first node and its second.
 struct Rings {
     slots: u64,
     node: usize,
