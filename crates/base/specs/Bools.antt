@@ -36,10 +36,6 @@ pub all-more : (f : ℕ → Bool) (k : ℕ) → allBelow k f ≡ true → f k �
 unfolding allBelow
 all-more f k a e = ap (λ (n : ℕ). allBelow n f) (add-one k) ∙ and-on _ _ a ∙ e
 
--- one passes below n; one more fails
+-- one passes below n
 pub passes-at : (n : ℕ) (f : ℕ → Bool) (k : ℕ) → k < n → f k ≡ true → someBelow n f ≡ true
 passes-at n f k l e = T-true (someBelow n f) (some-by n f k l (true-T (f k) e))
-
-pub none-more : (f : ℕ → Bool) (k : ℕ) → someBelow k f ≡ false → f k ≡ false → someBelow (k + 1) f ≡ false
-unfolding someBelow
-none-more f k a e = ap (λ (n : ℕ). someBelow n f) (add-one k) ∙ ap₂ (λ s t. s || t) a e

@@ -1,5 +1,5 @@
 -- A number as digits in mixed radix, lowest first: `ks` lists the radices. A node's coordinates are such digits.
--- Order: the product of the radices, reading a digit, writing one, its weight; laws of one written and one read; turning a digit round; a number
+-- Order: the product of the radices, reading a digit, writing one, its weight; laws of one written and one read; rotating a digit; a number
 -- by what stands below and above a digit.
 -- Assumes nothing.
 use mathlib.Core.Path.{_≡_, refl, ap, ap₂, sym, _∙_}
@@ -150,9 +150,9 @@ digits-eq (k ∷ ks) n m p hn hm h =
     (λ i hi. h (suc i) (native.Mathlib.Nat.suc-le-suc-iff .1 hi)))
     ∙ mod-add-div m k
 
--- a digit turned on by a, round its radix
-unfoldable pub turn : List ℕ → ℕ → ℕ → ℕ → ℕ
-turn ks i a n = putDigit ks i ((digit ks i n + a) % getD ks i 0) n
+-- a digit moved on by a, round its radix
+unfoldable pub rotate : List ℕ → ℕ → ℕ → ℕ → ℕ
+rotate ks i a n = putDigit ks i ((digit ks i n + a) % getD ks i 0) n
 
 pub radix-pos : (ks : List ℕ) (i : ℕ) → Positive ks → i < length ks → 0 < getD ks i 0
 unfolding Positive
@@ -160,56 +160,56 @@ radix-pos [] i p h = absurd (not-suc-le-zero h)
 radix-pos (k ∷ ks) zero p h = p .0
 radix-pos (k ∷ ks) (suc i) p h = radix-pos ks i (p .1) (le-of-suc-le-suc h)
 
-turned-lt : (ks : List ℕ) (i a n : ℕ) → Positive ks → i < length ks → (digit ks i n + a) % getD ks i 0 < getD ks i 0
-turned-lt ks i a n p h = mod-lt (digit ks i n + a) (radix-pos ks i p h)
+rotated-lt : (ks : List ℕ) (i a n : ℕ) → Positive ks → i < length ks → (digit ks i n + a) % getD ks i 0 < getD ks i 0
+rotated-lt ks i a n p h = mod-lt (digit ks i n + a) (radix-pos ks i p h)
 
-pub turn-lt : (ks : List ℕ) (i a n : ℕ) → Positive ks → i < length ks → n < product ks → turn ks i a n < product ks
-unfolding turn
-turn-lt ks i a n p h hn = put-lt ks i ((digit ks i n + a) % getD ks i 0) n p (turned-lt ks i a n p h) hn
+pub rotate-lt : (ks : List ℕ) (i a n : ℕ) → Positive ks → i < length ks → n < product ks → rotate ks i a n < product ks
+unfolding rotate
+rotate-lt ks i a n p h hn = put-lt ks i ((digit ks i n + a) % getD ks i 0) n p (rotated-lt ks i a n p h) hn
 
-pub digit-turn-same : (ks : List ℕ) (i a n : ℕ) → Positive ks → i < length ks → digit ks i (turn ks i a n) ≡ (digit ks i n + a) % getD ks i 0
-unfolding turn
-digit-turn-same ks i a n p h = digit-put-same ks i ((digit ks i n + a) % getD ks i 0) n p h (turned-lt ks i a n p h)
+pub digit-rotate-same : (ks : List ℕ) (i a n : ℕ) → Positive ks → i < length ks → digit ks i (rotate ks i a n) ≡ (digit ks i n + a) % getD ks i 0
+unfolding rotate
+digit-rotate-same ks i a n p h = digit-put-same ks i ((digit ks i n + a) % getD ks i 0) n p h (rotated-lt ks i a n p h)
 
-pub digit-turn-other : (ks : List ℕ) (i j a n : ℕ) → Positive ks → i < length ks → j ≢ i → digit ks j (turn ks i a n) ≡ digit ks j n
-unfolding turn
-digit-turn-other ks i j a n p h ne = digit-put-other ks i j ((digit ks i n + a) % getD ks i 0) n p ne (turned-lt ks i a n p h)
+pub digit-rotate-other : (ks : List ℕ) (i j a n : ℕ) → Positive ks → i < length ks → j ≢ i → digit ks j (rotate ks i a n) ≡ digit ks j n
+unfolding rotate
+digit-rotate-other ks i j a n p h ne = digit-put-other ks i j ((digit ks i n + a) % getD ks i 0) n p ne (rotated-lt ks i a n p h)
 
--- turns of one digit add up
-pub turn-turn : (ks : List ℕ) (i a b n : ℕ) → Positive ks → i < length ks → turn ks i b (turn ks i a n) ≡ turn ks i (a + b) n
-unfolding turn
-turn-turn ks i a b n p h =
-    put-put ks i ((digit ks i n + a) % k) ((digit ks i (putDigit ks i ((digit ks i n + a) % k) n) + b) % k) n p (turned-lt ks i a n p h)
+-- rotations of one digit add up
+pub rotate-rotate : (ks : List ℕ) (i a b n : ℕ) → Positive ks → i < length ks → rotate ks i b (rotate ks i a n) ≡ rotate ks i (a + b) n
+unfolding rotate
+rotate-rotate ks i a b n p h =
+    put-put ks i ((digit ks i n + a) % k) ((digit ks i (putDigit ks i ((digit ks i n + a) % k) n) + b) % k) n p (rotated-lt ks i a n p h)
     ∙ ap (λ (c : ℕ). putDigit ks i c n)
-    (ap (λ (c : ℕ). (c + b) % k) (digit-put-same ks i ((digit ks i n + a) % k) n p h (turned-lt ks i a n p h))
+    (ap (λ (c : ℕ). (c + b) % k) (digit-put-same ks i ((digit ks i n + a) % k) n p h (rotated-lt ks i a n p h))
     ∙ mod-add-mod (digit ks i n + a) k b
     ∙ ap (λ (c : ℕ). c % k) (add-assoc (digit ks i n) a b))
   where
     k : ℕ
     k = getD ks i 0
 
--- turns of two digits, or of one twice, in either order
-pub turn-comm : (ks : List ℕ) (i j a b n : ℕ) → Positive ks → i < length ks → j < length ks → turn ks i a (turn ks j b n) ≡ turn ks j b (turn ks i a n)
-unfolding turn
-turn-comm ks i j a b n p hi hj = go (native.Mathlib.Decide.ℕ-discrete i j)
+-- rotations of two digits, or of one twice, in either order
+pub rotate-comm : (ks : List ℕ) (i j a b n : ℕ) → Positive ks → i < length ks → j < length ks → rotate ks i a (rotate ks j b n) ≡ rotate ks j b (rotate ks i a n)
+unfolding rotate
+rotate-comm ks i j a b n p hi hj = go (native.Mathlib.Decide.ℕ-discrete i j)
   where
-    apart : i ≢ j → turn ks i a (turn ks j b n) ≡ turn ks j b (turn ks i a n)
+    apart : i ≢ j → rotate ks i a (rotate ks j b n) ≡ rotate ks j b (rotate ks i a n)
     apart ne =
-        ap (λ (c : ℕ). putDigit ks i ((c + a) % getD ks i 0) (turn ks j b n)) (digit-turn-other ks j i b n p hj ne)
-        ∙ put-comm ks i j ((digit ks i n + a) % getD ks i 0) ((digit ks j n + b) % getD ks j 0) n p ne (turned-lt ks i a n p hi) (turned-lt ks j b n p hj)
-        ∙ ap (λ (c : ℕ). putDigit ks j ((c + b) % getD ks j 0) (turn ks i a n)) (sym (digit-turn-other ks i j a n p hi (λ e. ne (sym e))))
+        ap (λ (c : ℕ). putDigit ks i ((c + a) % getD ks i 0) (rotate ks j b n)) (digit-rotate-other ks j i b n p hj ne)
+        ∙ put-comm ks i j ((digit ks i n + a) % getD ks i 0) ((digit ks j n + b) % getD ks j 0) n p ne (rotated-lt ks i a n p hi) (rotated-lt ks j b n p hj)
+        ∙ ap (λ (c : ℕ). putDigit ks j ((c + b) % getD ks j 0) (rotate ks i a n)) (sym (digit-rotate-other ks i j a n p hi (λ e. ne (sym e))))
 
-    go : Dec (i ≡ j) → turn ks i a (turn ks j b n) ≡ turn ks j b (turn ks i a n)
+    go : Dec (i ≡ j) → rotate ks i a (rotate ks j b n) ≡ rotate ks j b (rotate ks i a n)
     go (yes e) =
-        let t : turn ks i a (turn ks i b n) ≡ turn ks i b (turn ks i a n) =
-        turn-turn ks i b a n p hi ∙ ap (λ (c : ℕ). turn ks i c n) (add-comm b a) ∙ sym (turn-turn ks i a b n p hi) in
+        let t : rotate ks i a (rotate ks i b n) ≡ rotate ks i b (rotate ks i a n) =
+        rotate-rotate ks i b a n p hi ∙ ap (λ (c : ℕ). rotate ks i c n) (add-comm b a) ∙ sym (rotate-rotate ks i a b n p hi) in
         rw (← e) t
     go (no ne) = apart ne
 
 -- whole rounds change nothing
-pub turn-rounds : (ks : List ℕ) (i m n : ℕ) → Positive ks → i < length ks → turn ks i (m * getD ks i 0) n ≡ n
-unfolding turn
-turn-rounds ks i m n p h =
+pub rotate-rounds : (ks : List ℕ) (i m n : ℕ) → Positive ks → i < length ks → rotate ks i (m * getD ks i 0) n ≡ n
+unfolding rotate
+rotate-rounds ks i m n p h =
     ap (λ (c : ℕ). putDigit ks i c n)
     (add-mul-mod-self-right (digit ks i n) m (getD ks i 0) ∙ mod-eq-of-lt (digit-lt ks i n p h))
     ∙ put-digit ks i n

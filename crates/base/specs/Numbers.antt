@@ -1,10 +1,10 @@
 -- A number by its digits (Digits.antt), each times its weight. Order: the weights; the number of some digits; one of them replaced; its digits and
 -- its bound; the lowest digits of a number, one by one. `ks` lists the radices, `cs` the digits, lowest first. Assumes nothing.
-use mathlib.Core.Path.{_≡_, refl, ap, ap₂, sym, _∙_}
+use mathlib.Core.Path.{_≡_, refl, ap, sym, _∙_}
 use mathlib.Core.List.{List, [], _∷_}
 use Prim.Native.Nat.{ℕ, zero, suc, _+_, _*_, _/_, _%_, _<_, _≤_}
 use native.Mathlib.Numerals.{add-one}
-use native.Mathlib.Nat.{mod-eq-of-lt, mul-pos, mul-le-mul-left, le-of-suc-le-suc, not-suc-le-zero, mod-add-div, mod-one, div-div-eq-div-mul, mul-assoc, mul-comm, mul-one, one-mul, mul-add, mul-left-comm, suc-le-suc-iff}
+use native.Mathlib.Nat.{mod-eq-of-lt, mul-pos, mul-le-mul-left, le-of-suc-le-suc, not-suc-le-zero, mod-add-div, mod-one, div-div-eq-div-mul, mul-assoc, mul-comm, mul-one, mul-add, mul-left-comm, suc-le-suc-iff}
 use native.Mathlib.Omega.{arith}
 use lib.ListN.{length, getD, set}
 use Rattle.base.specs.Digits.{product, digit, weight, Positive, product-pos, low, high, below-product, digit-weight}
@@ -65,10 +65,6 @@ number-set (k ∷ ks) (b ∷ cs) (suc i) c h l =
     let m = mul-left-comm k (getD cs i 0) (weight ks i) in
     let n = mul-left-comm k c (weight ks i) in
     omega arith
-
--- a digit's part is not more than the number
-pub number-part : (ks cs : List ℕ) (i : ℕ) → i < length ks → i < length cs → getD cs i 0 * weight ks i ≤ number ks cs
-number-part ks cs i h l = let e = number-set ks cs i 0 h l in omega arith
 
 -- Its digits and its bound ----------------------------------------------------------------------------------------------------------------
 

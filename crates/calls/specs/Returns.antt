@@ -18,6 +18,7 @@ use Rattle.network.specs.declared.Stop.{Stop}
 use Rattle.network.specs.Sizes.{Shape, sizesInRange, nodes, queues, capacity}
 use Rattle.network.specs.Layout.{shape, need, queueStart, queueEnd, queueLength, queuePart, countOf, packetsOf, held}
 use Rattle.network.specs.LayoutLaws.{Fits, length-queuePart, length-packetsOf, end-length}
+use Rattle.flow.specs.QueueOf.{QueueOf}
 use Rattle.network.specs.CheckLaws.{Network, QueueFits}
 use Rattle.network.specs.Routes.{deliver, freeSlots}
 use Rattle.network.specs.Refusals.{networkRefusal, makeRefusal, offerRules, offerRefusal, moveRules, moveRefusal, creditRules, creditRefusal, lookRules, lookRefusal, head, elseBy}
@@ -203,16 +204,11 @@ look-place S n q e =
     let (b, e₂) = not-refused (leb queues q) 4 _ e₁ in
     (leb-false (nodes S) n a, leb-false queues q b)
 
--- a Look that is not refused: the words are a network, and node and queue are there
-pub record Looking (S : Shape) (w : List ℕ) (n q : ℕ) : Type 0 where
-  pub network : Network S w
-  pub node : n < nodes S
-  pub queue : q < queues
-
-pub looks : {S : Shape} {w : List ℕ} {n q r : ℕ} → Network S w → r ≡ lookRules S n q → r ≡ 0 → Looking S w n q
+-- a Look that is not refused
+pub looks : {S : Shape} {w : List ℕ} {n q r : ℕ} → Network S w → r ≡ lookRules S n q → r ≡ 0 → QueueOf S w n q
 looks {S} {w} {n} {q} N e z = let (hn, hq) = look-place S n q (sym e ∙ z) in record { network = N; node = hn; queue = hq }
 
-pub looking : (S : Shape) (w : List ℕ) (n q r : ℕ) → r ≡ lookRefusal w n q → r ≡ 0 → S ≡ shape w → Looking S w n q
+pub looking : (S : Shape) (w : List ℕ) (n q r : ℕ) → r ≡ lookRefusal w n q → r ≡ 0 → S ≡ shape w → QueueOf S w n q
 unfolding lookRefusal
 looking S w n q r e z s =
     let (a, b) = neither (networkRefusal w) (lookRules (shape w) n q) (sym e ∙ z) in
@@ -243,7 +239,7 @@ part-of start count a b c w es ec h =
     take-inside b (suc c) (x ∷ l) h = take-take b c l (omega arith)
 
 -- the held words of a queue as a part of the words
-pub held-part : (S : Shape) (w : List ℕ) (n q start count : ℕ) → Looking S w n q → start ≡ queueStart S n q → count ≡ length (held S w n q)
+pub held-part : (S : Shape) (w : List ℕ) (n q start count : ℕ) → QueueOf S w n q → start ≡ queueStart S n q → count ≡ length (held S w n q)
     → take (start + 1 + count - (start + 1)) (drop (start + 1) w) ≡ held S w n q
 unfolding held packetsOf queuePart queueLength queueEnd
 held-part S w n q start count k es ec =
@@ -256,7 +252,7 @@ held-part S w n q start count k es ec =
     within : (x k : ℕ) → x ≤ k → x ≤ 1 + k - 1
     within x k h = omega arith
 
-pub held-end : (S : Shape) (w : List ℕ) (n q start count : ℕ) → Looking S w n q → start ≡ queueStart S n q → count ≡ length (held S w n q) → start + 1 + count ≤ length w
+pub held-end : (S : Shape) (w : List ℕ) (n q start count : ℕ) → QueueOf S w n q → start ≡ queueStart S n q → count ≡ length (held S w n q) → start + 1 + count ≤ length w
 unfolding held queueLength queueEnd
 held-end S w n q start count k es ec =
     let fits : Fits S w n q = record { node = k .node; queue = k .queue; long = k .network .long } in

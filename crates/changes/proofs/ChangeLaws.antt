@@ -21,7 +21,7 @@ use Rattle.network.specs.RefusalLaws.{Permitted}
 use Rattle.network.specs.Calls.{emptyNetwork, offered, afterOffer, headLeaves, packetArrives, afterMove}
 use Rattle.run.specs.Queues.{held-few, length-rest}
 use Rattle.run.specs.Step.{Ahead, ahead}
-use Rattle.queue.specs.Queue.{Checked}
+use Rattle.queue.specs.Queue.{CheckedQueue}
 use Rattle.network.specs.declared.Sizes.{Sizes}
 use Rattle.queue.specs.QueueLaws.{checked, checked-put, checked-fits}
 
@@ -97,7 +97,7 @@ raised-may i at w v e ne may = subst (λ (l : List ℕ). Raisable at l) (sym e) 
 
 -- A packet that joins a queue -----------------------------------------------------------------------------------------------------------
 
-pub network-checked : (S : Shape) (w : List ℕ) (n q : ℕ) → Network S w → n < nodes S → q < queues → Checked S w n q
+pub network-checked : (S : Shape) (w : List ℕ) (n q : ℕ) → Network S w → n < nodes S → q < queues → CheckedQueue S w n q
 network-checked S w n q N hn hq = checked S w n q (network-by S w N) hn hq
 
 pub arrives-may : (S : Shape) (w v : List ℕ) (n q p at : ℕ) → v ≡ packetArrives S w n q p → Fits S w n q → length (held S w n q) < capacity S q
@@ -156,10 +156,10 @@ module _ {S : Shape} {w v : List ℕ} {n q o : ℕ} (L : Left S w v n q o) where
     front : Ahead S w n q o
     front = ahead S w n q o (L .torus) (L .network) (L .permitted) away
 
-    pub target-checked : Checked S v t o
+    pub target-checked : CheckedQueue S v t o
     unfolding headLeaves target
     target-checked =
-        subst (λ (l : List ℕ). Checked S l t o) (sym (L .left))
+        subst (λ (l : List ℕ). CheckedQueue S l t o) (sym (L .left))
         (checked-put S w n q (drop 1 (held S w n q)) t o place few
         (network-checked S w t o (L .network) (subst (λ (m : ℕ). m < nodes S) (sym next) (front .node)) (L .permitted .output)))
 

@@ -23,7 +23,7 @@ ghost use Rattle.network.specs.Sizes.{Shape, shapeOf, within, sizesInRange};
 ghost use Rattle.network.specs.Layout.{headerWords};
 ghost use Rattle.network.specs.Check.{packetsHeld, workLeft, countersFit, isNetwork};
 ghost use Rattle.network.specs.Refusals.{networkRefusal};
-ghost use Rattle.queue.specs.Queue.{Enough};
+ghost use Rattle.queue.specs.Queue.{EnoughWords};
 ghost use Rattle.checker.specs.Opening.{sizesIn, opened};
 
 // The number of the first test that refuses the words, 0 if they are a network.
@@ -105,7 +105,7 @@ fn within(least: u64, most: u64, n: u64) -> bool
 
 // The clauses of the check, for sizes in range and as many words as they need.
 pub fn is_network(words: &[u64], s: Sizes) -> bool
-    requires { ⌜ Enough (shapeOf s) (now words) ⌝ }
+    requires { ⌜ EnoughWords (shapeOf s) (now words) ⌝ }
     ensures { λ r. ⌜ r ≡ isNetwork (shapeOf s) (now (words .entry)) ⌝ }
 {
     let t = queues_fit(words, s);

@@ -127,7 +127,7 @@ module _ (S : Shape) (w : List ℕ) (n q : ℕ) where
 
 -- its words start at `start`, its number held is not 0, and r are the routes of the word behind that
 pub record Reading (s : Sizes) (w : List ℕ) (n q start : ℕ) (r : HeadRoutes) : Type 0 where
-  pub queue : QueueOf s w n q
+  pub queue : QueueOf (shapeOf s) w n q
   pub at : start ≡ queueStart (shapeOf s) n q
   pub some : getD w start 0 ≢ 0
   pub are : AreRoutes q (getD w (start + 1) 0) r
@@ -186,7 +186,7 @@ module _ {s : Sizes} {w : List ℕ} {n q start : ℕ} {r : HeadRoutes} (k : Read
       sym inv ∙ output-end (shapeOf s) w n q (headRoutes s w n q) j (let e = routes-count routes-are in omega arith)
 
 -- a queue's words end among those lent
-pub end-at : (s : Sizes) (w : List ℕ) (n q : ℕ) → QueueOf s w n q → (start slots : ℕ) → start ≡ queueStart (shapeOf s) n q → slots ≡ capacity (shapeOf s) q
+pub end-at : (s : Sizes) (w : List ℕ) (n q : ℕ) → QueueOf (shapeOf s) w n q → (start slots : ℕ) → start ≡ queueStart (shapeOf s) n q → slots ≡ capacity (shapeOf s) q
     → start + (1 + slots) ≤ length w
 unfolding queueEnd queueLength
 end-at s w n q k start slots e f =
@@ -195,7 +195,7 @@ end-at s w n q k start slots e f =
     omega arith
 
 -- a queue that holds none
-pub queue-none : (s : Sizes) (w : List ℕ) (n q start : ℕ) → QueueOf s w n q → start ≡ queueStart (shapeOf s) n q → getD w start 0 ≡ 0
+pub queue-none : (s : Sizes) (w : List ℕ) (n q start : ℕ) → QueueOf (shapeOf s) w n q → start ≡ queueStart (shapeOf s) n q → getD w start 0 ≡ 0
     → firstInQueue (shapeOf s) w n q ≡ Found.Nothing
 queue-none s w n q start k at z = empty (shapeOf s) w n q (sym (count-at s w n q k start at) ∙ z)
 

@@ -14,9 +14,9 @@ use Rattle.network.specs.declared.Sizes.{Sizes}
 use Rattle.flow.specs.QueueOf.{QueueOf}
 use Rattle.flow.specs.HeldWords.{held-few}
 
-module _ (s : Sizes) (w : List ℕ) (n o there : ℕ) (k : QueueOf s w n o) (e : there ≡ target (shapeOf s) n o) where
+module _ (s : Sizes) (w : List ℕ) (n o there : ℕ) (k : QueueOf (shapeOf s) w n o) (e : there ≡ target (shapeOf s) n o) where
   -- it is one of the network's
-  pub at-target : QueueOf s w there o
+  pub at-target : QueueOf (shapeOf s) w there o
   unfolding target
   at-target =
       let l = neighbour-lt (shapeOf s) (directionOf o) n (sizes-torus s (k .network .in-range)) (omega arith) (k .node) in

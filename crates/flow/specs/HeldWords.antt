@@ -17,7 +17,7 @@ use Rattle.network.specs.LayoutLaws.{end-start, end-length}
 use Rattle.network.specs.CheckLaws.{Network}
 use Rattle.network.specs.Refusals.{head}
 use Rattle.network.specs.declared.Sizes.{Sizes}
-use Rattle.queue.specs.Queue.{Checked}
+use Rattle.queue.specs.Queue.{CheckedQueue}
 use Rattle.queue.specs.QueueLaws.{checked-fits, checked-count, places}
 use Rattle.flow.specs.QueueOf.{QueueOf}
 
@@ -26,14 +26,14 @@ pub header : (S : Shape) (w : List ℕ) → Network S w → 8 ≤ length w
 unfolding need
 header S w k = let l = k .long in omega arith
 
-pub checked-of : (S : Shape) (w : List ℕ) (n q : ℕ) → Network S w → n < nodes S → q < queues → Checked S w n q
+pub checked-of : (S : Shape) (w : List ℕ) (n q : ℕ) → Network S w → n < nodes S → q < queues → CheckedQueue S w n q
 checked-of S w n q k hn hq =
     let f = k .queue n q hn hq in
     record { sizes = k .in-range; node = hn; queue = hq; long = k .long; count = f .few; zeros = f .unused }
 
 -- The two words -----------------------------------------------------------------------------------------------------------------------
 
-inside : (S : Shape) (w : List ℕ) (n q : ℕ) → Checked S w n q → queueStart S n q + 1 < length w
+inside : (S : Shape) (w : List ℕ) (n q : ℕ) → CheckedQueue S w n q → queueStart S n q + 1 < length w
 unfolding queueEnd queueLength
 inside S w n q k =
     let e : queueStart S n q + (1 + capacity S q) ≤ length w = end-length S w n q (checked-fits S w n q k) in
@@ -43,14 +43,14 @@ inside S w n q k =
 wide : (S : Shape) (n q : ℕ) (c : ℕ) → c ≤ capacity S q → c < queueEnd S n q - queueStart S n q
 wide S n q c h = let e = end-start S n q in omega arith
 
-count-word : (S : Shape) (w : List ℕ) (n q : ℕ) → Checked S w n q → getD w (queueStart S n q) 0 ≡ length (held S w n q)
+count-word : (S : Shape) (w : List ℕ) (n q : ℕ) → CheckedQueue S w n q → getD w (queueStart S n q) 0 ≡ length (held S w n q)
 unfolding countOf queuePart
 count-word S w n q k =
     ap (λ (i : ℕ). getD w i 0) (sym (add-zero (queueStart S n q)))
     ∙ sym (getD-span w (queueStart S n q) (queueEnd S n q) 0 (wide S n q 0 (omega arith)))
     ∙ sym (checked-count S w n q k)
 
-head-word : (S : Shape) (w : List ℕ) (n q : ℕ) → Checked S w n q → 0 < length (held S w n q)
+head-word : (S : Shape) (w : List ℕ) (n q : ℕ) → CheckedQueue S w n q → 0 < length (held S w n q)
     → getD w (queueStart S n q + 1) 0 ≡ head (held S w n q)
 unfolding head held packetsOf queuePart
 head-word S w n q k h =
@@ -63,8 +63,8 @@ head-word S w n q k h =
 
 -- At the place that the code computes -------------------------------------------------------------------------------------------------
 
-module _ (s : Sizes) (w : List ℕ) (n q : ℕ) (k : QueueOf s w n q) where
-  pub queue-checked : Checked (shapeOf s) w n q
+module _ (s : Sizes) (w : List ℕ) (n q : ℕ) (k : QueueOf (shapeOf s) w n q) where
+  pub queue-checked : CheckedQueue (shapeOf s) w n q
   queue-checked = checked-of (shapeOf s) w n q (k .network) (k .node) (k .queue)
 
   -- what the functions that compute places ask

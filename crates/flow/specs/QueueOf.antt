@@ -1,12 +1,11 @@
--- What the functions of this crate ask: a queue of a checked network. Assumes nothing.
+-- What the calls ask of their words before they read or change a queue: they have passed the check. Assumes nothing.
 use mathlib.Core.List.{List}
 use Prim.Native.Nat.{ℕ, _<_}
-use Rattle.network.specs.Sizes.{shapeOf, nodes, queues}
+use Rattle.network.specs.Sizes.{Shape, nodes, queues}
 use Rattle.network.specs.CheckLaws.{Network}
-use Rattle.network.specs.declared.Sizes.{Sizes}
 
--- the words have passed the check, and node n has a queue q
-pub record QueueOf (s : Sizes) (w : List ℕ) (n q : ℕ) : Type 0 where
-  pub network : Network (shapeOf s) w
-  pub node : n < nodes (shapeOf s)
+-- the words are a network, and node n has a queue q
+pub record QueueOf (S : Shape) (w : List ℕ) (n q : ℕ) : Type 0 where
+  pub network : Network S w
+  pub node : n < nodes S
   pub queue : q < queues

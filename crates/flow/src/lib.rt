@@ -21,7 +21,7 @@ ghost use Rattle.flow.specs.QueueOf.{QueueOf};
 
 // The number of packets that queue q of node n holds: its count word.
 pub fn held_count(words: &[u64], s: Sizes, n: u64, q: u64) -> u64
-    requires { ⌜ QueueOf s (now words) n q ⌝ }
+    requires { ⌜ QueueOf (shapeOf s) (now words) n q ⌝ }
     ensures { λ r. ⌜ r ≡ length (held (shapeOf s) (now (words .entry)) n q) ⌝ }
 {
     let start = queue_start(s, n, q);
@@ -30,7 +30,7 @@ pub fn held_count(words: &[u64], s: Sizes, n: u64, q: u64) -> u64
 
 // The oldest packet of queue q of node n, which holds one.
 pub fn head(words: &[u64], s: Sizes, n: u64, q: u64) -> u64
-    requires { ⌜ QueueOf s (now words) n q ⌝ }
+    requires { ⌜ QueueOf (shapeOf s) (now words) n q ⌝ }
     requires { ⌜ 0 < length (held (shapeOf s) (now words) n q) ⌝ }
     ensures { λ r. ⌜ r ≡ head (held (shapeOf s) (now (words .entry)) n q) ⌝ }
 {
@@ -48,7 +48,7 @@ pub fn target(s: Sizes, n: u64, o: u64) -> u64
 
 // The slots that are free in the target of output o, which is no delivery.
 pub fn free_slots(words: &[u64], s: Sizes, n: u64, o: u64) -> u64
-    requires { ⌜ QueueOf s (now words) n o ⌝ }
+    requires { ⌜ QueueOf (shapeOf s) (now words) n o ⌝ }
     requires { ⌜ 0 < o ⌝ }
     ensures { λ r. ⌜ r ≡ freeSlots (shapeOf s) (now (words .entry)) n o ⌝ }
 {
@@ -73,7 +73,7 @@ pub fn slots_needed(q: u64, o: u64) -> u64
 
 // The refusal of a head of queue q whose route is output o, by the slots of its target.
 pub fn flow_rules(words: &[u64], s: Sizes, n: u64, q: u64, o: u64) -> u64
-    requires { ⌜ QueueOf s (now words) n o ⌝ }
+    requires { ⌜ QueueOf (shapeOf s) (now words) n o ⌝ }
     ensures { λ r. ⌜ r ≡ flowRules (shapeOf s) (now (words .entry)) n q o ⌝ }
 {
     if o == 0 {
@@ -92,7 +92,7 @@ pub fn flow_rules(words: &[u64], s: Sizes, n: u64, q: u64, o: u64) -> u64
 // Whether the flow rule lets a head of queue q of node n go by output o, which is one of its routes. The target's node comes out
 // of a table.
 pub fn may_flow(words: &[u64], s: Sizes, near: &[u8], n: u64, q: u64, o: u64) -> bool
-    requires { ⌜ QueueOf s (now words) n o ⌝ }
+    requires { ⌜ QueueOf (shapeOf s) (now words) n o ⌝ }
     requires { ⌜ Near (shapeOf s) (now near) ⌝ }
     ensures { λ r. ⌜ r ≡ eqb (flowRules (shapeOf s) (now (words .entry)) n q o) 0 ⌝ }
 {

@@ -2,6 +2,7 @@
 // Head h is bit h % 64 of word 1 + h / 64, and bit i of word 0 says that word 1 + i is not 0, so the lowest head is found with two counts of
 // trailing zeros. Order: all heads of the nodes below a number; one head in, the heads of one node in, one head out; the lowest head.
 use network::MOST_NODES;
+use network::QUEUES;
 ghost use mathlib.Core.Path.{_≡_};
 ghost use Prim.Native.Nat.{_<_, _≤_};
 ghost use lib.ListN.{replicate};
@@ -14,7 +15,14 @@ pub const NODE_HEADS: u64 = 16;
 pub const HEADS: u64 = NODE_HEADS * MOST_NODES;
 
 // A word for each 64 heads, and the word that says which of them are not 0.
-pub const SET_WORDS: usize = 65;
+pub const SET_WORDS: usize = (1 + HEADS / WORD_BITS) as usize;
+
+const WORD_BITS: u64 = 64;
+
+// The nodes whose heads share a word, and the heads of the first of them.
+const WORD_NODES: u64 = WORD_BITS / NODE_HEADS;
+
+const NODE_BITS: u64 = (1 << QUEUES) - 1;
 
 // From words that are all 0: the members become the heads of the nodes below count.
 pub fn fill(set: &mut [u64], count: u64)
@@ -35,18 +43,18 @@ pub fn insert(set: &mut [u64], h: u64)
     requires { ⌜ h < heads ⌝ }
     ensures { λ _. ⌜ Inserted (now (set .entry)) (now (set .exit)) h ⌝ }
 {
-    let head: u64 = 1 << (h % 64);
-    unite(set, h / 64, head);
+    let head: u64 = 1 << (h % WORD_BITS);
+    unite(set, h / WORD_BITS, head);
 }
 
-// The nine heads of node n become members.
+// The heads of node n become members.
 pub fn insert_node(set: &mut [u64], n: u64)
     requires { ⌜ IsSet (now set) ⌝ }
     requires { ⌜ n < mostNodes ⌝ }
     ensures { λ _. ⌜ NodeInserted (now (set .entry)) (now (set .exit)) n ⌝ }
 {
-    let heads: u64 = 511 << (n % 4 * 16);
-    unite(set, n / 4, heads);
+    let heads: u64 = NODE_BITS << (n % WORD_NODES * NODE_HEADS);
+    unite(set, n / WORD_NODES, heads);
 }
 
 // The heads whose bits are given, of which there is one at least, become members in word 1 + i.
@@ -70,9 +78,9 @@ pub fn remove(set: &mut [u64], h: u64)
     requires { ⌜ h < heads ⌝ }
     ensures { λ _. ⌜ Removed (now (set .entry)) (now (set .exit)) h ⌝ }
 {
-    let i = h / 64;
+    let i = h / WORD_BITS;
     let at = (1 + i) as usize;
-    let head: u64 = 1 << (h % 64);
+    let head: u64 = 1 << (h % WORD_BITS);
     let word = set[at];
     let rest = !head & word;
     set[at] = rest;
@@ -93,7 +101,7 @@ pub fn lowest(set: &[u64]) -> u64
         return HEADS;
     }
     let i = lowest_bit(top);
-    64 * i + lowest_bit(set[(1 + i) as usize])
+    WORD_BITS * i + lowest_bit(set[(1 + i) as usize])
 }
 
 // The lowest bit of the word that is set, or 64 where none is.

@@ -16,12 +16,12 @@ use lib.IntN.{ℤ, pos, negsuc, natAbs}
 use lib.ListN.{length, take, drop, set, replicate, length-take}
 use Rattle.base.specs.Tests.{allBelow, someBelow, allOf, elem, T-true, T-false, passed?, and-i, or-l, or-r, or-e, all-by}
 use Rattle.base.specs.Sums.{sumBelow, sumOf}
-use Rattle.base.specs.Digits.{product, digit, putDigit, turn}
+use Rattle.base.specs.Digits.{product, digit, putDigit, rotate}
 use Rattle.network.specs.declared.Found.{Found}
 use Rattle.network.specs.declared.Stop.{Stop}
 use Rattle.network.specs.declared.Drained.{Drained}
 use Rattle.network.specs.declared.Sizes.{Sizes}
-use Rattle.network.specs.Sizes.{Shape, shapeOf, sized, size, within, sizesInRange, nodes, queues, directions, dimensions, dimensionOf, isPlus, adaptiveQueue, escapeQueue, capacity}
+use Rattle.network.specs.Sizes.{Shape, shapeOf, sized, size, within, sizesInRange, nodes, queues, directions, dimensions, dimensionOf, isPlus, adaptiveQueue, escapeQueue, capacity, largestRing}
 use Rattle.network.specs.SizesLaws.{escape-capacity}
 use Rattle.network.specs.Packet.{signed, byte, packetWord, tag, destination, offset, withOffset, withOffsets, distance, forward, backward, hops, heading, hopsLeft, work, shrunk, hop, shorterWay}
 use Rattle.network.specs.Torus.{coordinate, stride, along, neighbour, movedBelow, movedBy}
@@ -80,7 +80,7 @@ chosen f [] = []
 chosen f (q ∷ qs) = cond (f q) (q ∷ chosen f qs) (chosen f qs)
 
 -- outside that packet's ring: every other queue of node 0 in which the check lets it stand. Its sign keeps it from the adaptive and escape queues
--- of the opposite direction, and a hop left in x from the escape queues of y; so into an x ring there is no turn from an escape queue
+-- of the opposite direction, and a hop left in x from the escape queues of y; so into an x ring there is no rotate from an escape queue
 unfoldable pub outside : ℕ → List ℕ
 outside d = chosen (λ q. packetFits four-by-four 0 q (oneHop d) && not (eqb q (escapeQueue d))) (inOrder 0 queues)
 
@@ -97,7 +97,7 @@ inEach w p (q ∷ qs) = holding (inEach w p qs) 0 q (p ∷ [])
 unfoldable pub crossing : ℕ → ℕ → List ℕ
 crossing d count = holding (inEach (empty 4 4 2 1 1) (oneHop d) (sources d)) (next d) (escapeQueue d) (replicate count (here (next d)))
 
--- that network passes the check, and these are the refusals of the packet's moves into that escape queue, from each of its sources in turn
+-- that network passes the check, and these are the refusals of the packet's moves into that escape queue, from each of its sources in rotate
 abbrev Entries : ℕ → ℕ → List ℕ → Type 0
 Entries d count refusals =
     (networkRefusal (crossing d count) ≡ 0)
@@ -277,7 +277,7 @@ module _ (w : List ℕ) (n q d : ℕ) (s : Entering w n q d) where
 -- K8: sizes out of range are found by Make first, by Check once there is a header
 out-of-range : (s : Sizes) → (s .escape ≡ 1) ⊎ ((s .x ≡ 0) ⊎ (s .x ≡ 17)) → sizesInRange (shapeOf s) ≡ false
 unfolding sizesInRange allOf within shapeOf
-out-of-range s (inl z) = rw z (neither (within 1 16 (s .x) && (within 1 16 (s .y) && true)))
+out-of-range s (inl z) = rw z (neither (within 1 largestRing (s .x) && (within 1 largestRing (s .y) && true)))
   where
     neither : (b : Bool) → (b && false) ≡ false
     neither true = refl
@@ -432,7 +432,7 @@ module _ (w : List ℕ) (d : ℕ) (r : RingsOfTwo w d) where
       ring e n he hn (no ne) = others e n he hn ne
 
 pub keptCases : KeptCases
-unfolding next oneHop chosen outside sources inEach crossing allBelow someBelow allOf elem sumBelow sumOf product digit putDigit turn size within sizesInRange nodes capacity signed byte packetWord tag destination offset withOffset withOffsets distance forward backward hops heading hopsLeft work shrunk hop shorterWay coordinate stride along neighbour movedBelow movedBy shape accepted delivered movesMade raised queueLength nodeWords queueStart queueEnd need queueWords queuePart countOf packetsOf unusedOf held load fill putQueue total rightPlace isQueueOf reach nearEnough opposite rightSign lowerDone packetFits queueFits queuesFit hasRoom ringHasRoom ringsHaveRoom packetsHeld workLeft countersFit isNetwork inOrder without incoming incomingFirst headings routes target freeSlots entersRing slotsNeeded networkRefusal makeRefusal offerRules offerRefusal head flowRules moveRules moveRefusal shapeOf emptyNetwork makeWords offered afterOffer offerWords headLeaves packetArrives afterMove firstOutput firstInQueue orElse search firstInNode firstMove firstAnswer stopped oneMore deliverNext moveNext drainFrom drained drainAnswer
+unfolding next oneHop chosen outside sources inEach crossing allBelow someBelow allOf elem sumBelow sumOf product digit putDigit rotate size within sizesInRange nodes capacity signed byte packetWord tag destination offset withOffset withOffsets distance forward backward hops heading hopsLeft work shrunk hop shorterWay coordinate stride along neighbour movedBelow movedBy shape accepted delivered movesMade raised queueLength nodeWords queueStart queueEnd need queueWords queuePart countOf packetsOf unusedOf held load fill putQueue total rightPlace isQueueOf reach nearEnough opposite rightSign lowerDone packetFits queueFits queuesFit hasRoom ringHasRoom ringsHaveRoom packetsHeld workLeft countersFit isNetwork inOrder without incoming incomingFirst headings routes target freeSlots entersRing slotsNeeded networkRefusal makeRefusal offerRules offerRefusal head flowRules moveRules moveRefusal shapeOf emptyNetwork makeWords offered afterOffer offerWords headLeaves packetArrives afterMove firstOutput firstInQueue orElse search firstInNode firstMove firstAnswer stopped oneMore deliverNext moveNext drainFrom drained drainAnswer
 keptCases =
     record {
       k1 = refl;

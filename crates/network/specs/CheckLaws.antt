@@ -11,7 +11,7 @@ use borrow.Author.Tests.{eq-eqb, ne-eqb}
 use lib.Dec.{T, leb, ltb, eqb, leb→le, le→leb, ltb→lt, lt→ltb, eqb→eq, eqb-refl, T-not}
 use lib.ListN.{length, getD}
 use Rattle.base.specs.Tests.{allBelow, allOf, and-l, and-r, and-i, or-l, or-r, or-e, all-at, all-by, passed?}
-use Rattle.base.specs.Digits.{turn, turn-turn, turn-rounds, radix-pos}
+use Rattle.base.specs.Digits.{rotate, rotate-rotate, rotate-rounds, radix-pos}
 use Rattle.network.specs.Sizes.{Shape, size, sizesInRange, nodes, queues, directions, dimensions, dimensionOf, directionOf, isPlus, plus, minus, isEscape, injectionQueue, capacity}
 use Rattle.network.specs.Packet.{destination, distance, hops}
 use Rattle.network.specs.PacketLaws.{one-way, distance-is}
@@ -95,14 +95,14 @@ neighbour-back S d n tor hd = go (ℕ-discrete (d % 2) 0)
     pos : 0 < k
     pos = radix-pos (S .sizes) i (tor .positive) inside
 
-    round : (a b : ℕ) → a + b ≡ 1 * k → turn (S .sizes) i b (turn (S .sizes) i a n) ≡ n
-    round a b e = turn-turn (S .sizes) i a b n (tor .positive) inside ∙ ap (λ (c : ℕ). turn (S .sizes) i c n) e ∙ turn-rounds (S .sizes) i 1 n (tor .positive) inside
+    round : (a b : ℕ) → a + b ≡ 1 * k → rotate (S .sizes) i b (rotate (S .sizes) i a n) ≡ n
+    round a b e = rotate-rotate (S .sizes) i a b n (tor .positive) inside ∙ ap (λ (c : ℕ). rotate (S .sizes) i c n) e ∙ rotate-rounds (S .sizes) i 1 n (tor .positive) inside
 
     -- plus, then minus; minus, then plus
     go : Dec (d % 2 ≡ 0)
-        → turn (S .sizes) (dimensionOf (cond (isPlus d) (minus i) (plus i)))
+        → rotate (S .sizes) (dimensionOf (cond (isPlus d) (minus i) (plus i)))
         (1 * cond (isPlus (cond (isPlus d) (minus i) (plus i))) 1 (getD (S .sizes) (dimensionOf (cond (isPlus d) (minus i) (plus i))) 0 - 1))
-        (turn (S .sizes) i (1 * cond (isPlus d) 1 (k - 1)) n)
+        (rotate (S .sizes) i (1 * cond (isPlus d) 1 (k - 1)) n)
         ≡ n
     go (yes e) =
         rw (eq-eqb (d % 2) 0 e, ne-eqb (minus i % 2) 0 odd, same)

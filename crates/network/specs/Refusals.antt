@@ -51,6 +51,10 @@ noSlot = 11
 abbrev pub noBubble : ℕ
 noBubble = 12
 
+-- R173: the program's own, of a line that is no command
+abbrev pub badLine : ℕ
+badLine = 13
+
 -- refused by this number if the test applies, else whatever the later tests say
 abbrev pub refuse : Bool → ℕ → ℕ → ℕ
 refuse true number later = number

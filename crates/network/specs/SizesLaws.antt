@@ -6,7 +6,7 @@ use native.Mathlib.Omega.{arith}
 use borrow.Author.Tests.{ne-eqb, lt-ltb}
 use lib.Dec.{T, leb, eqb, leb→le, le→leb}
 use Rattle.base.specs.Tests.{allOf, and-l, and-r, and-i}
-use Rattle.network.specs.Sizes.{Shape, within, sizesInRange, injectionQueue, escapeQueue, isEscape, directions, capacity}
+use Rattle.network.specs.Sizes.{Shape, within, sizesInRange, injectionQueue, escapeQueue, isEscape, directions, capacity, largestRing, fewestEscape, largestCapacity}
 
 pub record Between (least most n : ℕ) : Type 0 where
   pub low : least ≤ n
@@ -21,46 +21,46 @@ unfolding within
 between-by least most n b = and-i (leb least n) (leb n most) (le→leb least n (b .low)) (le→leb n most (b .high))
 
 pub record InRange (S : Shape) : Type 0 where
-  pub sizes : T (allOf (within 1 16) (S .sizes))
-  pub escape : Between 2 8 (S .escape)
-  pub adaptive : Between 1 8 (S .adaptive)
-  pub injection : Between 1 8 (S .injection)
+  pub sizes : T (allOf (within 1 largestRing) (S .sizes))
+  pub escape : Between fewestEscape largestCapacity (S .escape)
+  pub adaptive : Between 1 largestCapacity (S .adaptive)
+  pub injection : Between 1 largestCapacity (S .injection)
 
 pub range-of : (S : Shape) → T (sizesInRange S) → InRange S
 unfolding sizesInRange
 range-of S t =
     record {
       sizes = and-l a (b && (c && d)) t;
-      escape = between-of 2 8 (S .escape) (and-l b (c && d) (and-r a (b && (c && d)) t));
-      adaptive = between-of 1 8 (S .adaptive) (and-l c d (and-r b (c && d) (and-r a (b && (c && d)) t)));
-      injection = between-of 1 8 (S .injection) (and-r c d (and-r b (c && d) (and-r a (b && (c && d)) t)));
+      escape = between-of fewestEscape largestCapacity (S .escape) (and-l b (c && d) (and-r a (b && (c && d)) t));
+      adaptive = between-of 1 largestCapacity (S .adaptive) (and-l c d (and-r b (c && d) (and-r a (b && (c && d)) t)));
+      injection = between-of 1 largestCapacity (S .injection) (and-r c d (and-r b (c && d) (and-r a (b && (c && d)) t)));
     }
   where
     a : Bool
-    a = allOf (within 1 16) (S .sizes)
+    a = allOf (within 1 largestRing) (S .sizes)
 
     b : Bool
-    b = within 2 8 (S .escape)
+    b = within fewestEscape largestCapacity (S .escape)
 
     c : Bool
-    c = within 1 8 (S .adaptive)
+    c = within 1 largestCapacity (S .adaptive)
 
     d : Bool
-    d = within 1 8 (S .injection)
+    d = within 1 largestCapacity (S .injection)
 
 pub range-by : (S : Shape) → InRange S → T (sizesInRange S)
 unfolding sizesInRange
 range-by S r =
-    and-i (allOf (within 1 16) (S .sizes)) (within 2 8 (S .escape) && (within 1 8 (S .adaptive) && within 1 8 (S .injection))) (r .sizes)
-    (and-i (within 2 8 (S .escape)) (within 1 8 (S .adaptive) && within 1 8 (S .injection)) (between-by 2 8 (S .escape) (r .escape))
-    (and-i (within 1 8 (S .adaptive)) (within 1 8 (S .injection)) (between-by 1 8 (S .adaptive) (r .adaptive)) (between-by 1 8 (S .injection) (r .injection))))
+    and-i (allOf (within 1 largestRing) (S .sizes)) (within fewestEscape largestCapacity (S .escape) && (within 1 largestCapacity (S .adaptive) && within 1 largestCapacity (S .injection))) (r .sizes)
+    (and-i (within fewestEscape largestCapacity (S .escape)) (within 1 largestCapacity (S .adaptive) && within 1 largestCapacity (S .injection)) (between-by fewestEscape largestCapacity (S .escape) (r .escape))
+    (and-i (within 1 largestCapacity (S .adaptive)) (within 1 largestCapacity (S .injection)) (between-by 1 largestCapacity (S .adaptive) (r .adaptive)) (between-by 1 largestCapacity (S .injection) (r .injection))))
 
 -- every queue has a slot, an escape queue two, and none more than eight
-pub capacity-most : (S : Shape) (q : ℕ) → InRange S → capacity S q ≤ 8
+pub capacity-most : (S : Shape) (q : ℕ) → InRange S → capacity S q ≤ largestCapacity
 unfolding capacity
 capacity-most S q r = go (eqb q injectionQueue) (isEscape q)
   where
-    go : (a b : Bool) → cond a (S .injection) (cond b (S .escape) (S .adaptive)) ≤ 8
+    go : (a b : Bool) → cond a (S .injection) (cond b (S .escape) (S .adaptive)) ≤ largestCapacity
     go true b = r .injection .high
     go false true = r .escape .high
     go false false = r .adaptive .high

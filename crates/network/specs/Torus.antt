@@ -1,7 +1,7 @@
 -- R30, R35, R36 and R75: coordinates, neighbours, and where a packet's offsets lead. Assumes nothing.
 use mathlib.Core.Bool.{cond}
 use Prim.Native.Nat.{ℕ, zero, suc, _*_, _-_}
-use Rattle.base.specs.Digits.{digit, turn}
+use Rattle.base.specs.Digits.{digit, rotate}
 use Rattle.network.specs.Sizes.{Shape, size, dimensionOf, isPlus, directions}
 use Rattle.network.specs.Packet.{hops}
 
@@ -15,7 +15,7 @@ stride S d = cond (isPlus d) 1 (size S (dimensionOf d) - 1)
 
 -- the node so many hops from n in direction d
 unfoldable pub along : Shape → ℕ → ℕ → ℕ → ℕ
-along S d count n = turn (S .sizes) (dimensionOf d) (count * stride S d) n
+along S d count n = rotate (S .sizes) (dimensionOf d) (count * stride S d) n
 
 -- R35, R36: one hop, and round to the other end after the last node of the row or column
 unfoldable pub neighbour : Shape → ℕ → ℕ → ℕ

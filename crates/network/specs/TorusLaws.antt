@@ -12,8 +12,8 @@ use borrow.Author.Tests.{eq-eqb, ne-eqb}
 use lib.Dec.{T, leb, leb→le}
 use lib.ListN.{length, getD}
 use Rattle.base.specs.Tests.{and-l, and-r, allOf, allOf-head, allOf-tail}
-use Rattle.base.specs.Digits.{product, digit, turn, Positive, product-pos, digit-lt, digits-eq, radix-pos, turn-lt, turn-turn, turn-comm, turn-rounds, digit-turn-same, digit-turn-other}
-use Rattle.network.specs.Sizes.{Shape, shapeOf, size, nodes, mostNodes, within, sizesInRange, dimensions, directions, dimensionOf, isPlus, plus, minus}
+use Rattle.base.specs.Digits.{product, digit, rotate, Positive, product-pos, digit-lt, digits-eq, radix-pos, rotate-lt, rotate-rotate, rotate-comm, rotate-rounds, digit-rotate-same, digit-rotate-other}
+use Rattle.network.specs.Sizes.{Shape, shapeOf, size, nodes, mostNodes, within, sizesInRange, dimensions, directions, dimensionOf, isPlus, plus, minus, largestRing, fewestEscape, largestCapacity}
 use Rattle.network.specs.declared.Sizes.{Sizes}
 use Rattle.network.specs.Packet.{hops, hopsLeft, hop}
 use Rattle.network.specs.PacketLaws.{dimension-lt, hops-hop-same, hops-hop-other, one-way, hops-le, distance-le-hopsLeft}
@@ -35,37 +35,37 @@ unfolding within
 within-most least most n t = leb→le n most (and-r (leb least n) (leb n most) t)
 
 -- what sizes of 1 to 16 come to, in any number of dimensions
-all-positive : (ks : List ℕ) → T (allOf (within 1 16) ks) → Positive ks
+all-positive : (ks : List ℕ) → T (allOf (within 1 largestRing) ks) → Positive ks
 unfolding Positive
 all-positive [] t = tt
-all-positive (k ∷ ks) t = (within-least 1 16 k (allOf-head (within 1 16) k ks t), all-positive ks (allOf-tail (within 1 16) k ks t))
+all-positive (k ∷ ks) t = (within-least 1 largestRing k (allOf-head (within 1 largestRing) k ks t), all-positive ks (allOf-tail (within 1 largestRing) k ks t))
 
-all-most : (ks : List ℕ) (i : ℕ) → T (allOf (within 1 16) ks) → getD ks i 0 ≤ 16
+all-most : (ks : List ℕ) (i : ℕ) → T (allOf (within 1 largestRing) ks) → getD ks i 0 ≤ largestRing
 all-most [] i t = omega arith
-all-most (k ∷ ks) zero t = within-most 1 16 k (allOf-head (within 1 16) k ks t)
-all-most (k ∷ ks) (suc i) t = all-most ks i (allOf-tail (within 1 16) k ks t)
+all-most (k ∷ ks) zero t = within-most 1 largestRing k (allOf-head (within 1 largestRing) k ks t)
+all-most (k ∷ ks) (suc i) t = all-most ks i (allOf-tail (within 1 largestRing) k ks t)
 
-product-most : (ks : List ℕ) → T (allOf (within 1 16) ks) → product ks ≤ 16 ^ length ks
+product-most : (ks : List ℕ) → T (allOf (within 1 largestRing) ks) → product ks ≤ largestRing ^ length ks
 unfolding product
 product-most [] t = omega arith
 product-most (k ∷ ks) t =
-    rw (pow-succ' 16 (length ks))
-    (mul-le-mul (within-most 1 16 k (allOf-head (within 1 16) k ks t)) (product-most ks (allOf-tail (within 1 16) k ks t)))
+    rw (pow-succ' largestRing (length ks))
+    (mul-le-mul (within-most 1 largestRing k (allOf-head (within 1 largestRing) k ks t)) (product-most ks (allOf-tail (within 1 largestRing) k ks t)))
 
-inRange-sizes : (S : Shape) → T (sizesInRange S) → T (allOf (within 1 16) (S .sizes))
+inRange-sizes : (S : Shape) → T (sizesInRange S) → T (allOf (within 1 largestRing) (S .sizes))
 unfolding sizesInRange
-inRange-sizes S t = and-l (allOf (within 1 16) (S .sizes)) (within 2 8 (S .escape) && (within 1 8 (S .adaptive) && within 1 8 (S .injection))) t
+inRange-sizes S t = and-l (allOf (within 1 largestRing) (S .sizes)) (within fewestEscape largestCapacity (S .escape) && (within 1 largestCapacity (S .adaptive) && within 1 largestCapacity (S .injection))) t
 
 pub inRange-torus : (S : Shape) → T (sizesInRange S) → length (S .sizes) ≡ dimensions → Torus S
 inRange-torus S t l = record { positive = all-positive (S .sizes) (inRange-sizes S t); dims = l }
 
-pub inRange-size : (S : Shape) (i : ℕ) → T (sizesInRange S) → size S i ≤ 16
+pub inRange-size : (S : Shape) (i : ℕ) → T (sizesInRange S) → size S i ≤ largestRing
 unfolding size
 inRange-size S i t = all-most (S .sizes) i (inRange-sizes S t)
 
-pub inRange-nodes : (S : Shape) → T (sizesInRange S) → length (S .sizes) ≡ dimensions → nodes S ≤ 256
+pub inRange-nodes : (S : Shape) → T (sizesInRange S) → length (S .sizes) ≡ dimensions → nodes S ≤ mostNodes
 unfolding nodes
-inRange-nodes S t l = let m : product (S .sizes) ≤ 16 ^ length (S .sizes) = product-most (S .sizes) (inRange-sizes S t) in rw l at m
+inRange-nodes S t l = let m : product (S .sizes) ≤ largestRing ^ length (S .sizes) = product-most (S .sizes) (inRange-sizes S t) in rw l at m
 
 -- the code's sizes
 pub sizes-torus : (s : Sizes) → T (sizesInRange (shapeOf s)) → Torus (shapeOf s)
@@ -92,7 +92,7 @@ on-list S d t h = let l = t .dims in omega arith
 
 pub along-lt : (S : Shape) (d c n : ℕ) → Torus S → d < directions → n < nodes S → along S d c n < nodes S
 unfolding along nodes
-along-lt S d c n t h k = turn-lt (S .sizes) (dimensionOf d) (c * stride S d) n (t .positive) (on-list S d t h) k
+along-lt S d c n t h k = rotate-lt (S .sizes) (dimensionOf d) (c * stride S d) n (t .positive) (on-list S d t h) k
 
 pub neighbour-lt : (S : Shape) (d n : ℕ) → Torus S → d < directions → n < nodes S → neighbour S d n < nodes S
 unfolding neighbour
@@ -101,21 +101,21 @@ neighbour-lt S d n t h k = along-lt S d 1 n t h k
 pub along-add : (S : Shape) (d a b n : ℕ) → Torus S → d < directions → along S d a (along S d b n) ≡ along S d (b + a) n
 unfolding along
 along-add S d a b n t h =
-    turn-turn (S .sizes) (dimensionOf d) (b * stride S d) (a * stride S d) n (t .positive) (on-list S d t h)
-    ∙ ap (λ (c : ℕ). turn (S .sizes) (dimensionOf d) c n) (sym (add-mul b a (stride S d)))
+    rotate-rotate (S .sizes) (dimensionOf d) (b * stride S d) (a * stride S d) n (t .positive) (on-list S d t h)
+    ∙ ap (λ (c : ℕ). rotate (S .sizes) (dimensionOf d) c n) (sym (add-mul b a (stride S d)))
 
 pub along-comm : (S : Shape) (d e a b n : ℕ) → Torus S → d < directions → e < directions
     → along S d a (along S e b n) ≡ along S e b (along S d a n)
 unfolding along
 along-comm S d e a b n t h k =
-    turn-comm (S .sizes) (dimensionOf d) (dimensionOf e) (a * stride S d) (b * stride S e) n (t .positive) (on-list S d t h) (on-list S e t k)
+    rotate-comm (S .sizes) (dimensionOf d) (dimensionOf e) (a * stride S d) (b * stride S e) n (t .positive) (on-list S d t h) (on-list S e t k)
 
 -- whole rounds: any number of them, one, none
 pub along-rounds : (S : Shape) (d m n : ℕ) → Torus S → d < directions → along S d (m * size S (dimensionOf d)) n ≡ n
 unfolding along size
 along-rounds S d m n t h =
-    ap (λ (c : ℕ). turn (S .sizes) (dimensionOf d) c n) (mul-right-comm m (getD (S .sizes) (dimensionOf d) 0) (stride S d))
-    ∙ turn-rounds (S .sizes) (dimensionOf d) (m * stride S d) n (t .positive) (on-list S d t h)
+    ap (λ (c : ℕ). rotate (S .sizes) (dimensionOf d) c n) (mul-right-comm m (getD (S .sizes) (dimensionOf d) 0) (stride S d))
+    ∙ rotate-rounds (S .sizes) (dimensionOf d) (m * stride S d) n (t .positive) (on-list S d t h)
 
 pub along-round : (S : Shape) (d n : ℕ) → Torus S → d < directions → along S d (size S (dimensionOf d)) n ≡ n
 along-round S d n t h = ap (λ (c : ℕ). along S d c n) (sym (one-mul (size S (dimensionOf d)))) ∙ along-rounds S d 1 n t h
@@ -132,13 +132,13 @@ coordinate-lt S i n t h = let l = t .dims in digit-lt (S .sizes) i n (t .positiv
 pub coordinate-along-same : (S : Shape) (d c n : ℕ) → Torus S → d < directions
     → coordinate S (dimensionOf d) (along S d c n) ≡ (coordinate S (dimensionOf d) n + c * stride S d) % size S (dimensionOf d)
 unfolding coordinate along size
-coordinate-along-same S d c n t h = digit-turn-same (S .sizes) (dimensionOf d) (c * stride S d) n (t .positive) (on-list S d t h)
+coordinate-along-same S d c n t h = digit-rotate-same (S .sizes) (dimensionOf d) (c * stride S d) n (t .positive) (on-list S d t h)
 
 pub coordinate-along-other : (S : Shape) (i d c n : ℕ) → Torus S → d < directions → i ≢ dimensionOf d
     → coordinate S i (along S d c n) ≡ coordinate S i n
 unfolding coordinate along
 coordinate-along-other S i d c n t h ne =
-    digit-turn-other (S .sizes) (dimensionOf d) i (c * stride S d) n (t .positive) (on-list S d t h) ne
+    digit-rotate-other (S .sizes) (dimensionOf d) i (c * stride S d) n (t .positive) (on-list S d t h) ne
 
 -- nodes with the same coordinates are the same
 pub coordinates-eq : (S : Shape) (n m : ℕ) → Torus S → n < nodes S → m < nodes S

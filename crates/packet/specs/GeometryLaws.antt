@@ -13,7 +13,7 @@ use lib.Dec.{T}
 use lib.ListN.{length, getD, set, replicate, length-set, length-replicate}
 use lib.Seq.{getD-set-same, getD-set-other}
 use borrow.Author.Tests.{eq-eqb, ne-eqb}
-use Rattle.base.specs.Digits.{product, digit, putDigit, turn, weight, weight-pos, digit-weight, put-weight}
+use Rattle.base.specs.Digits.{product, digit, putDigit, rotate, weight, weight-pos, digit-weight, put-weight}
 use Rattle.base.specs.Numbers.{number, weight-first, weight-next, weight-all, number-zero, number-set, number-lt, digit-number}
 use Rattle.network.specs.Sizes.{Shape, shapeOf, size, nodes, mostNodes, largestRing, dimensions, directions, dimensionOf, sizesInRange}
 use Rattle.network.specs.PacketLaws.{ByteRange, dimension-lt}
@@ -91,7 +91,7 @@ module _ {S : Shape} {d n c k w : ℕ} (r : Ring S d n c k w) where
 
   -- where the neighbour has the coordinate b
   lands : (b : ℕ) → (c + stride S d) % k ≡ b → neighbour S d n + c * w ≡ n + b * w
-  unfolding neighbour along turn coordinate size
+  unfolding neighbour along rotate coordinate size
   lands b e =
       let l = r .torus .dims in
       let h = r .way in

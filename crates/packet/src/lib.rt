@@ -16,14 +16,14 @@ ghost use Rattle.network.specs.PacketLaws.{ByteRange};
 // Signed bytes --------------------------------------------------------------------------------------------------------------
 
 // Half of the values of an offset: how far the least of them stands below 0.
-pub const HALF_TURN: u64 = OFFSET_VALUES / 2;
+pub const HALF_OFFSETS: u64 = OFFSET_VALUES / 2;
 
 // The number that a byte stands for, two's complement: half a turn on, and half a turn back. This form is one instruction, a sign extension.
 pub fn signed(b: u64) -> i64
     requires { ⌜ b < offsetValues ⌝ }
     ensures { λ r. ⌜ r ≡ signed b ⌝ }
 {
-    ((b + HALF_TURN) % OFFSET_VALUES) as i64 - HALF_TURN as i64
+    ((b + HALF_OFFSETS) % OFFSET_VALUES) as i64 - HALF_OFFSETS as i64
 }
 
 // The number without its sign. The least that a byte stands for, -128, is no exception: it is negated at the full width.

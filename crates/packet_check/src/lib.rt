@@ -5,7 +5,7 @@ use network::DIRECTIONS;
 use network::LARGEST_RING;
 use network::OFFSET_VALUES;
 use network::Sizes;
-use packet::HALF_TURN;
+use packet::HALF_OFFSETS;
 use packet::torus::Place;
 use packet::torus::size;
 use packet::torus::weight;
@@ -69,9 +69,9 @@ fn above(i: u64, p: u64) -> u64
     ensures offset { λ r. ⌜ r + hops (minus i) p ≡ 128 + hops (plus i) p ⌝ }
 {
     if i == 0 {
-        (p / OFFSET_VALUES % OFFSET_VALUES + HALF_TURN) % OFFSET_VALUES
+        (p / OFFSET_VALUES % OFFSET_VALUES + HALF_OFFSETS) % OFFSET_VALUES
     } else {
-        (p % OFFSET_VALUES + HALF_TURN) % OFFSET_VALUES
+        (p % OFFSET_VALUES + HALF_OFFSETS) % OFFSET_VALUES
     }
 }
 
@@ -87,7 +87,7 @@ fn between(forward: u64, back: u64, above: u64) -> bool
     if back == 0 {
         return false;
     }
-    (above + HALF_TURN + back - 1) % OFFSET_VALUES < forward + back - 1
+    (above + HALF_OFFSETS + back - 1) % OFFSET_VALUES < forward + back - 1
 }
 
 // The coordinate after c on a ring of k nodes.
@@ -141,7 +141,7 @@ fn moved(tables: &[u64], s: Sizes, i: u64, c: u64, p: u64) -> u64
         * ((c + (hops (plus i) p * 1 + hops (minus i) p * (size (shapeOf s) i - 1))) % size (shapeOf s) i) ⌝ }
 {
     let k = size(s, i);
-    tables[(i * RING_WORDS + (c + above(i, p) + k - HALF_TURN)) as usize]
+    tables[(i * RING_WORDS + (c + above(i, p) + k - HALF_OFFSETS)) as usize]
 }
 
 // Whether its hops are below the limits.

@@ -9,9 +9,10 @@ use borrow.Author.Tests.{ne-eqb, lt-ltb, le-ltb}
 use Rattle.base.specs.Sums.{sumBelow, sum-fewer}
 use lib.Dec.{T}
 use Rattle.network.specs.declared.Sizes.{Sizes}
-use Rattle.network.specs.Sizes.{Shape, shapeOf, sizesInRange, nodes, mostNodes, queues, directions, capacity}
-use Rattle.queue.specs.QueueLaws.{small, nodes-small}
-use Rattle.network.specs.Layout.{queueLength, nodeWords, queueEnd}
+use Rattle.network.specs.Sizes.{Shape, shapeOf, sizesInRange, nodes, mostNodes, largestCapacity, queues, directions, capacity}
+use Rattle.network.specs.TorusLaws.{sizes-nodes}
+use Rattle.queue.specs.QueueLaws.{small-queues}
+use Rattle.network.specs.Layout.{headerWords, queueLength, nodeWords, queueEnd}
 use Rattle.network.specs.LayoutLaws.{node-words, end-node}
 
 -- the capacity by the kind of the queue
@@ -70,23 +71,29 @@ before-many S q h =
     omega arith
 
 -- a node's words, the words before a queue and the places of all queues are small
+abbrev pub mostNodeWords : ℕ
+mostNodeWords = queues * (1 + largestCapacity)
+
+abbrev pub mostWords : ℕ
+mostWords = headerWords + mostNodes * mostNodeWords
+
 pub product-small : (n m b d : ℕ) → n ≤ b → m ≤ d → n * m ≤ b * d
 product-small n m b d h k = mul-le-mul h k
 
-pub node-small : (s : Sizes) → T (sizesInRange (shapeOf s)) → nodeWords (shapeOf s) ≤ 81
+pub node-small : (s : Sizes) → T (sizesInRange (shapeOf s)) → nodeWords (shapeOf s) ≤ mostNodeWords
 unfolding shapeOf nodeWords
-node-small s t = let k = small s t in let e = k .escape in let a = k .adaptive in let j = k .injection in omega arith
+node-small s t = let k = small-queues s t in let e = k .escape in let a = k .adaptive in let j = k .injection in omega arith
 
-pub before-small : (s : Sizes) (q : ℕ) → T (sizesInRange (shapeOf s)) → q < queues → sumBelow q (λ i. queueLength (shapeOf s) i) ≤ 81
+pub before-small : (s : Sizes) (q : ℕ) → T (sizesInRange (shapeOf s)) → q < queues → sumBelow q (λ i. queueLength (shapeOf s) i) ≤ mostNodeWords
 before-small s q t hq =
     let f = sum-fewer q queues (λ i. queueLength (shapeOf s) i) (omega arith) in
     let w = node-words (shapeOf s) in
     let l = node-small s t in
     omega arith
 
-pub end-small : (s : Sizes) (n q : ℕ) → T (sizesInRange (shapeOf s)) → n < nodes (shapeOf s) → q < queues → queueEnd (shapeOf s) n q ≤ 20744
+pub end-small : (s : Sizes) (n q : ℕ) → T (sizesInRange (shapeOf s)) → n < nodes (shapeOf s) → q < queues → queueEnd (shapeOf s) n q ≤ mostWords
 end-small s n q t hn hq =
     let l = end-node (shapeOf s) n q hq in
-    let b = nodes-small s t in
-    let m = product-small (suc n) (nodeWords (shapeOf s)) mostNodes 81 (omega arith) (node-small s t) in
+    let b = sizes-nodes s t in
+    let m = product-small (suc n) (nodeWords (shapeOf s)) mostNodes mostNodeWords (omega arith) (node-small s t) in
     omega arith

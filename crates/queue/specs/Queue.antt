@@ -26,12 +26,12 @@ pub record QueueAt (w : List ℕ) (a e : ℕ) : Type 0 where
   pub queue : IsQueue (span w a e)
 
 -- sizes in range, and as many words as they need
-pub record Enough (S : Shape) (w : List ℕ) : Type 0 where
+pub record EnoughWords (S : Shape) (w : List ℕ) : Type 0 where
   pub sizes : T (sizesInRange S)
   pub long : need S ≤ length w
 
 -- what the check of a network says of queue q of node n
-pub record Checked (S : Shape) (w : List ℕ) (n q : ℕ) : Type 0 where
+pub record CheckedQueue (S : Shape) (w : List ℕ) (n q : ℕ) : Type 0 where
   pub sizes : T (sizesInRange S)
   pub node : n < nodes S
   pub queue : q < queues

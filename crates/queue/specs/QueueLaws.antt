@@ -4,63 +4,40 @@ use mathlib.Core.Path.{_≡_, ap, ap₂, sym, _∙_, subst}
 use mathlib.Core.Bool.{Bool, _&&_}
 use mathlib.Core.List.{List, [], _∷_}
 use Prim.Native.Nat.{ℕ, _+_, _<_, _≤_}
-use native.Mathlib.Nat.{mul-le-mul, mul-one}
 use native.Mathlib.Decide.{ℕ-discrete}
 use native.Mathlib.Omega.{arith}
 use lib.Dec.{T, leb, eqb, leb→le}
 use lib.ListN.{length}
-use Rattle.base.specs.Tests.{and-l, and-r, allOf, allOf-head, allOf-tail, allBelow, all-at}
+use Rattle.base.specs.Tests.{and-l, and-r, allOf, allBelow, all-at}
 use Rattle.base.specs.Parts.{span, splice}
-use Rattle.base.specs.Digits.{product}
-use Rattle.network.specs.Sizes.{Shape, shapeOf, within, largestRing, largestCapacity, sizesInRange, nodes, mostNodes, queues, capacity}
+use Rattle.network.specs.Sizes.{Shape, shapeOf, largestCapacity, sizesInRange, nodes, queues, capacity}
 use Rattle.network.specs.SizesLaws.{range-of}
 use Rattle.network.specs.declared.Sizes.{Sizes}
 use Rattle.network.specs.Layout.{queueLength, queueStart, queueEnd, need, queueWords, queuePart, countOf, packetsOf, unusedOf, held, putQueue}
 use Rattle.network.specs.LayoutLaws.{Fits, start-end, end-length, length-queuePart, length-packetsOf, countOf-queueWords, unused-zero, part-put-same, part-put-other, length-put}
 use Rattle.network.specs.Check.{packetFits, queueFits, queuesFit, ringsHaveRoom, countersFit, isNetwork}
 use Rattle.network.specs.Refusals.{head}
-use Rattle.queue.specs.Queue.{IsQueue, QueueAt, Checked, slots}
+use Rattle.queue.specs.Queue.{IsQueue, QueueAt, CheckedQueue, slots}
 
 -- What the sizes bound ------------------------------------------------------------------------------------------------------------------
 
-within-most : (least most n : ℕ) → T (within least most n) → n ≤ most
-unfolding within
-within-most least most n t = leb→le n most (and-r (leb least n) (leb n most) t)
-
-pub record Small (s : Sizes) : Type 0 where
-  pub columns : s .x ≤ largestRing
-  pub rows : s .y ≤ largestRing
+pub record SmallQueues (s : Sizes) : Type 0 where
   pub escape : s .escape ≤ largestCapacity
   pub adaptive : s .adaptive ≤ largestCapacity
   pub injection : s .injection ≤ largestCapacity
 
-pub small : (s : Sizes) → T (sizesInRange (shapeOf s)) → Small s
+pub small-queues : (s : Sizes) → T (sizesInRange (shapeOf s)) → SmallQueues s
 unfolding shapeOf
-small s t =
+small-queues s t =
     let r = range-of (shapeOf s) t in
-    record {
-      columns = within-most 1 largestRing (s .x) (allOf-head (within 1 largestRing) (s .x) (s .y ∷ []) (r .sizes));
-      rows =
-          within-most 1 largestRing (s .y)
-          (allOf-head (within 1 largestRing) (s .y) [] (allOf-tail (within 1 largestRing) (s .x) (s .y ∷ []) (r .sizes)));
-      escape = r .escape .high;
-      adaptive = r .adaptive .high;
-      injection = r .injection .high;
-    }
-
-pub nodes-small : (s : Sizes) → T (sizesInRange (shapeOf s)) → nodes (shapeOf s) ≤ mostNodes
-unfolding nodes product shapeOf
-nodes-small s t =
-    let k = small s t in
-    let one = mul-one (s .y) in
-    mul-le-mul {n₂ = largestRing} {m₂ = largestRing} (k .columns) (let r = k .rows in omega arith)
+    record { escape = r .escape .high; adaptive = r .adaptive .high; injection = r .injection .high }
 
 -- What the check of a network says of a queue -------------------------------------------------------------------------------------------
 
 both : (a b : Bool) → T (a && b) → (T a × T b)
 both a b t = (and-l a b t, and-r a b t)
 
-pub checked : (S : Shape) (w : List ℕ) (n q : ℕ) → T (isNetwork S w) → n < nodes S → q < queues → Checked S w n q
+pub checked : (S : Shape) (w : List ℕ) (n q : ℕ) → T (isNetwork S w) → n < nodes S → q < queues → CheckedQueue S w n q
 unfolding isNetwork queuesFit queueFits
 checked S w n q t hn hq =
     let network = both (sizesInRange S) (leb (need S) (length w) && (queuesFit S w && (ringsHaveRoom S w && countersFit S w))) t in
@@ -77,25 +54,25 @@ checked S w n q t hn hq =
       zeros = and-l (allOf (eqb 0) (unusedOf part)) (allOf (packetFits S n q) (held S w n q)) (words .1);
     }
 
-pub checked-fits : (S : Shape) (w : List ℕ) (n q : ℕ) → Checked S w n q → Fits S w n q
+pub checked-fits : (S : Shape) (w : List ℕ) (n q : ℕ) → CheckedQueue S w n q → Fits S w n q
 checked-fits S w n q k = record { node = k .node; queue = k .queue; long = k .long }
 
 -- what the functions that compute places ask
-pub places : {S : Shape} {w : List ℕ} {n q : ℕ} → Checked S w n q → T (sizesInRange S) × (n < nodes S) × (q < queues)
+pub places : {S : Shape} {w : List ℕ} {n q : ℕ} → CheckedQueue S w n q → T (sizesInRange S) × (n < nodes S) × (q < queues)
 places k = (k .sizes, k .node, k .queue)
 
 -- the number held is the number of packets
-pub checked-count : (S : Shape) (w : List ℕ) (n q : ℕ) → Checked S w n q → length (held S w n q) ≡ countOf (queuePart S w n q)
+pub checked-count : (S : Shape) (w : List ℕ) (n q : ℕ) → CheckedQueue S w n q → length (held S w n q) ≡ countOf (queuePart S w n q)
 unfolding held queueLength
 checked-count S w n q k = length-packetsOf (capacity S q) (queuePart S w n q) (length-queuePart S w n q (checked-fits S w n q k)) (k .count)
 
-checked-slots : (S : Shape) (w : List ℕ) (n q : ℕ) → Checked S w n q → slots (queuePart S w n q) ≡ capacity S q
+checked-slots : (S : Shape) (w : List ℕ) (n q : ℕ) → CheckedQueue S w n q → slots (queuePart S w n q) ≡ capacity S q
 unfolding queueLength
 checked-slots S w n q k =
     let l : length (queuePart S w n q) ≡ 1 + capacity S q = length-queuePart S w n q (checked-fits S w n q k) in
     omega arith
 
-is-queue : (S : Shape) (w : List ℕ) (n q : ℕ) → Checked S w n q → IsQueue (queuePart S w n q)
+is-queue : (S : Shape) (w : List ℕ) (n q : ℕ) → CheckedQueue S w n q → IsQueue (queuePart S w n q)
 unfolding queueLength
 is-queue S w n q k =
     let l : length (queuePart S w n q) ≡ 1 + capacity S q = length-queuePart S w n q (checked-fits S w n q k) in
@@ -106,11 +83,11 @@ is-queue S w n q k =
 
 -- a checked queue, with its start and its end as computed
 pub record Placed (S : Shape) (w : List ℕ) (n q start end : ℕ) : Type 0 where
-  pub queue : Checked S w n q
+  pub queue : CheckedQueue S w n q
   pub from : start ≡ queueStart S n q
   pub to : end ≡ queueEnd S n q
 
-pub placed : {S : Shape} {w : List ℕ} {n q start end : ℕ} → Checked S w n q → start ≡ queueStart S n q → end ≡ queueEnd S n q
+pub placed : {S : Shape} {w : List ℕ} {n q start end : ℕ} → CheckedQueue S w n q → start ≡ queueStart S n q → end ≡ queueEnd S n q
     → Placed S w n q start end
 placed k from to = record { queue = k; from = from; to = to }
 
@@ -153,8 +130,8 @@ module _ {S : Shape} {w : List ℕ} {n q start end : ℕ} (at : Placed S w n q s
 
 -- What stays ----------------------------------------------------------------------------------------------------------------------------
 
-pub checked-put : (S : Shape) (w : List ℕ) (n q : ℕ) (ps : List ℕ) (m r : ℕ) → Fits S w n q → length ps ≤ capacity S q → Checked S w m r
-    → Checked S (putQueue S w n q ps) m r
+pub checked-put : (S : Shape) (w : List ℕ) (n q : ℕ) (ps : List ℕ) (m r : ℕ) → Fits S w n q → length ps ≤ capacity S q → CheckedQueue S w m r
+    → CheckedQueue S (putQueue S w n q ps) m r
 checked-put S w n q ps m r fits h k = go (ℕ-discrete n m) (ℕ-discrete q r)
   where
     long : need S ≤ length (putQueue S w n q ps)
@@ -164,7 +141,7 @@ checked-put S w n q ps m r fits h k = go (ℕ-discrete n m) (ℕ-discrete q r)
         omega arith
 
     good : (part : List ℕ) → queuePart S (putQueue S w n q ps) m r ≡ part → countOf part ≤ capacity S r → T (allOf (eqb 0) (unusedOf part))
-        → Checked S (putQueue S w n q ps) m r
+        → CheckedQueue S (putQueue S w n q ps) m r
     good part e c z = record {
       sizes = k .sizes;
       node = k .node;
@@ -174,10 +151,10 @@ checked-put S w n q ps m r fits h k = go (ℕ-discrete n m) (ℕ-discrete q r)
       zeros = subst (λ (l : List ℕ). T (allOf (eqb 0) (unusedOf l))) (sym e) z;
     }
 
-    other : ((n ≡ m) × (q ≡ r) → ⊥) → Checked S (putQueue S w n q ps) m r
+    other : ((n ≡ m) × (q ≡ r) → ⊥) → CheckedQueue S (putQueue S w n q ps) m r
     other ne = good (queuePart S w m r) (part-put-other S w n q ps m r fits h (k .node) (k .queue) ne) (k .count) (k .zeros)
 
-    go : Dec (n ≡ m) → Dec (q ≡ r) → Checked S (putQueue S w n q ps) m r
+    go : Dec (n ≡ m) → Dec (q ≡ r) → CheckedQueue S (putQueue S w n q ps) m r
     go (yes a) (yes b) =
         good (queueWords (capacity S q) ps)
         (ap₂ (λ (i j : ℕ). queuePart S (putQueue S w n q ps) i j) (sym a) (sym b) ∙ part-put-same S w n q ps fits h)

@@ -17,7 +17,7 @@ ghost use Rattle.network.specs.Sizes.{shapeOf, sizesInRange, nodes, queues, cap
 ghost use Rattle.network.specs.Layout.{queueLength, nodeWords, queueStart, queueEnd, need, queueWords, packetsOf, countOf, held, raised};
 ghost use Rattle.network.specs.Refusals.{head};
 ghost use Rattle.network.specs.Calls.{packetArrives, headLeaves};
-ghost use Rattle.queue.specs.Queue.{IsQueue, QueueAt, Checked, slots};
+ghost use Rattle.queue.specs.Queue.{IsQueue, QueueAt, CheckedQueue, slots};
 
 // The packet becomes the newest of a queue with a free slot.
 pub fn append(q: &mut [u64], p: u64)
@@ -127,13 +127,14 @@ pub fn need(s: Sizes) -> usize
     requires { ⌜ T (sizesInRange (shapeOf s)) ⌝ }
     ensures { λ r. ⌜ r ≡ need (shapeOf s) ⌝ }
 {
+    let nodes = packet::torus::nodes(s);
     let node = node_words(s);
-    HEADER_WORDS + (s.x * s.y * node) as usize
+    HEADER_WORDS + (nodes * node) as usize
 }
 
 // The packet becomes the newest of queue q of node n, which has a free slot.
 pub fn push(words: &mut [u64], s: Sizes, n: u64, q: u64, p: u64)
-    requires { ⌜ Checked (shapeOf s) (now words) n q ⌝ }
+    requires { ⌜ CheckedQueue (shapeOf s) (now words) n q ⌝ }
     requires { ⌜ length (held (shapeOf s) (now words) n q) < capacity (shapeOf s) q ⌝ }
     ensures { λ _. ⌜ now (words .exit) ≡ packetArrives (shapeOf s) (now (words .entry)) n q p ⌝ }
 {
@@ -144,7 +145,7 @@ pub fn push(words: &mut [u64], s: Sizes, n: u64, q: u64, p: u64)
 
 // The head of queue q of node n leaves, where there is one.
 pub fn pop(words: &mut [u64], s: Sizes, n: u64, q: u64) -> u64
-    requires { ⌜ Checked (shapeOf s) (now words) n q ⌝ }
+    requires { ⌜ CheckedQueue (shapeOf s) (now words) n q ⌝ }
     requires { ⌜ 0 < length (held (shapeOf s) (now words) n q) ⌝ }
     ensures words { λ _. ⌜ now (words .exit) ≡ headLeaves (shapeOf s) (now (words .entry)) n q ⌝ }
     ensures head { λ r. ⌜ r ≡ head (held (shapeOf s) (now (words .entry)) n q) ⌝ }

@@ -15,8 +15,9 @@ use lib.Seq.{drop-cons, getD-take, getD-drop}
 use Rattle.base.specs.Tests.{allBelow, allOf}
 use Rattle.base.specs.Sums.{sumBelow, sumOf}
 use Rattle.base.specs.Bools.{and-stop, and-on, fails-at}
-use Rattle.network.specs.Packet.{distance, hopsLeft, work}
-use Rattle.network.specs.PacketLaws.{distance-is, hops-plus, hops-minus, offset-range}
+use Rattle.network.specs.Sizes.{dimensions, largestCapacity}
+use Rattle.network.specs.Packet.{work}
+use Rattle.network.specs.PacketLaws.{hopsLeft-most}
 use Rattle.network.specs.Layout.{countOf, packetsOf}
 use Rattle.network.specs.LayoutLaws.{length-packetsOf}
 use Rattle.queue_check.specs.declared.Tally.{Tally}
@@ -150,7 +151,7 @@ module _ (f : ℕ → Bool) (g h : ℕ → ℕ) where
 
 -- Bounds ----------------------------------------------------------------------------------------------------------------------------------
 
-pub of-most : (m : ℕ) (g : ℕ → ℕ) (l : List ℕ) → ((x : ℕ) → g x ≤ m) → sumOf g l ≤ length l * m
+of-most : (m : ℕ) (g : ℕ → ℕ) (l : List ℕ) → ((x : ℕ) → g x ≤ m) → sumOf g l ≤ length l * m
 unfolding sumOf
 of-most m g [] h = omega arith
 of-most m g (x ∷ xs) h =
@@ -169,26 +170,19 @@ unfolding packetsOf
 packet-at part i h =
     getD-take (countOf part) (drop 1 part) i 0 h ∙ getD-drop 1 part i 0 ∙ ap (λ (j : ℕ). getD part j 0) (let e : 1 + i ≡ i + 1 = omega arith in e)
 
--- no packet has much work left, whatever its word
-pub work-most : (p : ℕ) → work p ≤ 511
-unfolding work hopsLeft sumBelow
-work-most p = let a = distance-most 0 in let b = distance-most 1 in omega arith
-  where
-    distance-most : (i : ℕ) → distance i p ≤ 255
-    distance-most i =
-        let e = distance-is i p in
-        let a = hops-plus i p in
-        let b = hops-minus i p in
-        let r = offset-range i p in
-        let m = r .most in
-        let l = r .least in
-        omega arith
+-- no packet has much work left, whatever its word, nor have the packets of a queue
+abbrev packetWork : ℕ
+packetWork = 128 * dimensions + 1
 
-pub works-most : (part : List ℕ) → countOf part < length part → length part ≤ 9 → sumOf work (packetsOf part) ≤ 4088
-works-most part h k =
-    let l = packets-length part h in
-    let m = of-most 511 work (packetsOf part) work-most in
-    omega arith
+abbrev pub queueWork : ℕ
+queueWork = largestCapacity * packetWork
+
+work-most : (p : ℕ) → work p ≤ packetWork
+unfolding work
+work-most p = let m = hopsLeft-most p in omega arith
+
+pub works-most : (l : List ℕ) → length l ≤ largestCapacity → sumOf work l ≤ queueWork
+works-most l h = let m = of-most packetWork work l work-most in omega arith
 
 -- the packets one by one: f tests them, and w is the next one's work
 module _ (f : ℕ → Bool) (part : List ℕ) (few : countOf part < length part) where
@@ -205,11 +199,11 @@ module _ (f : ℕ → Bool) (part : List ℕ) (few : countOf part < length part)
       left-more f work (packetsOf part) i sum left (omega arith) (ap f (packet-at part i h) ∙ e) in
       rw (packet-at part i h, ← ew) at next
 
-  pub packets-small : (i sum w : ℕ) → Left f work (packetsOf part) i sum → i < countOf part → w ≡ work (getD part (i + 1) 0) → length part ≤ 9 → sum + w ≤ 4088
+  pub packets-small : (i sum w : ℕ) → Left f work (packetsOf part) i sum → i < countOf part → w ≡ work (getD part (i + 1) 0) → length part ≤ largestCapacity + 1 → sum + w ≤ queueWork
   packets-small i sum w left h ew k =
       let l = packets-length part few in
       let a = left-next f work (packetsOf part) i sum left (omega arith) in
-      let b = works-most part few k in
+      let b = works-most (packetsOf part) (omega arith) in
       let e : work (getD (packetsOf part) i 0) ≡ work (getD part (i + 1) 0) = ap work (packet-at part i h) in
       omega arith
 

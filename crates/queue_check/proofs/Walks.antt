@@ -12,7 +12,7 @@ use lib.ListN.{length, take, drop, replicate, length-take, length-drop}
 use Rattle.base.specs.Tests.{allBelow}
 use Rattle.base.specs.Sums.{sumBelow, sumOf, sum-most}
 use Rattle.base.specs.Parts.{span}
-use Rattle.network.specs.Sizes.{Shape, shapeOf, sizesInRange, dimensions, nodes, queues, capacity}
+use Rattle.network.specs.Sizes.{Shape, shapeOf, sizesInRange, dimensions, nodes, mostNodes, queues, capacity, largestCapacity}
 use Rattle.network.specs.SizesLaws.{range-of, capacity-most}
 use Rattle.network.specs.Packet.{work}
 use Rattle.network.specs.Layout.{headerWords, need, nodeWords, queueStart, queueEnd, queueLength, queuePart, countOf, packetsOf, held, total}
@@ -23,11 +23,11 @@ use Rattle.packet.specs.declared.torus.Place.{Place}
 use Rattle.packet.specs.Geometry.{nodeAt, OnTorus, WalkTo}
 use Rattle.packet.specs.GeometryLaws.{walk-start, walk-next}
 use Rattle.network.specs.declared.Sizes.{Sizes}
-use Rattle.queue.specs.Queue.{Enough}
+use Rattle.queue.specs.Queue.{EnoughWords}
 use Rattle.queue_check.specs.declared.Tally.{Tally}
 use Rattle.queue_check.specs.QueueTally.{tally, partFits, nodeTally}
 use Rattle.queue_check.specs.TallyLaws.{tally-fails}
-use Rattle.queue_check.proofs.Tallies.{Upto, upto-start, upto-more, upto-stop, upto-end, of-most, work-most}
+use Rattle.queue_check.proofs.Tallies.{Upto, upto-start, upto-more, upto-stop, upto-end, queueWork, works-most}
 
 -- What every queue comes to ---------------------------------------------------------------------------------------------------------------
 
@@ -43,21 +43,34 @@ works S w n q = sumOf work (held S w n q)
 take-most : (k : ℕ) (l : List ℕ) → length (take k l) ≤ length l
 take-most k l = let e = length-take k l in let m = min-le-right k (length l) in omega arith
 
-module _ (S : Shape) (w : List ℕ) (enough : Enough S w) (n : ℕ) (node : n < nodes S) where
+-- what a node, and a network, can hold at most, and what work these packets have left
+abbrev pub nodePackets : ℕ
+nodePackets = queues * largestCapacity
+
+abbrev pub nodeWork : ℕ
+nodeWork = queues * queueWork
+
+abbrev pub mostPackets : ℕ
+mostPackets = mostNodes * nodePackets
+
+abbrev pub mostWorkLeft : ℕ
+mostWorkLeft = mostNodes * nodeWork
+
+module _ (S : Shape) (w : List ℕ) (enough : EnoughWords S w) (n : ℕ) (node : n < nodes S) where
   in-words : (q : ℕ) → q < queues → Fits S w n q
   in-words q h = record { node = node; queue = h; long = enough .long }
 
   pub part-length : (q : ℕ) → q < queues → length (queuePart S w n q) ≡ queueLength S q
   part-length q h = length-queuePart S w n q (in-words q h)
 
-  pub part-small : (q : ℕ) → q < queues → length (queuePart S w n q) ≤ 9
+  pub part-small : (q : ℕ) → q < queues → length (queuePart S w n q) ≤ largestCapacity + 1
   unfolding queueLength
   part-small q h = let l : length (queuePart S w n q) ≡ 1 + capacity S q = part-length q h in let m = capacity-most S q (range-of S (enough .sizes)) in omega arith
 
   pub part-end : (q : ℕ) → q < queues → queueEnd S n q ≤ length w
   part-end q h = end-length S w n q (in-words q h)
 
-  holds-most : (q : ℕ) → q < queues → holds S w n q ≤ 8
+  holds-most : (q : ℕ) → q < queues → holds S w n q ≤ largestCapacity
   unfolding held packetsOf
   holds-most q h =
       let a : holds S w n q ≤ length (drop 1 (queuePart S w n q)) = take-most (countOf (queuePart S w n q)) (drop 1 (queuePart S w n q)) in
@@ -65,18 +78,15 @@ module _ (S : Shape) (w : List ℕ) (enough : Enough S w) (n : ℕ) (node : n < 
       let m = part-small q h in
       omega arith
 
-  works-most : (q : ℕ) → q < queues → works S w n q ≤ 4088
-  works-most q h = let a = of-most 511 work (held S w n q) work-most in let b = holds-most q h in omega arith
-
   -- the sums over a node's queues
-  pub node-holds : (k : ℕ) → k ≤ queues → sumBelow k (holds S w n) ≤ 72
+  pub node-holds : (k : ℕ) → k ≤ queues → sumBelow k (holds S w n) ≤ nodePackets
   node-holds k h =
-      let a = sum-most k 8 (holds S w n) (λ q l. holds-most q (let b : q < queues = omega arith in b)) in
+      let a = sum-most k largestCapacity (holds S w n) (λ q l. holds-most q (let b : q < queues = omega arith in b)) in
       omega arith
 
-  pub node-works : (k : ℕ) → k ≤ queues → sumBelow k (works S w n) ≤ 36792
+  pub node-works : (k : ℕ) → k ≤ queues → sumBelow k (works S w n) ≤ nodeWork
   node-works k h =
-      let a = sum-most k 4088 (works S w n) (λ q l. works-most q (let b : q < queues = omega arith in b)) in
+      let a = sum-most k queueWork (works S w n) (λ q l. works-most (held S w n q) (holds-most q (let b : q < queues = omega arith in b))) in
       omega arith
 
 -- A node's queues -------------------------------------------------------------------------------------------------------------------------
@@ -117,7 +127,7 @@ module _ (S : Shape) (w : List ℕ) (n : ℕ) where
       }
 
   -- the sums are small
-  pub node-small : Enough S w → n < nodes S → (q at held work : ℕ) → NodeWalk S w n q at held work → (held ≤ 72) × (work ≤ 36792)
+  pub node-small : EnoughWords S w → n < nodes S → (q at held work : ℕ) → NodeWalk S w n q at held work → (held ≤ nodePackets) × (work ≤ nodeWork)
   node-small enough node q at held work walk =
       let a = node-holds S w enough n node q (walk .within) in
       let b = node-works S w enough n node q (walk .within) in
@@ -187,7 +197,7 @@ module _ (s : Sizes) (w : List ℕ) where
       omega arith
 
   -- and within the words, or at their end
-  pub net-within : Enough (shapeOf s) w → (n : ℕ) (place : Place) (start held work words : ℕ) → NetWalk s w n place start held work → n < nodes (shapeOf s)
+  pub net-within : EnoughWords (shapeOf s) w → (n : ℕ) (place : Place) (start held work words : ℕ) → NetWalk s w n place start held work → n < nodes (shapeOf s)
       → words ≡ nodeWords (shapeOf s) → start + words ≤ length w
   unfolding queueStart sumBelow need
   net-within enough n place start held work words net h e =
@@ -211,20 +221,20 @@ module _ (s : Sizes) (w : List ℕ) where
       }
 
   -- the sums are small
-  pub net-small : Enough (shapeOf s) w → (n held work : ℕ) (t : Tally)
+  pub net-small : EnoughWords (shapeOf s) w → (n held work : ℕ) (t : Tally)
       → Upto (nodeFits (shapeOf s) w) (nodeHolds (shapeOf s) w) (nodeWorks (shapeOf s) w) n held work → n < nodes (shapeOf s)
       → t ≡ tally (nodeFits (shapeOf s) w n) (nodeHolds (shapeOf s) w n) (nodeWorks (shapeOf s) w n) → t .ok ≡ true
-      → (held + t .held ≤ 18432) × (work + t .work ≤ 9418752)
+      → (held + t .held ≤ mostPackets) × (work + t .work ≤ mostWorkLeft)
   net-small enough n held work t upto h e ok = sums (upto-more (nodeFits S w) (nodeHolds S w) (nodeWorks S w) n held work t upto e ok)
     where
       S : Shape
       S = shapeOf s
 
-      sums : Upto (nodeFits S w) (nodeHolds S w) (nodeWorks S w) (n + 1) (held + t .held) (work + t .work) → (held + t .held ≤ 18432) × (work + t .work ≤ 9418752)
+      sums : Upto (nodeFits S w) (nodeHolds S w) (nodeWorks S w) (n + 1) (held + t .held) (work + t .work) → (held + t .held ≤ mostPackets) × (work + t .work ≤ mostWorkLeft)
       sums u =
           let m = sizes-nodes s (enough .sizes) in
-          let a = sum-most (n + 1) 72 (nodeHolds S w) (λ k l. node-holds S w enough k (let b : k < nodes S = omega arith in b) queues (omega arith)) in
-          let b = sum-most (n + 1) 36792 (nodeWorks S w) (λ k l. node-works S w enough k (let b : k < nodes S = omega arith in b) queues (omega arith)) in
+          let a = sum-most (n + 1) nodePackets (nodeHolds S w) (λ k l. node-holds S w enough k (let b : k < nodes S = omega arith in b) queues (omega arith)) in
+          let b = sum-most (n + 1) nodeWork (nodeWorks S w) (λ k l. node-works S w enough k (let b : k < nodes S = omega arith in b) queues (omega arith)) in
           let c = u .packets in
           let d = u .hops-left in
           (omega arith, omega arith)

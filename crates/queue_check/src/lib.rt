@@ -22,7 +22,7 @@ ghost use Rattle.network.specs.Packet.{work};
 ghost use Rattle.network.specs.Layout.{countOf, packetsOf, queueStart, queueLength};
 ghost use Rattle.network.specs.Check.{queuesFit, packetsHeld, workLeft};
 ghost use Rattle.packet.specs.Geometry.{nodeAt, OnTorus};
-ghost use Rattle.queue.specs.Queue.{Enough};
+ghost use Rattle.queue.specs.Queue.{EnoughWords};
 ghost use Rattle.packet_check.specs.PacketLimits.{LimitsFit, fitsWithin};
 ghost use Rattle.packet_check.specs.Tables.{Tables};
 ghost use Rattle.queue_check.specs.QueueTally.{tally, partFits, nodeTally};
@@ -121,7 +121,7 @@ fn queue_fits(part: &[u64], tables: &[u64], s: Sizes, place: Place, q: u64) -> T
 
 // The queues of the node that stands there, whose words begin at `start`.
 fn node_fits(words: &[u64], tables: &[u64], s: Sizes, place: Place, start: usize) -> Tally
-    requires { ⌜ OnTorus s place × Enough (shapeOf s) (now words) × (start ≡ queueStart (shapeOf s) (nodeAt s place) 0)
+    requires { ⌜ OnTorus s place × EnoughWords (shapeOf s) (now words) × (start ≡ queueStart (shapeOf s) (nodeAt s place) 0)
         × Tables s (now tables) ⌝ }
     ensures { λ r. ⌜ r ≡ nodeTally (shapeOf s) (now (words .entry)) (nodeAt s place) ⌝ }
 {
@@ -149,7 +149,7 @@ fn node_fits(words: &[u64], tables: &[u64], s: Sizes, place: Place, start: usize
 
 // All nodes in order. The tables of the rings are filled first.
 pub fn queues_fit(words: &[u64], s: Sizes) -> Tally
-    requires { ⌜ Enough (shapeOf s) (now words) ⌝ }
+    requires { ⌜ EnoughWords (shapeOf s) (now words) ⌝ }
     ensures { λ r. ⌜ r ≡ tally (queuesFit (shapeOf s) (now (words .entry)))
         (packetsHeld (shapeOf s) (now (words .entry))) (workLeft (shapeOf s) (now (words .entry))) ⌝ }
 {

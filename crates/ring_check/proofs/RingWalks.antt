@@ -13,7 +13,7 @@ use lib.ListN.{length, getD, take, drop, length-take, length-drop}
 use Rattle.base.specs.Tests.{allBelow, someBelow, all-at, all-by, some-at, some-by, T-true, true-T}
 use Rattle.base.specs.Parts.{getD-span}
 use Rattle.base.specs.Bools.{same-test, fails-at, passes-at}
-use Rattle.base.specs.Digits.{product, digit, putDigit, weight, turn, digit-lt, product-pos, weight-pos, above, product-weight, around, digit-around, put-around, around-lt, is-around, above-lt}
+use Rattle.base.specs.Digits.{product, digit, putDigit, weight, rotate, digit-lt, product-pos, weight-pos, above, product-weight, around, digit-around, put-around, around-lt, is-around, above-lt}
 use Rattle.network.specs.Sizes.{Shape, shapeOf, size, nodes, dimensions, directions, dimensionOf, isPlus, queues, escapeQueue, capacity}
 use Rattle.network.specs.SizesLaws.{escape-capacity}
 use Rattle.network.specs.PacketLaws.{dimension-lt}
@@ -24,7 +24,7 @@ use Rattle.network.specs.LayoutLaws.{Fits, end-node, end-start, length-queuePar
 use Rattle.network.specs.Check.{hasRoom, ringHasRoom}
 use Rattle.network.specs.CheckLaws.{has-room-held}
 use Rattle.network.specs.declared.Sizes.{Sizes}
-use Rattle.queue.specs.Queue.{Enough}
+use Rattle.queue.specs.Queue.{EnoughWords}
 use Rattle.ring_check.specs.RingLines.{Steps, RingsIn, ringsOf, ringRoom, groupRoom, groupsRoom}
 use Rattle.ring_check.specs.declared.Rings.{Rings}
 
@@ -130,7 +130,7 @@ module _ (S : Shape) (i : ℕ) (torus : Torus S) (hi : i < dimensions) where
   count-groups = ap (λ (m : ℕ). m / (size S i * (weight (S .sizes) i * nodeWords S))) all-is ∙ mul-div-cancel (above (S .sizes) i) group-pos
 
   -- they fit into the words, where queue q of node 0 is the first
-  pub rings-in : (w : List ℕ) (q : ℕ) → Enough S w → q < queues
+  pub rings-in : (w : List ℕ) (q : ℕ) → EnoughWords S w → q < queues
       → RingsIn w (ringsOf S i) (queueStart S 0 q) (nodes S * nodeWords S) (nodeWords S)
   unfolding ringsOf need
   rings-in w q enough hq =
@@ -192,7 +192,7 @@ room-is S w n q fits =
     ltb-same (getD w (queueStart S n q) 0) (length (take (getD part 0 0) (drop 1 part))) (capacity S q) (omega arith) (omega arith)
     ∙ sym (has-room-held S w n q)
 
-module _ (S : Shape) (w : List ℕ) (d : ℕ) (enough : Enough S w) (torus : Torus S) (hd : d < directions) where
+module _ (S : Shape) (w : List ℕ) (d : ℕ) (enough : EnoughWords S w) (torus : Torus S) (hd : d < directions) where
   hi : dimensionOf d < dimensions
   hi = dimension-lt d hd
 
@@ -204,7 +204,7 @@ module _ (S : Shape) (w : List ℕ) (d : ℕ) (enough : Enough S w) (torus : Tor
 
   along-node : (c b j a : ℕ) → b < weight (S .sizes) (dimensionOf d) → j < size S (dimensionOf d)
       → along S d c (node b j a) ≡ node b ((j + c * stride S d) % size S (dimensionOf d)) a
-  unfolding along turn size node
+  unfolding along rotate size node
   along-node c b j a hb hj =
       ap (λ (x : ℕ). putDigit (S .sizes) (dimensionOf d) ((x + c * stride S d) % getD (S .sizes) (dimensionOf d) 0) (around (S .sizes) (dimensionOf d) b j a))
       (digit-around (S .sizes) (dimensionOf d) inList b j a hb hj)
@@ -304,7 +304,7 @@ module _
     {s : Sizes}
     {w : List ℕ}
     {d node weigh round all first : ℕ}
-    (enough : Enough (shapeOf s) w)
+    (enough : EnoughWords (shapeOf s) w)
     (hd : d < directions)
     (found : Found s d node weigh round all first) where
   made-is : made (s .escape) node weigh round all ≡ ringsOf (shapeOf s) (dimensionOf d)

@@ -8,7 +8,7 @@ ghost use Prim.Native.Nat.{_<_};
 ghost use Rattle.base.specs.Tests.{allBelow};
 ghost use Rattle.network.specs.Sizes.{shapeOf, directions, nodes};
 ghost use Rattle.network.specs.Check.{ringHasRoom, ringsHaveRoom};
-ghost use Rattle.queue.specs.Queue.{Enough};
+ghost use Rattle.queue.specs.Queue.{EnoughWords};
 ghost use Rattle.ring_check.specs.RingLines.{ringRoom, groupRoom, groupsRoom, RingsIn};
 
 // The slots of a queue, and how far it is in the words from a node to the next, from a node of a ring to the ring's next, from a group
@@ -75,7 +75,7 @@ fn groups_room(words: &[u64], r: Rings, first: usize) -> bool
 
 // The rings of direction d run along its dimension.
 fn direction_has_room(words: &[u64], s: Sizes, d: u64) -> bool
-    requires { ⌜ Enough (shapeOf s) (now words) × (d < directions) ⌝ }
+    requires { ⌜ EnoughWords (shapeOf s) (now words) × (d < directions) ⌝ }
     ensures { λ r. ⌜ r ≡ allBelow (nodes (shapeOf s)) (λ n. ringHasRoom (shapeOf s) (now (words .entry)) d n) ⌝ }
 {
     let i = d / 2;
@@ -98,7 +98,7 @@ fn direction_has_room(words: &[u64], s: Sizes, d: u64) -> bool
 }
 
 pub fn rings_have_room(words: &[u64], s: Sizes) -> bool
-    requires { ⌜ Enough (shapeOf s) (now words) ⌝ }
+    requires { ⌜ EnoughWords (shapeOf s) (now words) ⌝ }
     ensures { λ r. ⌜ r ≡ ringsHaveRoom (shapeOf s) (now (words .entry)) ⌝ }
 {
     let mut d = 0;

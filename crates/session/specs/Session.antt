@@ -10,7 +10,7 @@ use Rattle.network.specs.Calls.{makeWords, offerWords, moveWords, moveAnswer, d
 use Rattle.sheet.specs.declared.Command.{Command}
 use Rattle.sheet.specs.Lines.{lines}
 use Rattle.sheet.specs.Commands.{commandOf}
-use Rattle.sheet.specs.Output.{badLine, answerLine, movedLines, drainedLines, packetRoom, drainRoom}
+use Rattle.sheet.specs.Output.{badLineAnswer, answerLine, movedLines, drainedLines, packetRoom, drainRoom}
 
 -- the store as a command leaves it, and the bytes that it prints
 pub record Performed : Type 0 where
@@ -36,7 +36,7 @@ perform (Command.Drain budget) w =
       store = drainWords w budget ledgerWords;
       output = drainedLines (drainAnswer w budget ledgerWords) (drainLedger w budget newLedger);
     }
-perform Command.Bad w = record { store = w; output = badLine }
+perform Command.Bad w = record { store = w; output = badLineAnswer }
 
 -- one command after another on the same store, what they print joined
 unfoldable pub performAll : List Command → List ℕ → Performed

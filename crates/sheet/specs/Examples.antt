@@ -14,7 +14,7 @@ use Rattle.sheet.specs.declared.Command.{Command}
 use Rattle.sheet.specs.Text.{text}
 use Rattle.sheet.specs.Lines.{withoutCr, lastLine, linesFrom, lines, whole, tooLong, kept}
 use Rattle.sheet.specs.Commands.{firstField, laterFields, isDigit, valueFrom, value, noLeadingZero, isNumber, commandWith, wellFormed, commandOf}
-use Rattle.sheet.specs.Output.{decimalWithin, decimal, fieldsAndEnd, line, badLine, answerLine, packetLine, packetLines, movedLines, stopWord, stoppedLine, drainLine, drainedLines}
+use Rattle.sheet.specs.Output.{decimalWithin, decimal, fieldsAndEnd, line, badLineAnswer, answerLine, packetLine, packetLines, movedLines, stopWord, stoppedLine, drainLine, drainedLines}
 
 pub record Examples : Type 0 where
   -- R241, R249, R250: both ends; a last line without an end; nothing after the last end; empty lines; a CR within a line and at the end of the input
@@ -59,11 +59,11 @@ pub record Examples : Type 0 where
       × (drainedLines (Drained.Stopped 2 1 Stop.Emptied) ((7 * 2 ^ 32 + 2 * 2 ^ 16) ∷ 0 ∷ []) ≡ text "P,7,2\r\nD,0,2,emptied\r\n")
       × (drainedLines (Drained.Stopped 0 0 Stop.Spent) (0 ∷ []) ≡ text "D,0,0,spent\r\n")
       × (drainedLines (Drained.Refused 3) (0 ∷ []) ≡ text "D,3\r\n")
-      × (badLine ≡ text "?,13\r\n")
+      × (badLineAnswer ≡ text "?,13\r\n")
       × (decimal 18446744073709551615 ≡ text "18446744073709551615")
 
 pub examples : Examples
-unfolding allOf product digit tag destination withoutCr lastLine linesFrom lines kept firstField laterFields isDigit valueFrom value noLeadingZero isNumber commandWith wellFormed commandOf decimalWithin decimal fieldsAndEnd line badLine answerLine packetLine packetLines movedLines stopWord stoppedLine drainLine drainedDelivered drainedLines
+unfolding allOf product digit tag destination withoutCr lastLine linesFrom lines kept firstField laterFields isDigit valueFrom value noLeadingZero isNumber commandWith wellFormed commandOf decimalWithin decimal fieldsAndEnd line badLineAnswer answerLine packetLine packetLines movedLines stopWord stoppedLine drainLine drainedDelivered drainedLines
 examples =
     record {
       ends = (refl, refl, refl, refl, refl);

@@ -11,6 +11,7 @@ use Rattle.network.specs.declared.Moved.{Moved}
 use Rattle.network.specs.declared.Stop.{Stop}
 use Rattle.network.specs.declared.Drained.{Drained}
 use Rattle.network.specs.Packet.{tag, destination}
+use Rattle.network.specs.Refusals.{badLine}
 use Rattle.network.specs.Calls.{drainedDelivered}
 use Rattle.sheet.specs.Text.{text, comma, cr, lf}
 
@@ -32,8 +33,8 @@ unfoldable pub line : List ℕ → List (List ℕ) → List ℕ
 line first fields = first ++ fieldsAndEnd fields
 
 -- R248, R173
-unfoldable pub badLine : List ℕ
-badLine = line (text "?") (decimal 13 ∷ [])
+unfoldable pub badLineAnswer : List ℕ
+badLineAnswer = line (text "?") (decimal badLine ∷ [])
 
 -- R253
 unfoldable pub answerLine : ℕ → ℕ → List ℕ

@@ -1,13 +1,16 @@
 // Answers written as lines into a lent buffer. Each function puts bytes at a place and gives the place behind them; the caller
 // sees that there is room.
 use network::BAD_LINE;
+use network::DESTINATION_AT;
+use network::DESTINATION_VALUES;
 use network::Drained;
 use network::Moved;
 use network::Stop;
+use network::TAG_AT;
 ghost use mathlib.Core.Path.{_≡_};
 ghost use Prim.Native.Nat.{_+_, _*_, _≤_};
 ghost use lib.ListN.{length};
-ghost use Rattle.sheet.specs.Output.{badLine, answerLine, packetLine, packetLines, movedLines, stoppedLine, drainLine, drainedLines, answerRoom, packetRoom, movedRoom, drainRoom, Room, Put};
+ghost use Rattle.sheet.specs.Output.{badLineAnswer, answerLine, packetLine, packetLines, movedLines, stoppedLine, drainLine, drainedLines, answerRoom, packetRoom, movedRoom, drainRoom, Room, Put};
 ghost use Rattle.network.specs.Calls.{drainedDelivered};
 
 // A line of a letter and a number.
@@ -30,7 +33,7 @@ pub fn put_answer(out: &mut [u8], at: usize, letter: u8, refusal: u64) -> usize
 // The answer to a line that is no command.
 pub fn put_bad(out: &mut [u8], at: usize) -> usize
     requires { ⌜ at + answerRoom ≤ length (now out) ⌝ }
-    ensures { λ r. ⌜ Put (now (out .entry)) at badLine (now (out .exit)) r ⌝ }
+    ensures { λ r. ⌜ Put (now (out .entry)) at badLineAnswer (now (out .exit)) r ⌝ }
 {
     put_answer(out, at, b'?', BAD_LINE)
 }
@@ -40,8 +43,8 @@ fn put_packet(out: &mut [u8], at: usize, p: u64) -> usize
     requires { ⌜ Room (now out) at (packetLine p) ⌝ }
     ensures { λ r. ⌜ Put (now (out .entry)) at (packetLine p) (now (out .exit)) r ⌝ }
 {
-    let second = fields::put_head(out, at, b'P', p / 4294967296);
-    let next = fields::put_field(out, second, p / 65536 % 65536);
+    let second = fields::put_head(out, at, b'P', p / TAG_AT);
+    let next = fields::put_field(out, second, p / DESTINATION_AT % DESTINATION_VALUES);
     fields::put_end(out, next)
 }
 

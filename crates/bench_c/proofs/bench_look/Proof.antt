@@ -7,7 +7,8 @@ use native.Mathlib.Omega.{arith}
 use lib.ListN.{length}
 use Rattle.network.specs.Sizes.{shapeOf}
 use Rattle.checker.specs.Opening.{broken, is-open, is-shut}
-use Rattle.calls.specs.Returns.{look-broken, look-rules, Looking, looks, held-end}
+use Rattle.flow.specs.QueueOf.{QueueOf}
+use Rattle.calls.specs.Returns.{look-broken, look-rules, looks, held-end}
 use Rattle.bench_c.specs.OutLaws.{look-cleared, look-told}
 use Rattle.bench_c.proofs.bench_look.Statement.{statement}
 use Rattle.bench_c.proofs.bench_look.Tie as tie
@@ -38,7 +39,7 @@ returns c =
 
 -- the look is not refused
 look : (c : tie.Else1)
-    → Looking (shapeOf (c .before .before .before .opened2 .given .0 .0)) (now (c .before .before .before .before .before .before .before .args .words)) (c .before .before .before .before .before .before .before .args .node) (c .before .before .before .before .before .before .before .args .queue)
+    → QueueOf (shapeOf (c .before .before .before .opened2 .given .0 .0)) (now (c .before .before .before .before .before .before .before .args .words)) (c .before .before .before .before .before .before .before .args .node) (c .before .before .before .before .before .before .before .args .queue)
 look c =
     let t = c .before .look-rules in
     let o = c .before .before .before in

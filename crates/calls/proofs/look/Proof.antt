@@ -8,7 +8,8 @@ use denote.Ref.{now}
 use lib.ListN.{length}
 use Rattle.network.specs.Sizes.{shapeOf}
 use Rattle.network.specs.Refusals.{lookRefusal}
-use Rattle.calls.specs.Returns.{look-broken, look-rules, look-refused, look-shown, Looking, looks, held-part, held-end}
+use Rattle.flow.specs.QueueOf.{QueueOf}
+use Rattle.calls.specs.Returns.{look-broken, look-rules, look-refused, look-shown, looks, held-part, held-end}
 use Rattle.calls.specs.Place.{place-refused, place-shown}
 use Rattle.checker.specs.Opening.{broken, is-open, is-shut}
 use Rattle.calls.proofs.look.Statement.{statement}
@@ -60,7 +61,7 @@ returns c =
 
 -- the look is not refused
 look : (c : tie.Else1)
-    → Looking (shapeOf (c .before .before .before .opened .given .0 .0)) (now (c .before .before .before .before .before .before .before .args .words)) (c .before .before .before .before .before .before .before .args .node) (c .before .before .before .before .before .before .before .args .queue)
+    → QueueOf (shapeOf (c .before .before .before .opened .given .0 .0)) (now (c .before .before .before .before .before .before .before .args .words)) (c .before .before .before .before .before .before .before .args .node) (c .before .before .before .before .before .before .before .args .queue)
 look c =
     let t = c .before .look-rules in
     let o = c .before .before .before in

@@ -1,7 +1,7 @@
 -- `changes::accept` meets its contract: the injection queue is one of a network, and accepted, at most 2^32 - 1, may rise. Assumes nothing.
 use borrow.Author.Needs.{needs}
 use native.Mathlib.Omega.{arith}
-use Rattle.queue.specs.Queue.{Checked}
+use Rattle.queue.specs.Queue.{CheckedQueue}
 use Rattle.queue.specs.QueueLaws.{checked-fits}
 use Rattle.network.specs.Sizes.{shapeOf, injectionQueue}
 use Rattle.network.specs.Layout.{acceptedAt}
@@ -14,7 +14,7 @@ offered-requires c κs =
     let s = c .before in
     (s .pre .0 .in-range, s .pre .1 .0, s .pre .1 .1 .0)
 
-injection-checked : (s : tie.Start) → Checked (shapeOf (s .args .s)) (s .args .words .now) (s .args .n) injectionQueue
+injection-checked : (s : tie.Start) → CheckedQueue (shapeOf (s .args .s)) (s .args .words .now) (s .args .n) injectionQueue
 injection-checked s = network-checked (shapeOf (s .args .s)) (s .args .words .now) (s .args .n) injectionQueue (s .pre .0) (s .pre .1 .0) (omega arith)
 
 push-requires : tie.Need-push-requires

@@ -12,13 +12,13 @@ use Rattle.base.specs.Bools.{and-stop, and-on}
 use Rattle.network.specs.Sizes.{Shape, shapeOf, sizesInRange}
 use Rattle.network.specs.Layout.{need}
 use Rattle.network.specs.Check.{queuesFit, packetsHeld, workLeft, ringsHaveRoom, countersFit, isNetwork}
-use Rattle.queue.specs.Queue.{Enough}
+use Rattle.queue.specs.Queue.{EnoughWords}
 use Rattle.queue_check.specs.TallyLaws.{Passed, tally-yes, tally-no}
 use Rattle.checker.proofs.is_network.Statement.{statement}
 use Rattle.checker.proofs.is_network.Tie as tie
 
 -- the clauses that are left
-left : (S : Shape) (w : List ℕ) → Enough S w → isNetwork S w ≡ queuesFit S w && (ringsHaveRoom S w && countersFit S w)
+left : (S : Shape) (w : List ℕ) → EnoughWords S w → isNetwork S w ≡ queuesFit S w && (ringsHaveRoom S w && countersFit S w)
 unfolding isNetwork
 left S w enough = and-on _ _ (T-true (sizesInRange S) (enough .sizes)) ∙ and-on _ _ (le-leb (need S) (length w) (enough .long))
 

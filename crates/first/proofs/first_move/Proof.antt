@@ -46,7 +46,7 @@ node-lt : (c : tie.In-search Inv-loop2 μ-loop2 Inv-loop μ-loop Inv-search μ-s
 node-lt c = let e = c .before .before .nodes .ensures in omega (arith, e, c .search-test .taken)
 
 queue-of : (c : tie.In-loop Inv-loop2 μ-loop2 Inv-loop μ-loop Inv-search μ-search)
-    → QueueOf (entry (c .before .before .before) .args .s) (entry (c .before .before .before) .args .words .now) (c .before .before .before .search .n) (c .before .loop .q)
+    → QueueOf (shapeOf (entry (c .before .before .before) .args .s)) (entry (c .before .before .before) .args .words .now) (c .before .before .before .search .n) (c .before .loop .q)
 queue-of c = record { network = entry (c .before .before .before) .pre; node = node-lt (c .before .before); queue = c .loop-test .taken }
 
 reading : (c : tie.After-routes Inv-loop2 μ-loop2 Inv-loop μ-loop Inv-search μ-search)

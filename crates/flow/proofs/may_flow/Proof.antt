@@ -19,14 +19,14 @@ use Rattle.network.specs.Refusals.{flowRules}
 use Rattle.network.specs.RefusalLaws.{flow-of, flow-by}
 use Rattle.network.specs.declared.Sizes.{Sizes}
 use Rattle.flow.specs.QueueOf.{QueueOf}
-use Rattle.queue.specs.QueueLaws.{nodes-small}
+use Rattle.network.specs.TorusLaws.{sizes-nodes}
 use Rattle.flow.specs.HeldWords.{asked}
 use Rattle.flow.proofs.Targets.{at-target, target-few, target-free}
 use Rattle.flow.proofs.may_flow.Statement.{statement}
 use Rattle.flow.proofs.may_flow.Tie as tie
 
 -- by the numbers that the code compares
-room : (s : Sizes) (w : List ℕ) (n q o there slots count needed : ℕ) → QueueOf s w n o → there ≡ target (shapeOf s) n o
+room : (s : Sizes) (w : List ℕ) (n q o there slots count needed : ℕ) → QueueOf (shapeOf s) w n o → there ≡ target (shapeOf s) n o
     → slots ≡ capacity (shapeOf s) o → count ≡ length (held (shapeOf s) w there o) → needed ≡ slotsNeeded q o → o ≢ 0
     → leb (count + needed) slots ≡ eqb (flowRules (shapeOf s) w n q o) 0
 room s w n q o there slots count needed k et es ec en some = go (decLe (count + needed) slots)
@@ -46,7 +46,7 @@ room s w n q o there slots count needed k et es ec en some = go (decLe (count + 
         ∙ sym (ne-eqb (flowRules (shapeOf s) w n q o) 0 (λ z. l (let g = flow-of (shapeOf s) w n q o z some in omega (arith, g, few, free, en))))
 
 -- their sum is small
-small-sum : (s : Sizes) (w : List ℕ) (n q o there slots count needed : ℕ) → QueueOf s w n o → there ≡ target (shapeOf s) n o
+small-sum : (s : Sizes) (w : List ℕ) (n q o there slots count needed : ℕ) → QueueOf (shapeOf s) w n o → there ≡ target (shapeOf s) n o
     → slots ≡ capacity (shapeOf s) o → count ≡ length (held (shapeOf s) w there o) → needed ≡ slotsNeeded q o → count + needed ≤ 10
 unfolding entersRing slotsNeeded
 small-sum s w n q o there slots count needed k et es ec en = go (isEscape o && not (eqb q o)) en
@@ -84,7 +84,7 @@ look-up-requires c κs =
     let a = f .args in
     let places = asked (a .s) (a .words .now) (a .n) (a .o) (f .pre .0) in
     let h = places .1 in
-    let few = nodes-small (a .s) (places .0) in
+    let few = sizes-nodes (a .s) (places .0) in
     (omega arith, omega arith, f .pre .1 .bytes)
 
 capacity-requires : tie.Need-capacity-requires

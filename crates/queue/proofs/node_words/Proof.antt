@@ -2,12 +2,12 @@
 use native.Mathlib.Omega.{arith}
 use Rattle.network.specs.Sizes.{shapeOf}
 use Rattle.network.specs.Layout.{nodeWords}
-use Rattle.queue.specs.QueueLaws.{Small, small}
+use Rattle.queue.specs.QueueLaws.{SmallQueues, small-queues}
 use Rattle.queue.proofs.node_words.Statement.{statement}
 use Rattle.queue.proofs.node_words.Tie as tie
 
-few : (c : tie.Start) → Small (c .args .s)
-few c = small (c .args .s) (c .pre)
+few : (c : tie.Start) → SmallQueues (c .args .s)
+few c = small-queues (c .args .s) (c .pre)
 
 add-result : tie.Need-add-result
 add-result c = omega (arith, few (c .before) .injection)

@@ -3,7 +3,7 @@ use Prim.Native.Nat.{_+_, _≤_}
 use borrow.Author.Needs.{needs}
 use native.Mathlib.Omega.{arith}
 use Rattle.network.specs.Layout.{queueLength, queueEnd}
-use Rattle.queue.proofs.ClosedForms.{end-small}
+use Rattle.queue.proofs.ClosedForms.{mostWords, end-small}
 use Rattle.queue.proofs.queue_end.Statement.{statement}
 use Rattle.queue.proofs.queue_end.Tie as tie
 
@@ -13,7 +13,7 @@ queue-start-requires c κs = search needs
 capacity-requires : tie.Need-capacity-requires
 capacity-requires c κs = search needs
 
-sum-small : (c : tie.After-capacity) → c .before .queue-start .result + (1 + c .capacity .result) ≤ 20744
+sum-small : (c : tie.After-capacity) → c .before .queue-start .result + (1 + c .capacity .result) ≤ mostWords
 unfolding queueEnd queueLength
 sum-small c =
     let a = c .before .before .args in

@@ -1,11 +1,12 @@
 -- `queue::queue_start` meets its contract: a node's words and the words before a queue are small. Assumes nothing.
 use mathlib.Core.Path.{ap}
-use Prim.Native.Nat.{ℕ, _+_, _*_, _≤_}
+use Prim.Native.Nat.{ℕ, _+_, _*_, _-_, _≤_}
 use borrow.Author.Needs.{needs}
 use native.Mathlib.Omega.{arith}
+use Rattle.network.specs.Sizes.{mostNodes}
 use Rattle.network.specs.Layout.{queueStart}
-use Rattle.queue.specs.QueueLaws.{nodes-small}
-use Rattle.queue.proofs.ClosedForms.{product-small, node-small, before-small}
+use Rattle.network.specs.TorusLaws.{sizes-nodes}
+use Rattle.queue.proofs.ClosedForms.{mostNodeWords, mostWords, product-small, node-small, before-small}
 use Rattle.queue.proofs.queue_start.Statement.{statement}
 use Rattle.queue.proofs.queue_start.Tie as tie
 
@@ -15,15 +16,15 @@ node-words-requires c κs = search needs
 words-before-requires : tie.Need-words-before-requires
 words-before-requires c κs = search needs
 
-sum-small : (c : tie.After-words-before) → c .before .before .args .n * c .before .node-words .result + c .words-before .result ≤ 255 * 81 + 81
+sum-small : (c : tie.After-words-before) → c .before .before .args .n * c .before .node-words .result + c .words-before .result ≤ mostWords
 sum-small c =
     let a = c .before .before .args in
     let p = c .before .before .pre in
     let w = c .before .node-words .ensures in
     let l = node-small (a .s) (p .0) in
     let h = p .1 in
-    let few = nodes-small (a .s) (p .0) in
-    let m = product-small (a .n) (c .before .node-words .result) 255 81 (omega arith) (omega arith) in
+    let few = sizes-nodes (a .s) (p .0) in
+    let m = product-small (a .n) (c .before .node-words .result) (mostNodes - 1) mostNodeWords (omega arith) (omega arith) in
     let b = c .words-before .ensures in
     let k = before-small (a .s) (a .q) (p .0) (p .2) in
     omega arith

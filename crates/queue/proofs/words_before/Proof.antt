@@ -3,13 +3,13 @@ use Prim.Native.Nat.{_*_, _-_, _≤_}
 use borrow.Author.Needs.{needs}
 use native.Mathlib.Omega.{arith}
 use Rattle.network.specs.Sizes.{shapeOf}
-use Rattle.queue.specs.QueueLaws.{Small, small}
+use Rattle.queue.specs.QueueLaws.{SmallQueues, small-queues}
 use Rattle.queue.proofs.ClosedForms.{before-none, before-few, before-many, product-small}
 use Rattle.queue.proofs.words_before.Statement.{statement}
 use Rattle.queue.proofs.words_before.Tie as tie
 
-few : (c : tie.Start) → Small (c .args .s)
-few c = small (c .args .s) (c .pre .0)
+few : (c : tie.Start) → SmallQueues (c .args .s)
+few c = small-queues (c .args .s) (c .pre .0)
 
 returns : tie.Need-returns
 returns c =

@@ -7,13 +7,13 @@ use Prim.Native.Nat.{ℕ, _+_, _-_, _<_, _≤_}
 use native.Mathlib.Omega.{arith}
 use lib.ListN.{length}
 use Rattle.base.specs.Parts.{span}
-use Rattle.network.specs.Sizes.{Shape, shapeOf, nodes, queues, capacity}
+use Rattle.network.specs.Sizes.{Shape, shapeOf, nodes, queues, capacity, largestCapacity}
 use Rattle.network.specs.Layout.{queuePart}
 use Rattle.packet.specs.GeometryLaws.{place-node}
 use Rattle.packet.specs.Geometry.{nodeAt}
 use Rattle.queue_check.specs.declared.Tally.{Tally}
 use Rattle.queue_check.specs.QueueTally.{tally}
-use Rattle.queue_check.proofs.Walks.{NodeWalk, node-start, node-end, node-part, node-tally, node-more, node-small, node-stop, node-done, part-length, part-small, part-end, fits, holds, works}
+use Rattle.queue_check.proofs.Walks.{nodePackets, nodeWork, NodeWalk, node-start, node-end, node-part, node-tally, node-more, node-small, node-stop, node-done, part-length, part-small, part-end, fits, holds, works}
 use Rattle.queue_check.proofs.node_fits.Statement.{statement}
 use Rattle.queue_check.proofs.node_fits.Tie as tie
 
@@ -93,7 +93,7 @@ queue-fits-requires c κs =
     let h = c .before .before .loop-test .taken in (
       st .pre .0,
       ap length (part (c .before)) ∙ part-length (S st) (w st) (st .pre .1) (n st) (is-node st) q h,
-      subst (λ (l : List ℕ). length l ≤ 9) (sym (part (c .before))) (part-small (S st) (w st) (st .pre .1) (n st) (is-node st) q h),
+      subst (λ (l : List ℕ). length l ≤ largestCapacity + 1) (sym (part (c .before))) (part-small (S st) (w st) (st .pre .1) (n st) (is-node st) q h),
       st .pre .3,
     )
 
@@ -122,8 +122,8 @@ module _ (c : tie.Else1 Inv-loop μ-loop) where
       (c .before .before .before .before .before .before .loop .inv) (slots (c .before .before .before .before)) (found (c .before .before))
       (not-false _ (c .if1 .left)) (c .before .before .before .before .before .loop-test .taken)
 
-  small : (c .before .before .before .before .before .before .loop .held + c .before .before .queue-fits .result .held ≤ 72)
-      × (c .before .before .before .before .before .before .loop .work + c .before .before .queue-fits .result .work ≤ 36792)
+  small : (c .before .before .before .before .before .before .loop .held + c .before .before .queue-fits .result .held ≤ nodePackets)
+      × (c .before .before .before .before .before .before .loop .work + c .before .before .queue-fits .result .work ≤ nodeWork)
   small = node-small _ _ _ (st .pre .1) (is-node st) _ _ _ _ next
 
 add-held : tie.Need-add-held Inv-loop μ-loop

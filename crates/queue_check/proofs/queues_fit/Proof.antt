@@ -8,7 +8,7 @@ use Rattle.network.specs.Sizes.{shapeOf, nodes}
 use Rattle.network.specs.Layout.{nodeWords}
 use Rattle.network.specs.TorusLaws.{sizes-nodes}
 use Rattle.packet_check.specs.Tables.{Tables}
-use Rattle.queue_check.proofs.Walks.{NetWalk, net-start, net-first, net-tally, net-within, net-more, net-small, net-stop, net-done}
+use Rattle.queue_check.proofs.Walks.{mostPackets, mostWorkLeft, NetWalk, net-start, net-first, net-tally, net-within, net-more, net-small, net-stop, net-done}
 use Rattle.queue_check.proofs.queues_fit.Statement.{statement}
 use Rattle.queue_check.proofs.queues_fit.Tie as tie
 
@@ -65,8 +65,8 @@ returns c =
     (is-node (c .before .before .before .before .before)) (c .before .before .before .node-fits .ensures) (not-true _ (c .before .if1 .taken)) (c .unfit .ensures)
 
 sums : (c : tie.Else1 Inv-loop μ-loop)
-    → (c .before .before .before .before .before .loop .held + c .before .before .node-fits .result .held ≤ 18432)
-    × (c .before .before .before .before .before .loop .work + c .before .before .node-fits .result .work ≤ 9418752)
+    → (c .before .before .before .before .before .loop .held + c .before .before .node-fits .result .held ≤ mostPackets)
+    × (c .before .before .before .before .before .loop .work + c .before .before .node-fits .result .work ≤ mostWorkLeft)
 sums c =
     let st = start (c .before .before .before .before .before .before .before) in
     net-small _ _ (st .pre) _ _ _ (c .before .before .node-fits .result) (c .before .before .before .before .before .loop .inv .upto) (is-node (c .before .before .before .before))

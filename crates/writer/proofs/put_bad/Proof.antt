@@ -1,5 +1,5 @@
 -- `writer::put_bad` meets its contract. Assumes nothing.
-use Rattle.sheet.specs.Output.{badLine, answerLine}
+use Rattle.sheet.specs.Output.{badLineAnswer, answerLine}
 use borrow.Author.Needs.{needs}
 use Rattle.writer.proofs.put_bad.Statement.{statement}
 use Rattle.writer.proofs.put_bad.Tie as tie
@@ -11,7 +11,7 @@ same-length : tie.Need-same-length
 same-length c = search needs
 
 returns : tie.Need-returns
-unfolding badLine answerLine
+unfolding badLineAnswer answerLine
 returns c = c .before .before .put-answer .ensures
 
 pub put-bad-spec : {M : Type 1} → statement M
