@@ -8,7 +8,9 @@ use mathlib.Core.Logic.{_≢_}
 use Prim.Native.Nat.{ℕ, zero, suc, _+_, _*_, _/_, _%_, _-_, _<_, _≤_}
 use native.Mathlib.Nat.{le-of-suc-le-suc, not-suc-le-zero, mod-lt, mod-eq-of-lt, mod-add-div, add-mul-div-left, add-mul-mod-self-left, div-eq-of-lt, zero-add, mul-comm, mod-add-mod, add-assoc, div-lt-iff-lt-mul, mul-le-mul-left, mul-pos, add-mul-mod-self-right, add-comm, div-div-eq-div-mul, div-one, mul-one, mul-add, mul-left-comm}
 use native.Mathlib.Omega.{arith}
+use lib.Dec.{T, ltb, ltb→lt}
 use lib.ListN.{length, getD, drop}
+use Rattle.base.specs.Tests.{allOf, allOf-head, allOf-tail}
 
 unfoldable pub product : List ℕ → ℕ
 product [] = 1
@@ -34,6 +36,11 @@ weight (k ∷ ks) (suc i) = k * weight ks i
 unfoldable pub Positive : List ℕ → Type 0
 Positive [] = Unit {0}
 Positive (k ∷ ks) = (0 < k) × Positive ks
+
+pub positive-by : (ks : List ℕ) → T (allOf (ltb 0) ks) → Positive ks
+unfolding Positive
+positive-by [] t = tt
+positive-by (k ∷ ks) t = (ltb→lt 0 k (allOf-head (ltb 0) k ks t), positive-by ks (allOf-tail (ltb 0) k ks t))
 
 pub digit-lt : (ks : List ℕ) (i n : ℕ) → Positive ks → i < length ks → digit ks i n < getD ks i 0
 unfolding digit Positive

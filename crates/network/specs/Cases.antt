@@ -23,13 +23,14 @@ use Rattle.network.specs.declared.Drained.{Drained}
 use Rattle.network.specs.declared.Sizes.{Sizes}
 use Rattle.network.specs.Sizes.{Shape, shapeOf, sized, size, within, sizesInRange, nodes, queues, directions, dimensions, dimensionOf, isPlus, adaptiveQueue, escapeQueue, capacity, largestRing}
 use Rattle.network.specs.SizesLaws.{escape-capacity}
-use Rattle.network.specs.Packet.{signed, byte, packetWord, tag, destination, offset, withOffset, withOffsets, distance, forward, backward, hops, heading, hopsLeft, work, shrunk, hop, shorterWay}
+use Rattle.network.specs.Packet.{signed, unsigned, packetWord, tag, destination, offset, withOffset, withOffsets, distance, forward, backward, hops, heading, hopsLeft, work, shrunk, hop, shorterWay}
 use Rattle.network.specs.Torus.{coordinate, stride, along, neighbour, movedBelow, movedBy}
 use Rattle.network.specs.Layout.{headerWords, shape, accepted, delivered, movesMade, raised, acceptedAt, queueLength, nodeWords, queueStart, queueEnd, need, queueWords, queuePart, countOf, packetsOf, unusedOf, held, load, fill, putQueue, total}
 use Rattle.network.specs.Check.{rightPlace, isQueueOf, reach, nearEnough, opposite, rightSign, lowerDone, packetFits, queueFits, queuesFit, hasRoom, ringHasRoom, ringsHaveRoom, packetsHeld, workLeft, countersFit, isNetwork}
 use Rattle.network.specs.Routes.{deliver, inOrder, without, incoming, incomingFirst, headings, routes, target, freeSlots, entersRing, slotsNeeded}
 use Rattle.network.specs.Refusals.{refuse, noRoute, noSlot, noBubble, networkRefusal, makeRefusal, offerRules, offerRefusal, head, flowRules, moveRules, moveRefusal}
 use Rattle.network.specs.Calls.{Progress, emptyNetwork, makeWords, offered, afterOffer, offerWords, headLeaves, packetArrives, afterMove, firstOutput, firstInQueue, orElse, search, firstInNode, firstMove, firstAnswer, stopped, oneMore, deliverNext, moveNext, drainFrom, drained, drainAnswer}
+use Rattle.network.specs.PacketLaws.{distance-le-hopsLeft}
 use Rattle.network.specs.TorusLaws.{along-lt, inRange-torus}
 use Rattle.network.specs.CheckLaws.{Network, network-of, has-room-held}
 use Rattle.network.specs.RoutesLaws.{Onward, route-of, free-slots-held}
@@ -184,12 +185,12 @@ pub record KeptCases : Type 0 where
   -- one of these three sizes is enough, whatever the others are and the words hold: for Make in a store of any length, for Check in one that has
   -- a header
   pub k8 : (s : Sizes) (w : List ℕ) → (s .escape ≡ 1) ⊎ ((s .x ≡ 0) ⊎ (s .x ≡ 17))
-      → (makeRefusal (shapeOf s) w ≡ 2) × (8 ≤ length w → shape w ≡ shapeOf s → networkRefusal w ≡ 2)
+      → (makeRefusal (shapeOf s) w ≡ 2) × (headerWords ≤ length w → shape w ≡ shapeOf s → networkRefusal w ≡ 2)
   -- a packet with a hop left in x+ is not delivered, and one that has arrived does not go on in the ring
   pub k9 : (moveRefusal (crossing 0 1) 0 0 0 ≡ 10) × (moveRefusal (crossing 0 1) 1 5 5 ≡ 10)
   pub k9-every : (w : List ℕ) (n q : ℕ) → Standing w n q
       → (offset 0 (headOf w n q) ≡ pos 1 → moveRefusal w n q 0 ≡ 10)
-      × (offset 0 (headOf w n q) ≡ pos 0 → offset 1 (headOf w n q) ≡ pos 0 → moveRefusal w n q 5 ≡ 10)
+      × (((i : ℕ) → i < dimensions → offset i (headOf w n q) ≡ pos 0) → moveRefusal w n q (escapeQueue 0) ≡ 10)
   -- no move is made without a budget, and nothing held goes before nothing left to spend
   pub k10 : (room : ℕ)
       → (drainAnswer (empty 4 4 2 1 1) 0 room ≡ Drained.Stopped 0 0 Stop.Emptied)
@@ -285,14 +286,14 @@ out-of-range s (inl z) = rw z (neither (within 1 largestRing (s .x) && (within 1
 out-of-range s (inr (inl z)) = rw z
 out-of-range s (inr (inr z)) = rw z
 
-wrong-size : (S : Shape) (w : List ℕ) → sizesInRange S ≡ false → (makeRefusal S w ≡ 2) × (8 ≤ length w → shape w ≡ S → networkRefusal w ≡ 2)
+wrong-size : (S : Shape) (w : List ℕ) → sizesInRange S ≡ false → (makeRefusal S w ≡ 2) × (headerWords ≤ length w → shape w ≡ S → networkRefusal w ≡ 2)
 unfolding makeRefusal networkRefusal
-wrong-size S w z = (rw z, λ h e. rw (le-ltb (length w) 8 h, e, z))
+wrong-size S w z = (rw z, λ h e. rw (le-ltb (length w) headerWords h, e, z))
 
 -- K2: one word too few
-too-short : (S : Shape) (w : List ℕ) → sizesInRange S ≡ true → 8 ≤ length w → length w < need S → shape w ≡ S → networkRefusal w ≡ 1
+too-short : (S : Shape) (w : List ℕ) → sizesInRange S ≡ true → headerWords ≤ length w → length w < need S → shape w ≡ S → networkRefusal w ≡ 1
 unfolding networkRefusal
-too-short S w z h l e = rw (le-ltb (length w) 8 h, e, z, lt-ltb (length w) (need S) l)
+too-short S w z h l e = rw (le-ltb (length w) headerWords h, e, z, lt-ltb (length w) (need S) l)
 
 -- a test that cannot pass
 untrue : (b : Bool) → (T b → ⊥) → b ≡ false
@@ -304,13 +305,13 @@ no-route : (w : List ℕ) (n q o : ℕ) → Standing w n q → o < queues → (T
 no-route w n q o s h none = past-holds w n q o s h ∙ rw (untrue (elem o (routes q (headOf w n q))) none)
 
 not-delivered : (q p : ℕ) → offset 0 p ≡ pos 1 → T (elem 0 (routes q p)) → ⊥
-unfolding hopsLeft sumBelow distance
+unfolding distance
 not-delivered q p e t = go (route-of q p 0 t)
   where
     go : ((0 ≡ deliver) × (hopsLeft p ≡ 0)) ⊎ Onward p 0 → ⊥
     go (inl (z, h)) =
         let one : distance 0 p ≡ 1 = ap natAbs e in
-        let none : 0 + distance 0 p + distance 1 p ≡ 0 = h in
+        let most = distance-le-hopsLeft 0 p (omega arith) in
         omega arith
     go (inr r) = way (r .by)
       where
@@ -319,18 +320,13 @@ not-delivered q p e t = go (route-of q p 0 t)
         way (inl z) = omega arith
         way (inr (z, l)) = omega arith
 
-not-onward : (q p : ℕ) → offset 0 p ≡ pos 0 → offset 1 p ≡ pos 0 → T (elem 5 (routes q p)) → ⊥
+not-onward : (q p : ℕ) → ((i : ℕ) → i < dimensions → offset i p ≡ pos 0) → T (elem (escapeQueue 0) (routes q p)) → ⊥
 unfolding distance
-not-onward q p e f t = go (route-of q p 5 t)
+not-onward q p e t = go (route-of q p (escapeQueue 0) t)
   where
-    done : (i : ℕ) → i < dimensions → distance i p ≡ 0
-    done zero h = ap natAbs e
-    done (suc zero) h = ap natAbs f
-    done (suc (suc i)) h = absurd (omega arith)
-
-    go : ((5 ≡ deliver) × (hopsLeft p ≡ 0)) ⊎ Onward p 5 → ⊥
+    go : ((escapeQueue 0 ≡ deliver) × (hopsLeft p ≡ 0)) ⊎ Onward p (escapeQueue 0) → ⊥
     go (inl (z, h)) = omega arith
-    go (inr r) = r .far (done (r .dimension) (r .below))
+    go (inr r) = r .far (ap natAbs (e (r .dimension) (r .below)))
 
 -- K10
 without-budget : (w : List ℕ) (room : ℕ) → networkRefusal w ≡ 0
@@ -432,7 +428,7 @@ module _ (w : List ℕ) (d : ℕ) (r : RingsOfTwo w d) where
       ring e n he hn (no ne) = others e n he hn ne
 
 pub keptCases : KeptCases
-unfolding next oneHop chosen outside sources inEach crossing allBelow someBelow allOf elem sumBelow sumOf product digit putDigit rotate size within sizesInRange nodes capacity signed byte packetWord tag destination offset withOffset withOffsets distance forward backward hops heading hopsLeft work shrunk hop shorterWay coordinate stride along neighbour movedBelow movedBy shape accepted delivered movesMade raised queueLength nodeWords queueStart queueEnd need queueWords queuePart countOf packetsOf unusedOf held load fill putQueue total rightPlace isQueueOf reach nearEnough opposite rightSign lowerDone packetFits queueFits queuesFit hasRoom ringHasRoom ringsHaveRoom packetsHeld workLeft countersFit isNetwork inOrder without incoming incomingFirst headings routes target freeSlots entersRing slotsNeeded networkRefusal makeRefusal offerRules offerRefusal head flowRules moveRules moveRefusal shapeOf emptyNetwork makeWords offered afterOffer offerWords headLeaves packetArrives afterMove firstOutput firstInQueue orElse search firstInNode firstMove firstAnswer stopped oneMore deliverNext moveNext drainFrom drained drainAnswer
+unfolding next oneHop chosen outside sources inEach crossing allBelow someBelow allOf elem sumBelow sumOf product digit putDigit rotate size within sizesInRange nodes capacity signed unsigned packetWord tag destination offset withOffset withOffsets distance forward backward hops heading hopsLeft work shrunk hop shorterWay coordinate stride along neighbour movedBelow movedBy shape accepted delivered movesMade raised queueLength nodeWords queueStart queueEnd need queueWords queuePart countOf packetsOf unusedOf held load fill putQueue total rightPlace isQueueOf reach nearEnough opposite rightSign lowerDone packetFits queueFits queuesFit hasRoom ringHasRoom ringsHaveRoom packetsHeld workLeft countersFit isNetwork inOrder without incoming incomingFirst headings routes target freeSlots entersRing slotsNeeded networkRefusal makeRefusal offerRules offerRefusal head flowRules moveRules moveRefusal shapeOf emptyNetwork makeWords offered afterOffer offerWords headLeaves packetArrives afterMove firstOutput firstInQueue orElse search firstInNode firstMove firstAnswer stopped oneMore deliverNext moveNext drainFrom drained drainAnswer
 keptCases =
     record {
       k1 = refl;
@@ -451,7 +447,7 @@ keptCases =
       k9-every =
           λ w n q s. (
             λ e. no-route w n q 0 s (omega arith) (not-delivered q (headOf w n q) e),
-            λ e f. no-route w n q 5 s (omega arith) (not-onward q (headOf w n q) e f),
+            λ e. no-route w n q (escapeQueue 0) s (omega arith) (not-onward q (headOf w n q) e),
           );
       k10 = λ room. (without-budget (empty 4 4 2 1 1) room refl, without-budget (crossing 0 0) room refl);
       k10-every = without-budget;

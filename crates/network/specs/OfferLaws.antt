@@ -7,7 +7,7 @@ use lib.IntN.{ℤ, natAbs}
 use Rattle.base.specs.Sums.{sum-most}
 use Rattle.network.specs.Sizes.{Shape, size, nodes, dimensions}
 use Rattle.network.specs.Packet.{tag, destination, offset, distance, forward, backward, hopsLeft, work, shorterWay}
-use Rattle.network.specs.PacketLaws.{ByteRange, tag-packet, destination-packet, offset-packet, hops-plus, hops-minus, shorterWay-range, shorterWay-half, shorterWay-reaches}
+use Rattle.network.specs.PacketLaws.{OffsetRange, tag-packet, destination-packet, offset-packet, hops-plus, hops-minus, shorterWay-range, shorterWay-half, shorterWay-reaches}
 use Rattle.network.specs.Torus.{coordinate, movedBy}
 use Rattle.network.specs.TorusLaws.{Torus, coordinate-lt, coordinates-eq, coordinate-movedBy, movedBy-lt}
 use Rattle.network.specs.Check.{longest, mostWork}
@@ -21,7 +21,7 @@ SizesAtMost16 S = (i : ℕ) → i < dimensions → size S i ≤ 16
 abbrev pub offeredWay : Shape → ℕ → ℕ → ℕ → ℤ
 offeredWay S n dest i = shorterWay (size S i) (coordinate S i n) (coordinate S i dest)
 
-pub offered-range : (S : Shape) (n dest i : ℕ) → Torus S → SizesAtMost16 S → i < dimensions → ByteRange (offeredWay S n dest i)
+pub offered-range : (S : Shape) (n dest i : ℕ) → Torus S → SizesAtMost16 S → i < dimensions → OffsetRange (offeredWay S n dest i)
 offered-range S n dest i t s h =
     let m = s i h in
     shorterWay-range (size S i) (coordinate S i n) (coordinate S i dest) (coordinate-lt S i n t h) (coordinate-lt S i dest t h) (omega arith)
@@ -32,7 +32,7 @@ module _ (S : Shape) (n dest tag′ : ℕ) (t : Torus S) (h : n < nodes S) (hd :
   small : dest < 2 ^ 16
   small = omega arith
 
-  ranges : (i : ℕ) → i < dimensions → ByteRange (offeredWay S n dest i)
+  ranges : (i : ℕ) → i < dimensions → OffsetRange (offeredWay S n dest i)
   ranges i k = offered-range S n dest i t s k
 
   pub tag-offered : tag (offered S n dest tag′) ≡ tag′

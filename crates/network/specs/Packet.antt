@@ -4,7 +4,8 @@ use mathlib.Core.Bool.{cond}
 use Prim.Native.Nat.{ℕ, zero, suc, _+_, _*_, _-_, _/_, _%_}
 use lib.Dec.{leb, ltb, eqb}
 use lib.IntN.{ℤ, pos, negsuc, natAbs}
-use mathlib.Core.List.{List, [], _∷_}
+use mathlib.Core.List.{List, [], _∷_, _++_}
+use lib.ListN.{replicate}
 use Rattle.base.specs.Sums.{sumBelow}
 use Rattle.base.specs.Digits.{product, digit, putDigit}
 use Rattle.network.specs.Sizes.{dimensions, dimensionOf, isPlus, plus, minus}
@@ -14,8 +15,11 @@ use Rattle.network.specs.Sizes.{dimensions, dimensionOf, isPlus, plus, m
 abbrev pub offsetValues : ℕ
 offsetValues = 256
 
+abbrev pub destinationValues : ℕ
+destinationValues = 65536
+
 abbrev pub fields : List ℕ
-fields = offsetValues ∷ offsetValues ∷ 65536 ∷ []
+fields = replicate dimensions offsetValues ++ (destinationValues ∷ [])
 
 abbrev pub offsetField : ℕ → ℕ
 offsetField i = dimensions - 1 - i
@@ -29,20 +33,23 @@ tag p = p / product fields
 unfoldable pub destination : ℕ → ℕ
 destination p = digit fields destinationField p
 
--- R62, two's complement: the number that an offset's field stands for, and the field of a number
+-- R62, two's complement: the number that an offset's field stands for, half of the values below 0, and the field of a number
+abbrev pub halfOffsets : ℕ
+halfOffsets = offsetValues / 2
+
 unfoldable pub signed : ℕ → ℤ
 signed b = cond (ltb (2 * b) offsetValues) (pos b) (negsuc (offsetValues - 1 - b))
 
-unfoldable pub byte : ℤ → ℕ
-byte (pos n) = n
-byte (negsuc n) = offsetValues - 1 - n
+unfoldable pub unsigned : ℤ → ℕ
+unsigned (pos n) = n
+unsigned (negsuc n) = offsetValues - 1 - n
 
 unfoldable pub offset : ℕ → ℕ → ℤ
 offset i p = signed (digit fields (offsetField i) p)
 
 -- the word with the offset of dimension i replaced, and with those of the first so many dimensions
 unfoldable pub withOffset : ℕ → ℤ → ℕ → ℕ
-withOffset i z p = putDigit fields (offsetField i) (byte z) p
+withOffset i z p = putDigit fields (offsetField i) (unsigned z) p
 
 unfoldable pub withOffsets : ℕ → (ℕ → ℤ) → ℕ → ℕ
 withOffsets zero offsets p = p

@@ -1,20 +1,21 @@
--- Laws of the packet word (Packet.antt). Order: signed bytes; a word with one offset replaced; a hop; hops left by direction and in all; the
+-- Laws of the packet word (Packet.antt). Order: signed offsets; a word with one offset replaced; a hop; hops left by direction and in all; the
 -- label; the word that fields make; the shorter way round. `i` and `j` are dimensions, `d` a direction, `p` any number. Assumes nothing.
 use mathlib.Core.Path.{_≡_, refl, ap, ap₂, sym, _∙_}
 use mathlib.Core.Bool.{Bool, true, false, cond}
 use mathlib.Core.Logic.{_⊎_, inl, inr, _≢_}
 use Prim.Native.Nat.{ℕ, zero, suc, _+_, _*_, _-_, _/_, _%_, _^_, _<_, _≤_}
-use native.Mathlib.Nat.{mod-lt, add-mod-mod, add-mod-right, mod-eq-of-lt, add-mul-mod-self-right, suc-mul, mul-suc, div-div-eq-div-mul}
+use native.Mathlib.Nat.{mod-lt, add-mod-mod, add-mod-right, mod-eq-of-lt, add-mul-mod-self-right, suc-mul, mul-suc}
 use native.Mathlib.Omega.{arith}
 use native.Mathlib.Decide.{ℕ-discrete, decLt, decLe}
 use lib.Dec.{leb, ltb, eqb}
 use lib.IntN.{ℤ, pos, negsuc, natAbs}
 use borrow.Author.Tests.{lt-ltb, le-ltb, le-leb, lt-leb, eq-eqb, ne-eqb}
-use lib.ListN.{length, getD}
+use lib.ListN.{length, getD, drop, replicate, getD-replicate, List·getD-append}
+use Rattle.base.specs.Tests.{allOf}
 use Rattle.base.specs.Sums.{sumBelow, sum-change, sum-most, term-le}
 use Rattle.network.specs.Sizes.{dimensions, directions, dimensionOf, isPlus, plus, minus}
-use Rattle.base.specs.Digits.{product, digit, putDigit, Positive, digit-lt, digit-put-same, digit-put-other, put-put, put-comm, put-digit, above-put}
-use Rattle.network.specs.Packet.{offsetValues, fields, offsetField, destinationField, withOffsets, signed, byte, packetWord, tag, destination, offset, withOffset, distance, forward, backward, hops, heading, hopsLeft, work, shrunk, hop, label, shorterWay}
+use Rattle.base.specs.Digits.{product, digit, putDigit, weight, Positive, positive-by, digit-weight, digit-lt, digit-put-same, digit-put-other, put-put, put-comm, put-digit, above-put}
+use Rattle.network.specs.Packet.{offsetValues, destinationValues, halfOffsets, fields, offsetField, destinationField, withOffsets, signed, unsigned, packetWord, tag, destination, offset, withOffset, distance, forward, backward, hops, heading, hopsLeft, work, shrunk, hop, label, shorterWay}
 
 -- a choice whose test is known
 chosen : {A : Type 0} (b : Bool) (x y : A) → b ≡ true → cond b x y ≡ x
@@ -23,77 +24,80 @@ chosen b x y e = ap (λ c. cond c x y) e
 passed-over : {A : Type 0} (b : Bool) (x y : A) → b ≡ false → cond b x y ≡ y
 passed-over b x y e = ap (λ c. cond c x y) e
 
--- Signed bytes ------------------------------------------------------------------------------------------------------------------------
+-- Signed offsets ----------------------------------------------------------------------------------------------------------------------
 
--- the numbers that a byte stands for: -128 to 127
-pub record ByteRange (z : ℤ) : Type 0 where
-  pub most : forward z < 128
-  pub least : backward z ≤ 128
+-- the numbers that an offset's field stands for
+pub record OffsetRange (z : ℤ) : Type 0 where
+  pub most : forward z < halfOffsets
+  pub least : backward z ≤ halfOffsets
 
-pub signed-small : (b : ℕ) → b < 128 → signed b ≡ pos b
+pub signed-small : (b : ℕ) → b < halfOffsets → signed b ≡ pos b
 unfolding signed
-signed-small b h = chosen (ltb (2 * b) offsetValues) (pos b) (negsuc (255 - b)) (lt-ltb (2 * b) offsetValues (omega arith))
+signed-small b h = chosen (ltb (2 * b) offsetValues) (pos b) (negsuc (offsetValues - 1 - b)) (lt-ltb (2 * b) offsetValues (omega arith))
 
-pub signed-large : (b : ℕ) → 128 ≤ b → signed b ≡ negsuc (255 - b)
+pub signed-large : (b : ℕ) → halfOffsets ≤ b → signed b ≡ negsuc (offsetValues - 1 - b)
 unfolding signed
-signed-large b h = passed-over (ltb (2 * b) offsetValues) (pos b) (negsuc (255 - b)) (le-ltb (2 * b) offsetValues (omega arith))
+signed-large b h = passed-over (ltb (2 * b) offsetValues) (pos b) (negsuc (offsetValues - 1 - b)) (le-ltb (2 * b) offsetValues (omega arith))
 
-pub signed-byte : (b : ℕ) → b < 256 → byte (signed b) ≡ b
-unfolding byte
-signed-byte b h = go (decLt b 128)
+pub signed-unsigned : (b : ℕ) → b < offsetValues → unsigned (signed b) ≡ b
+unfolding unsigned
+signed-unsigned b h = go (decLt b halfOffsets)
   where
-    go : Dec (b < 128) → byte (signed b) ≡ b
-    go (yes l) = ap byte (signed-small b l)
-    go (no g) = ap byte (signed-large b (omega arith)) ∙ omega arith
+    go : Dec (b < halfOffsets) → unsigned (signed b) ≡ b
+    go (yes l) = ap unsigned (signed-small b l)
+    go (no g) = ap unsigned (signed-large b (omega arith)) ∙ omega arith
 
-pub byte-signed : (z : ℤ) → ByteRange z → signed (byte z) ≡ z
-unfolding byte forward backward
-byte-signed (pos n) r = signed-small n (r .most)
-byte-signed (negsuc n) r = let l : suc n ≤ 128 = r .least in signed-large (255 - n) (omega arith) ∙ ap negsuc (omega arith)
+pub unsigned-signed : (z : ℤ) → OffsetRange z → signed (unsigned z) ≡ z
+unfolding unsigned forward backward
+unsigned-signed (pos n) r = signed-small n (r .most)
+unsigned-signed (negsuc n) r = let l : suc n ≤ halfOffsets = r .least in signed-large (offsetValues - 1 - n) (omega arith) ∙ ap negsuc (omega arith)
 
-pub byte-lt : {z : ℤ} → ByteRange z → byte z < 256
-unfolding byte forward backward
-byte-lt {z} r = go z r
+pub unsigned-lt : {z : ℤ} → OffsetRange z → unsigned z < offsetValues
+unfolding unsigned forward backward
+unsigned-lt {z} r = go z r
   where
-    go : (z : ℤ) → ByteRange z → byte z < 256
-    go (pos n) r = let l : n < 128 = r .most in omega arith
+    go : (z : ℤ) → OffsetRange z → unsigned z < offsetValues
+    go (pos n) r = let l : n < halfOffsets = r .most in omega arith
     go (negsuc n) r = omega arith
 
-pub signed-range : (b : ℕ) → ByteRange (signed b)
+pub signed-range : (b : ℕ) → OffsetRange (signed b)
 unfolding forward backward
-signed-range b = go (decLt b 128)
+signed-range b = go (decLt b halfOffsets)
   where
-    go : Dec (b < 128) → ByteRange (signed b)
+    go : Dec (b < halfOffsets) → OffsetRange (signed b)
     go (yes l) = rw (signed-small b l) (record { most = l; least = omega arith })
     go (no g) = rw (signed-large b (omega arith)) (record { most = omega arith; least = omega arith })
 
-pub offset-range : (i p : ℕ) → ByteRange (offset i p)
+pub offset-range : (i p : ℕ) → OffsetRange (offset i p)
 unfolding offset
 offset-range i p = signed-range (digit fields (offsetField i) p)
 
-pub shrunk-range : (z : ℤ) → ByteRange z → ByteRange (shrunk z)
+pub shrunk-range : (z : ℤ) → OffsetRange z → OffsetRange (shrunk z)
 unfolding shrunk forward backward
-shrunk-range (pos n) r = let l : n < 128 = r .most in record { most = omega arith; least = omega arith }
+shrunk-range (pos n) r = let l : n < halfOffsets = r .most in record { most = omega arith; least = omega arith }
 shrunk-range (negsuc zero) r = record { most = omega arith; least = omega arith }
-shrunk-range (negsuc (suc n)) r = let l : suc (suc n) ≤ 128 = r .least in record { most = omega arith; least = omega arith }
+shrunk-range (negsuc (suc n)) r = let l : suc (suc n) ≤ halfOffsets = r .least in record { most = omega arith; least = omega arith }
 
 -- The fields of a word ----------------------------------------------------------------------------------------------------------------
--- Everything below rests on these three facts of the fields: a new layout proves them again, and nothing else.
+-- Everything below rests on these three facts of the fields.
 
 fields-positive : Positive fields
-unfolding Positive
-fields-positive = (omega arith, (omega arith, (omega arith, tt)))
+unfolding allOf
+fields-positive = positive-by fields tt
 
 offset-values : (i : ℕ) → i < dimensions → getD fields (offsetField i) 0 ≡ offsetValues
-offset-values zero h = refl
-offset-values (suc zero) h = refl
-offset-values (suc (suc i)) h = absurd (omega arith)
+offset-values i h =
+    List·getD-append (replicate dimensions offsetValues) (drop dimensions fields) 0 (offsetField i) (omega arith)
+    ∙ getD-replicate dimensions (offsetField i) offsetValues 0 (omega arith)
 
-destination-values : getD fields destinationField 0 ≡ 2 ^ 16
+destination-values : getD fields destinationField 0 ≡ destinationValues
 destination-values = refl
 
 offset-field-lt : (i : ℕ) → i < dimensions → offsetField i < length fields
 offset-field-lt i h = omega arith
+
+pub field-lt : (i p : ℕ) → i < dimensions → digit fields (offsetField i) p < offsetValues
+field-lt i p h = let l = digit-lt fields (offsetField i) p fields-positive (offset-field-lt i h) in let e = offset-values i h in omega arith
 
 -- fields of different dimensions, and that of the destination, stand apart
 offset-apart : (i j : ℕ) → i < dimensions → j < dimensions → j ≢ i → offsetField j ≢ offsetField i
@@ -102,8 +106,8 @@ offset-apart i j h k ne e = ne (omega arith)
 destination-apart : (i : ℕ) → i < dimensions → destinationField ≢ offsetField i
 destination-apart i h e = omega arith
 
-small : (i : ℕ) (z : ℤ) → i < dimensions → ByteRange z → byte z < getD fields (offsetField i) 0
-small i z h r = rw (offset-values i h) (byte-lt r)
+small : (i : ℕ) (z : ℤ) → i < dimensions → OffsetRange z → unsigned z < getD fields (offsetField i) 0
+small i z h r = rw (offset-values i h) (unsigned-lt r)
 
 -- as the code divides them out
 pub tag-is : (p : ℕ) → tag p ≡ p / 2 ^ 32
@@ -111,8 +115,8 @@ unfolding tag product
 tag-is p = refl
 
 pub destination-is : (p : ℕ) → destination p ≡ p / 2 ^ 16 % 2 ^ 16
-unfolding destination digit
-destination-is p = ap (λ (x : ℕ). x % 2 ^ 16) (div-div-eq-div-mul p offsetValues offsetValues)
+unfolding destination weight
+destination-is p = digit-weight fields destinationField p (omega arith)
 
 pub destination-within : (p : ℕ) → destination p < 2 ^ 16
 unfolding destination
@@ -120,34 +124,34 @@ destination-within p = digit-lt fields destinationField p fields-positive (omega
 
 -- A word with offsets replaced --------------------------------------------------------------------------------------------------------
 
-pub offset-with-same : (i : ℕ) (z : ℤ) (p : ℕ) → i < dimensions → ByteRange z → offset i (withOffset i z p) ≡ z
+pub offset-with-same : (i : ℕ) (z : ℤ) (p : ℕ) → i < dimensions → OffsetRange z → offset i (withOffset i z p) ≡ z
 unfolding offset withOffset
 offset-with-same i z p h r =
-    ap signed (digit-put-same fields (offsetField i) (byte z) p fields-positive (offset-field-lt i h) (small i z h r)) ∙ byte-signed z r
+    ap signed (digit-put-same fields (offsetField i) (unsigned z) p fields-positive (offset-field-lt i h) (small i z h r)) ∙ unsigned-signed z r
 
-pub offset-with-other : (i j : ℕ) (z : ℤ) (p : ℕ) → i < dimensions → j < dimensions → j ≢ i → ByteRange z → offset j (withOffset i z p) ≡ offset j p
+pub offset-with-other : (i j : ℕ) (z : ℤ) (p : ℕ) → i < dimensions → j < dimensions → j ≢ i → OffsetRange z → offset j (withOffset i z p) ≡ offset j p
 unfolding offset withOffset
 offset-with-other i j z p h k ne r =
-    ap signed (digit-put-other fields (offsetField i) (offsetField j) (byte z) p fields-positive (offset-apart i j h k ne) (small i z h r))
+    ap signed (digit-put-other fields (offsetField i) (offsetField j) (unsigned z) p fields-positive (offset-apart i j h k ne) (small i z h r))
 
-pub destination-with : (i : ℕ) (z : ℤ) (p : ℕ) → i < dimensions → ByteRange z → destination (withOffset i z p) ≡ destination p
+pub destination-with : (i : ℕ) (z : ℤ) (p : ℕ) → i < dimensions → OffsetRange z → destination (withOffset i z p) ≡ destination p
 unfolding destination withOffset
 destination-with i z p h r =
-    digit-put-other fields (offsetField i) destinationField (byte z) p fields-positive (destination-apart i h) (small i z h r)
+    digit-put-other fields (offsetField i) destinationField (unsigned z) p fields-positive (destination-apart i h) (small i z h r)
 
-pub tag-with : (i : ℕ) (z : ℤ) (p : ℕ) → i < dimensions → ByteRange z → tag (withOffset i z p) ≡ tag p
+pub tag-with : (i : ℕ) (z : ℤ) (p : ℕ) → i < dimensions → OffsetRange z → tag (withOffset i z p) ≡ tag p
 unfolding tag withOffset
-tag-with i z p h r = above-put fields (offsetField i) (byte z) p fields-positive (small i z h r)
+tag-with i z p h r = above-put fields (offsetField i) (unsigned z) p fields-positive (small i z h r)
 
-with-comm : (i j : ℕ) (y z : ℤ) (p : ℕ) → i < dimensions → j < dimensions → i ≢ j → ByteRange y → ByteRange z
+with-comm : (i j : ℕ) (y z : ℤ) (p : ℕ) → i < dimensions → j < dimensions → i ≢ j → OffsetRange y → OffsetRange z
     → withOffset i y (withOffset j z p) ≡ withOffset j z (withOffset i y p)
 unfolding withOffset
 with-comm i j y z p h k ne r s =
-    put-comm fields (offsetField i) (offsetField j) (byte y) (byte z) p fields-positive (offset-apart j i k h ne) (small i y h r) (small j z k s)
+    put-comm fields (offsetField i) (offsetField j) (unsigned y) (unsigned z) p fields-positive (offset-apart j i k h ne) (small i y h r) (small j z k s)
 
-with-with : (i : ℕ) (y z : ℤ) (p : ℕ) → i < dimensions → ByteRange y → withOffset i z (withOffset i y p) ≡ withOffset i z p
+with-with : (i : ℕ) (y z : ℤ) (p : ℕ) → i < dimensions → OffsetRange y → withOffset i z (withOffset i y p) ≡ withOffset i z p
 unfolding withOffset
-with-with i y z p h r = put-put fields (offsetField i) (byte y) (byte z) p fields-positive (small i y h r)
+with-with i y z p h r = put-put fields (offsetField i) (unsigned y) (unsigned z) p fields-positive (small i y h r)
 
 pub tag-within : (p : ℕ) → p < 2 ^ 64 → tag p < 2 ^ 32
 unfolding tag product
@@ -155,7 +159,7 @@ tag-within p h = omega arith
 
 -- the offsets of the first so many dimensions replaced
 abbrev pub InRange : ℕ → (ℕ → ℤ) → Type 0
-InRange m offs = (i : ℕ) → i < m → ByteRange (offs i)
+InRange m offs = (i : ℕ) → i < m → OffsetRange (offs i)
 
 module _ (offs : ℕ → ℤ) where
   tag-withs : (m : ℕ) (p : ℕ) → m ≤ dimensions → InRange m offs → tag (withOffsets m offs p) ≡ tag p
@@ -179,7 +183,7 @@ module _ (offs : ℕ → ℤ) where
       go (no ne) later = offset-with-other m i (offs m) (withOffsets m offs p) (omega arith) (omega arith) ne (r m (omega arith)) ∙ later (omega arith)
 
   -- another dimension's offset may be replaced before or after
-  withs-comm : (m i : ℕ) (z : ℤ) (p : ℕ) → m ≤ i → i < dimensions → ByteRange z → InRange m offs
+  withs-comm : (m i : ℕ) (z : ℤ) (p : ℕ) → m ≤ i → i < dimensions → OffsetRange z → InRange m offs
       → withOffsets m offs (withOffset i z p) ≡ withOffset i z (withOffsets m offs p)
   unfolding withOffsets
   withs-comm zero i z p h k s r = refl
@@ -188,7 +192,7 @@ module _ (offs : ℕ → ℤ) where
       ∙ with-comm m i (offs m) z (withOffsets m offs p) (omega arith) k (λ e. omega arith) (r m (omega arith)) s
 
   -- and one of their own is replaced anyway
-  withs-over : (m i : ℕ) (z : ℤ) (p : ℕ) → i < m → m ≤ dimensions → ByteRange z → InRange m offs → withOffsets m offs (withOffset i z p) ≡ withOffsets m offs p
+  withs-over : (m i : ℕ) (z : ℤ) (p : ℕ) → i < m → m ≤ dimensions → OffsetRange z → InRange m offs → withOffsets m offs (withOffset i z p) ≡ withOffsets m offs p
   unfolding withOffsets
   withs-over zero i z p h k s r = absurd (omega arith)
   withs-over (suc m) i z p h k s r = go (ℕ-discrete i m) (λ l. withs-over m i z p l (omega arith) s (λ j q. r j (omega arith)))
@@ -202,25 +206,25 @@ module _ (offs : ℕ → ℤ) where
       go (no ne) later = ap (withOffset m (offs m)) (later (omega arith))
 
   -- an offset that is there already
-  withs-own : (m : ℕ) (p : ℕ) → m ≤ dimensions → ((i : ℕ) → i < m → byte (offs i) ≡ digit fields (offsetField i) p) → withOffsets m offs p ≡ p
+  withs-own : (m : ℕ) (p : ℕ) → m ≤ dimensions → ((i : ℕ) → i < m → unsigned (offs i) ≡ digit fields (offsetField i) p) → withOffsets m offs p ≡ p
   unfolding withOffsets withOffset
   withs-own zero p h e = refl
   withs-own (suc m) p h e =
-      ap (putDigit fields (offsetField m) (byte (offs m))) (withs-own m p (omega arith) (λ i l. e i (omega arith)))
+      ap (putDigit fields (offsetField m) (unsigned (offs m))) (withs-own m p (omega arith) (λ i l. e i (omega arith)))
       ∙ ap (λ (c : ℕ). putDigit fields (offsetField m) c p) (e m (omega arith))
       ∙ put-digit fields (offsetField m) p
 
-zero-range : ByteRange (pos 0)
+zero-range : OffsetRange (pos 0)
 unfolding forward backward
 zero-range = record { most = omega arith; least = omega arith }
 
-pub label-with : (i : ℕ) (z : ℤ) (p : ℕ) → i < dimensions → ByteRange z → label (withOffset i z p) ≡ label p
+pub label-with : (i : ℕ) (z : ℤ) (p : ℕ) → i < dimensions → OffsetRange z → label (withOffset i z p) ≡ label p
 unfolding label
 label-with i z p h r = withs-over (λ j. pos 0) dimensions i z p h (omega arith) r (λ j q. zero-range)
 
 -- A hop -------------------------------------------------------------------------------------------------------------------------------
 
-hop-range : (i p : ℕ) → ByteRange (shrunk (offset i p))
+hop-range : (i p : ℕ) → OffsetRange (shrunk (offset i p))
 hop-range i p = shrunk-range (offset i p) (offset-range i p)
 
 pub destination-hop : (i p : ℕ) → i < dimensions → destination (hop i p) ≡ destination p
@@ -382,31 +386,31 @@ pub distance-le-hopsLeft : (i p : ℕ) → i < dimensions → distance i p ≤ h
 unfolding hopsLeft
 distance-le-hopsLeft i p h = term-le dimensions (λ j. distance j p) i h
 
--- a byte's sign and value bound them
-pub distance-most : (i p : ℕ) → distance i p ≤ 128
+-- an offset's sign and value bound them
+pub distance-most : (i p : ℕ) → distance i p ≤ halfOffsets
 unfolding distance
 distance-most i p = let r = offset-range i p in go (one-sign (offset i p)) (r .most) (r .least) (natAbs-is (offset i p))
   where
-    go : (forward (offset i p) ≡ 0) ⊎ (backward (offset i p) ≡ 0) → forward (offset i p) < 128 → backward (offset i p) ≤ 128
-        → natAbs (offset i p) ≡ forward (offset i p) + backward (offset i p) → natAbs (offset i p) ≤ 128
+    go : (forward (offset i p) ≡ 0) ⊎ (backward (offset i p) ≡ 0) → forward (offset i p) < halfOffsets → backward (offset i p) ≤ halfOffsets
+        → natAbs (offset i p) ≡ forward (offset i p) + backward (offset i p) → natAbs (offset i p) ≤ halfOffsets
     go (inl e) m l a = omega arith
     go (inr e) m l a = omega arith
 
-pub hopsLeft-most : (p : ℕ) → hopsLeft p ≤ 128 * dimensions
+pub hopsLeft-most : (p : ℕ) → hopsLeft p ≤ halfOffsets * dimensions
 unfolding hopsLeft
-hopsLeft-most p = let m = sum-most dimensions 128 (λ i. distance i p) (λ i h. distance-most i p) in omega arith
+hopsLeft-most p = let m = sum-most dimensions halfOffsets (λ i. distance i p) (λ i h. distance-most i p) in omega arith
 
 -- The label ---------------------------------------------------------------------------------------------------------------------------
 
 signed-zero : (b : ℕ) → natAbs (signed b) ≡ 0 → b ≡ 0
-signed-zero b e = go (decLt b 128)
+signed-zero b e = go (decLt b halfOffsets)
   where
-    go : Dec (b < 128) → b ≡ 0
+    go : Dec (b < halfOffsets) → b ≡ 0
     go (yes l) = ap natAbs (sym (signed-small b l)) ∙ e
-    go (no g) = let f : suc (255 - b) ≡ 0 = ap natAbs (sym (signed-large b (omega arith))) ∙ e in omega arith
+    go (no g) = let f : suc (offsetValues - 1 - b) ≡ 0 = ap natAbs (sym (signed-large b (omega arith))) ∙ e in omega arith
 
 pub arrived-label : (p : ℕ) → hopsLeft p ≡ 0 → label p ≡ p
-unfolding label byte distance offset
+unfolding label unsigned distance offset
 arrived-label p e = withs-own (λ j. pos 0) dimensions p (omega arith) (λ i h. sym (none i h))
   where
     none : (i : ℕ) → i < dimensions → digit fields (offsetField i) p ≡ 0
@@ -474,7 +478,7 @@ shorterWay-half size from to h k = go ((to + (size - from)) % size) refl (mod-lt
         by (yes s) = rw (shorterWay-plus size from to (omega arith)) (omega arith)
         by (no g) = rw (shorterWay-minus size from to (omega arith)) (omega arith)
 
-pub shorterWay-range : (size from to : ℕ) → from < size → to < size → size < 256 → ByteRange (shorterWay size from to)
+pub shorterWay-range : (size from to : ℕ) → from < size → to < size → size < offsetValues → OffsetRange (shorterWay size from to)
 shorterWay-range size from to h k s =
     let half = shorterWay-half size from to h k in
     let parts = natAbs-is (shorterWay size from to) in

@@ -1,4 +1,4 @@
--- The two dimensions as the code tells them apart: 0 and not 0. Order: the offset of a word; the word with an offset replaced; the
+-- The two dimensions as the code tells them apart: 0 and not 0. Order: an offset's field; the word with an offset replaced; the
 -- word that an offer starts from.
 -- Assumes nothing.
 use mathlib.Core.Path.{_≡_, refl, ap, ap₂, sym, _∙_}
@@ -9,24 +9,24 @@ use lib.IntN.{ℤ}
 use Rattle.network.specs.Sizes.{dimensions}
 use native.Mathlib.Nat.{div-div-eq-div-mul}
 use Rattle.base.specs.Digits.{product, digit, putDigit}
-use Rattle.network.specs.Packet.{fields, destinationField, signed, byte, offset, withOffset, withOffsets}
+use Rattle.network.specs.Packet.{offsetValues, fields, offsetField, destinationField, unsigned, withOffset, withOffsets}
 
 pub other-dimension : (i : ℕ) → i < dimensions → (i ≡ 0 → ⊥) → i ≡ 1
 other-dimension i h ne = omega arith
 
-pub offset-x : (i p : ℕ) → i ≡ 0 → signed (p / 256 % 256) ≡ offset i p
-unfolding offset digit
-offset-x i p e = rw e refl
+pub field-x : (i p : ℕ) → i ≡ 0 → p / offsetValues % offsetValues ≡ digit fields (offsetField i) p
+unfolding digit
+field-x i p e = rw e refl
 
-pub offset-y : (i p : ℕ) → i ≡ 1 → signed (p % 256) ≡ offset i p
-unfolding offset digit
-offset-y i p e = rw e refl
+pub field-y : (i p : ℕ) → i ≡ 1 → p % offsetValues ≡ digit fields (offsetField i) p
+unfolding digit
+field-y i p e = rw e refl
 
-pub with-x : (i : ℕ) (z : ℤ) (p b : ℕ) → i ≡ 0 → b ≡ byte z → p / 65536 * 65536 + b * 256 + p % 256 ≡ withOffset i z p
+pub with-x : (i : ℕ) (z : ℤ) (p b : ℕ) → i ≡ 0 → b ≡ unsigned z → p / 65536 * 65536 + b * 256 + p % 256 ≡ withOffset i z p
 unfolding withOffset putDigit
 with-x i z p b e f = rw e (let d : p / 256 / 256 ≡ p / 65536 = div-div-eq-div-mul p 256 256 in omega arith)
 
-pub with-y : (i : ℕ) (z : ℤ) (p b : ℕ) → i ≡ 1 → b ≡ byte z → p / 256 * 256 + b ≡ withOffset i z p
+pub with-y : (i : ℕ) (z : ℤ) (p b : ℕ) → i ≡ 1 → b ≡ unsigned z → p / 256 * 256 + b ≡ withOffset i z p
 unfolding withOffset putDigit
 with-y i z p b e f = rw e (omega arith)
 

@@ -1,4 +1,4 @@
--- Signed numbers as the code has them: a number z of a byte's range in 64 bits. The code hands a number on, or tests it, as it comes back from
+-- Signed numbers as the code has them: a number z of an offset's range in 64 bits. The code hands a number on, or tests it, as it comes back from
 -- its bits; so do the laws. Order: it comes back; negated; half a turn on and back; its sign; what each sign gives; one hop towards zero. Assumes nothing.
 use mathlib.Core.Path.{_≡_, refl, ap, sym, subst, _∙_}
 use mathlib.Core.Bool.{Bool, true, false, cond, true≢false, false≢true}
@@ -14,8 +14,8 @@ use mir.Syntax.{w64}
 use mir.Val.{Fits, SFits, toZ, ofZ}
 use mir.Facts.{toZ-ofZ, toZ-pos}
 use borrow.Author.Tests.{ltb-true, ltb-false, lt-ltb, le-ltb}
-use Rattle.network.specs.Packet.{signed, byte, forward, backward, shrunk}
-use Rattle.network.specs.PacketLaws.{ByteRange, signed-small, signed-large, signed-range, shrunk-range}
+use Rattle.network.specs.Packet.{signed, unsigned, forward, backward, shrunk, halfOffsets, offsetValues}
+use Rattle.network.specs.PacketLaws.{OffsetRange, signed-small, signed-large, signed-range, shrunk-range}
 
 -- the number that the bits of z stand for
 abbrev pub again : ℤ → ℤ
@@ -23,64 +23,64 @@ again z = toZ w64 (ofZ w64 z)
 
 -- It comes back -----------------------------------------------------------------------------------------------------------------------
 
-byte-fits : (z : ℤ) → ByteRange z → SFits w64 z
+offset-fits : (z : ℤ) → OffsetRange z → SFits w64 z
 unfolding forward backward
-byte-fits (pos n) r = let l : n < 128 = r .most in record { sfits = omega arith }
-byte-fits (negsuc n) r = let l : suc n ≤ 128 = r .least in record { sfits = omega arith }
+offset-fits (pos n) r = let l : n < halfOffsets = r .most in record { sfits = omega arith }
+offset-fits (negsuc n) r = let l : suc n ≤ halfOffsets = r .least in record { sfits = omega arith }
 
 -- y is what a call gave, and the call says that it is z
-pub back : {y z : ℤ} → y ≡ z → ByteRange z → again y ≡ z
-back {y} {z} e r = ap again e ∙ toZ-ofZ (byte-fits z r)
+pub back : {y z : ℤ} → y ≡ z → OffsetRange z → again y ≡ z
+back {y} {z} e r = ap again e ∙ toZ-ofZ (offset-fits z r)
 
-pub range-back : {y z : ℤ} → y ≡ z → ByteRange z → ByteRange (again y)
-range-back e r = subst ByteRange (sym (back e r)) r
+pub range-back : {y z : ℤ} → y ≡ z → OffsetRange z → OffsetRange (again y)
+range-back e r = subst OffsetRange (sym (back e r)) r
 
 -- Negated -----------------------------------------------------------------------------------------------------------------------------
 
-neg-fits : (z : ℤ) → ByteRange z → SFits w64 (negℤ z)
+neg-fits : (z : ℤ) → OffsetRange z → SFits w64 (negℤ z)
 unfolding forward backward
 neg-fits (pos zero) r = record { sfits = omega arith }
-neg-fits (pos (suc n)) r = let l : suc n < 128 = r .most in record { sfits = omega arith }
-neg-fits (negsuc n) r = let l : suc n ≤ 128 = r .least in record { sfits = omega arith }
+neg-fits (pos (suc n)) r = let l : suc n < halfOffsets = r .most in record { sfits = omega arith }
+neg-fits (negsuc n) r = let l : suc n ≤ halfOffsets = r .least in record { sfits = omega arith }
 
-negation-is : (z : ℤ) → ByteRange z → pos 0 -ℤ again z ≡ negℤ z
+negation-is : (z : ℤ) → OffsetRange z → pos 0 -ℤ again z ≡ negℤ z
 negation-is z r = ap (λ x. pos 0 -ℤ x) (back refl r) ∙ +ℤ-idl (negℤ z)
 
-pub negation-fits : {z : ℤ} → ByteRange z → SFits w64 (pos 0 -ℤ again z)
+pub negation-fits : {z : ℤ} → OffsetRange z → SFits w64 (pos 0 -ℤ again z)
 negation-fits {z} r = subst (SFits w64) (sym (negation-is z r)) (neg-fits z r)
 
-negation-back : (z : ℤ) → ByteRange z → again (pos 0 -ℤ again z) ≡ negℤ z
+negation-back : (z : ℤ) → OffsetRange z → again (pos 0 -ℤ again z) ≡ negℤ z
 negation-back z r = ap again (negation-is z r) ∙ toZ-ofZ (neg-fits z r)
 
 -- of a small number m without a sign
-small-fits : (m : ℕ) → m ≤ 256 → SFits w64 (negℤ (pos m))
+small-fits : (m : ℕ) → m ≤ offsetValues → SFits w64 (negℤ (pos m))
 small-fits zero h = record { sfits = omega arith }
 small-fits (suc m) h = record { sfits = omega arith }
 
-small-is : (m : ℕ) → m ≤ 256 → pos 0 -ℤ toZ w64 m ≡ negℤ (pos m)
+small-is : (m : ℕ) → m ≤ offsetValues → pos 0 -ℤ toZ w64 m ≡ negℤ (pos m)
 small-is m h = ap (λ x. pos 0 -ℤ x) (toZ-pos w64 {n = m} (omega arith)) ∙ +ℤ-idl (negℤ (pos m))
 
-pub small-negation-fits : (m : ℕ) → m ≤ 256 → SFits w64 (pos 0 -ℤ toZ w64 m)
+pub small-negation-fits : (m : ℕ) → m ≤ offsetValues → SFits w64 (pos 0 -ℤ toZ w64 m)
 small-negation-fits m h = subst (SFits w64) (sym (small-is m h)) (small-fits m h)
 
-pub small-negation : (m n : ℕ) → m ≤ 256 → m ≡ suc n → again (pos 0 -ℤ toZ w64 m) ≡ negsuc n
+pub small-negation : (m n : ℕ) → m ≤ offsetValues → m ≡ suc n → again (pos 0 -ℤ toZ w64 m) ≡ negsuc n
 small-negation m n h e = ap again (small-is m h) ∙ toZ-ofZ (small-fits m h) ∙ ap (λ (k : ℕ). negℤ (pos k)) e
 
--- half a turn on and half a turn back: the number that a byte stands for
-half-turn : (b : ℕ) → b < 256 → pos ((b + 128) % 256) -ℤ pos 128 ≡ signed b
-half-turn b h = go (decLt b 128)
+-- half of the values on and half of them back: the number that a field stands for
+half-turn : (b : ℕ) → b < offsetValues → pos ((b + halfOffsets) % offsetValues) -ℤ pos halfOffsets ≡ signed b
+half-turn b h = go (decLt b halfOffsets)
   where
-    go : Dec (b < 128) → cond (ltb ((b + 128) % 256) 128) (negsuc (128 - suc ((b + 128) % 256))) (pos ((b + 128) % 256 - 128)) ≡ signed b
-    go (yes l) = rw (le-ltb ((b + 128) % 256) 128 (omega arith)) (ap pos (omega arith) ∙ sym (signed-small b l))
-    go (no g) = rw (lt-ltb ((b + 128) % 256) 128 (omega arith)) (ap negsuc (omega arith) ∙ sym (signed-large b (omega arith)))
+    go : Dec (b < halfOffsets) → cond (ltb ((b + halfOffsets) % offsetValues) halfOffsets) (negsuc (halfOffsets - suc ((b + halfOffsets) % offsetValues))) (pos ((b + halfOffsets) % offsetValues - halfOffsets)) ≡ signed b
+    go (yes l) = rw (le-ltb ((b + halfOffsets) % offsetValues) halfOffsets (omega arith)) (ap pos (omega arith) ∙ sym (signed-small b l))
+    go (no g) = rw (lt-ltb ((b + halfOffsets) % offsetValues) halfOffsets (omega arith)) (ap negsuc (omega arith) ∙ sym (signed-large b (omega arith)))
 
-turned-is : (b : ℕ) → b < 256 → toZ w64 ((b + 128) % 256) -ℤ pos 128 ≡ signed b
-turned-is b h = ap (λ x. x -ℤ pos 128) (toZ-pos w64 {n = (b + 128) % 256} (omega arith)) ∙ half-turn b h
+turned-is : (b : ℕ) → b < offsetValues → toZ w64 ((b + halfOffsets) % offsetValues) -ℤ pos halfOffsets ≡ signed b
+turned-is b h = ap (λ x. x -ℤ pos halfOffsets) (toZ-pos w64 {n = (b + halfOffsets) % offsetValues} (omega arith)) ∙ half-turn b h
 
-pub turned-fits : (b : ℕ) → b < 256 → SFits w64 (toZ w64 ((b + 128) % 256) -ℤ pos 128)
-turned-fits b h = subst (SFits w64) (sym (turned-is b h)) (byte-fits (signed b) (signed-range b))
+pub turned-fits : (b : ℕ) → b < offsetValues → SFits w64 (toZ w64 ((b + halfOffsets) % offsetValues) -ℤ pos halfOffsets)
+turned-fits b h = subst (SFits w64) (sym (turned-is b h)) (offset-fits (signed b) (signed-range b))
 
-pub turned : (b : ℕ) → b < 256 → again (toZ w64 ((b + 128) % 256) -ℤ pos 128) ≡ signed b
+pub turned : (b : ℕ) → b < offsetValues → again (toZ w64 ((b + halfOffsets) % offsetValues) -ℤ pos halfOffsets) ≡ signed b
 turned b h = back (turned-is b h) (signed-range b)
 
 -- Its sign ----------------------------------------------------------------------------------------------------------------------------
@@ -92,10 +92,10 @@ Below z b = ltZ (again z) (pos 0) ≡ b
 abbrev pub Above : ℤ → Bool → Type 0
 Above z b = ltZ (pos 0) (again z) ≡ b
 
-sign : {y z : ℤ} {b : Bool} → y ≡ z → ByteRange z → Below y b → ltZ z (pos 0) ≡ b
+sign : {y z : ℤ} {b : Bool} → y ≡ z → OffsetRange z → Below y b → ltZ z (pos 0) ≡ b
 sign e r t = ap (λ x. ltZ x (pos 0)) (sym (back e r)) ∙ t
 
-over : {z : ℤ} {b : Bool} → ByteRange z → Above z b → ltZ (pos 0) z ≡ b
+over : {z : ℤ} {b : Bool} → OffsetRange z → Above z b → ltZ (pos 0) z ≡ b
 over r t = ap (λ x. ltZ (pos 0) x) (sym (back refl r)) ∙ t
 
 never : (n : ℕ) → ltb n 0 ≡ true → ⊥
@@ -108,61 +108,61 @@ natAbs-neg (pos zero) = refl
 natAbs-neg (pos (suc n)) = refl
 natAbs-neg (negsuc n) = refl
 
-pub natAbs-negation : {z : ℤ} → ByteRange z → natAbs (again (pos 0 -ℤ again z)) ≡ natAbs z
+pub natAbs-negation : {z : ℤ} → OffsetRange z → natAbs (again (pos 0 -ℤ again z)) ≡ natAbs z
 natAbs-negation {z} r = ap natAbs (negation-back z r) ∙ natAbs-neg z
 
 -- the number may be cast to one without a sign
 abbrev Castable : ℤ → Type 0
 Castable z = T (nonNeg z) × Fits w64 (natAbs z)
 
-plus-castable : (z : ℤ) → ByteRange z → ltZ z (pos 0) ≡ false → Castable z
+plus-castable : (z : ℤ) → OffsetRange z → ltZ z (pos 0) ≡ false → Castable z
 unfolding forward
-plus-castable (pos n) r t = let l : n < 128 = r .most in (tt, record { fits = omega arith })
+plus-castable (pos n) r t = let l : n < halfOffsets = r .most in (tt, record { fits = omega arith })
 plus-castable (negsuc n) r t = absurd (true≢false t)
 
-minus-castable : (z : ℤ) → ByteRange z → ltZ z (pos 0) ≡ true → Castable (negℤ z)
+minus-castable : (z : ℤ) → OffsetRange z → ltZ z (pos 0) ≡ true → Castable (negℤ z)
 unfolding backward
 minus-castable (pos n) r t = absurd (never n t)
-minus-castable (negsuc n) r t = let l : suc n ≤ 128 = r .least in (tt, record { fits = omega arith })
+minus-castable (negsuc n) r t = let l : suc n ≤ halfOffsets = r .least in (tt, record { fits = omega arith })
 
-pub cast-of : {z : ℤ} → ByteRange z → Below z false → Castable (again z)
+pub cast-of : {z : ℤ} → OffsetRange z → Below z false → Castable (again z)
 cast-of {z} r t = subst Castable (sym (back refl r)) (plus-castable z r (sign refl r t))
 
-pub cast-of-negation : {z : ℤ} → ByteRange z → Below z true → Castable (again (pos 0 -ℤ again z))
+pub cast-of-negation : {z : ℤ} → OffsetRange z → Below z true → Castable (again (pos 0 -ℤ again z))
 cast-of-negation {z} r t = subst Castable (sym (negation-back z r)) (minus-castable z r (sign refl r t))
 
-pub natAbs-most : (z : ℤ) → ByteRange z → natAbs z ≤ 128
+pub natAbs-most : (z : ℤ) → OffsetRange z → natAbs z ≤ halfOffsets
 unfolding forward backward
-natAbs-most (pos n) r = let l : n < 128 = r .most in omega arith
+natAbs-most (pos n) r = let l : n < halfOffsets = r .most in omega arith
 natAbs-most (negsuc n) r = r .least
 
--- byte, forward and backward of a number below zero
+-- field, forward and backward of a number below zero
 pub record Minus (z : ℤ) : Type 0 where
-  pub byte-is : byte z ≡ 256 - natAbs z
+  pub unsigned-is : unsigned z ≡ offsetValues - natAbs z
   pub forward-is : forward z ≡ 0
   pub backward-is : backward z ≡ natAbs z
   pub some : backward z ≢ 0
 
 minus : (z : ℤ) → ltZ z (pos 0) ≡ true → Minus z
-unfolding byte forward backward
+unfolding unsigned forward backward
 minus (pos n) t = absurd (never n t)
-minus (negsuc n) t = record { byte-is = omega arith; forward-is = refl; backward-is = refl; some = suc-ne-zero n }
+minus (negsuc n) t = record { unsigned-is = omega arith; forward-is = refl; backward-is = refl; some = suc-ne-zero n }
 
-pub minus-of : {y z : ℤ} → y ≡ z → ByteRange z → Below y true → Minus z
+pub minus-of : {y z : ℤ} → y ≡ z → OffsetRange z → Below y true → Minus z
 minus-of {z = z} e r t = minus z (sign e r t)
 
 -- and of another
 pub record Plus (z : ℤ) : Type 0 where
-  pub byte-is : byte z ≡ natAbs z
+  pub unsigned-is : unsigned z ≡ natAbs z
   pub forward-is : forward z ≡ natAbs z
   pub backward-is : backward z ≡ 0
 
 plus : (z : ℤ) → ltZ z (pos 0) ≡ false → Plus z
-unfolding byte forward backward
-plus (pos n) t = record { byte-is = refl; forward-is = refl; backward-is = refl }
+unfolding unsigned forward backward
+plus (pos n) t = record { unsigned-is = refl; forward-is = refl; backward-is = refl }
 plus (negsuc n) t = absurd (true≢false t)
 
-pub plus-of : {y z : ℤ} → y ≡ z → ByteRange z → Below y false → Plus z
+pub plus-of : {y z : ℤ} → y ≡ z → OffsetRange z → Below y false → Plus z
 plus-of {z = z} e r t = plus z (sign e r t)
 
 -- One hop towards zero: up from below it, down from above it --------------------------------------------------------------------------
@@ -184,23 +184,23 @@ unfolding shrunk
 shrunk-rest (pos n) s t = let l = ltb-false 0 n t in ap pos (omega arith)
 shrunk-rest (negsuc n) s t = absurd (true≢false s)
 
-up-is : {z : ℤ} → ByteRange z → Below z true → again z +ℤ pos 1 ≡ shrunk z
+up-is : {z : ℤ} → OffsetRange z → Below z true → again z +ℤ pos 1 ≡ shrunk z
 up-is {z} r t = ap (λ x. x +ℤ pos 1) (back refl r) ∙ shrunk-up z (sign refl r t)
 
-down-is : {z : ℤ} → ByteRange z → Above z true → again z -ℤ pos 1 ≡ shrunk z
+down-is : {z : ℤ} → OffsetRange z → Above z true → again z -ℤ pos 1 ≡ shrunk z
 down-is {z} r t = ap (λ x. x -ℤ pos 1) (back refl r) ∙ shrunk-down z (over r t)
 
-pub up-fits : {z : ℤ} → ByteRange z → Below z true → SFits w64 (again z +ℤ pos 1)
-up-fits {z} r t = subst (SFits w64) (sym (up-is r t)) (byte-fits (shrunk z) (shrunk-range z r))
+pub up-fits : {z : ℤ} → OffsetRange z → Below z true → SFits w64 (again z +ℤ pos 1)
+up-fits {z} r t = subst (SFits w64) (sym (up-is r t)) (offset-fits (shrunk z) (shrunk-range z r))
 
-pub down-fits : {z : ℤ} → ByteRange z → Above z true → SFits w64 (again z -ℤ pos 1)
-down-fits {z} r t = subst (SFits w64) (sym (down-is r t)) (byte-fits (shrunk z) (shrunk-range z r))
+pub down-fits : {z : ℤ} → OffsetRange z → Above z true → SFits w64 (again z -ℤ pos 1)
+down-fits {z} r t = subst (SFits w64) (sym (down-is r t)) (offset-fits (shrunk z) (shrunk-range z r))
 
-pub up-back : {z : ℤ} → ByteRange z → Below z true → again (again z +ℤ pos 1) ≡ shrunk z
+pub up-back : {z : ℤ} → OffsetRange z → Below z true → again (again z +ℤ pos 1) ≡ shrunk z
 up-back {z} r t = back (up-is r t) (shrunk-range z r)
 
-pub down-back : {z : ℤ} → ByteRange z → Above z true → again (again z -ℤ pos 1) ≡ shrunk z
+pub down-back : {z : ℤ} → OffsetRange z → Above z true → again (again z -ℤ pos 1) ≡ shrunk z
 down-back {z} r t = back (down-is r t) (shrunk-range z r)
 
-pub at-zero : {z : ℤ} → ByteRange z → Below z false → Above z false → pos 0 ≡ shrunk z
+pub at-zero : {z : ℤ} → OffsetRange z → Below z false → Above z false → pos 0 ≡ shrunk z
 at-zero {z} r s t = shrunk-rest z (sign refl r s) (over r t)

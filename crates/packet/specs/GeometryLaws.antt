@@ -16,7 +16,7 @@ use borrow.Author.Tests.{eq-eqb, ne-eqb}
 use Rattle.base.specs.Digits.{product, digit, putDigit, rotate, weight, weight-pos, digit-weight, put-weight}
 use Rattle.base.specs.Numbers.{number, weight-first, weight-next, weight-all, number-zero, number-set, number-lt, digit-number}
 use Rattle.network.specs.Sizes.{Shape, shapeOf, size, nodes, mostNodes, largestRing, dimensions, directions, dimensionOf, sizesInRange}
-use Rattle.network.specs.PacketLaws.{ByteRange, dimension-lt}
+use Rattle.network.specs.PacketLaws.{OffsetRange, dimension-lt}
 use Rattle.network.specs.Torus.{coordinate, stride, along, neighbour}
 use Rattle.network.specs.TorusLaws.{Torus, sizes-torus, inRange-size, size-pos, coordinate-lt, neighbour-lt}
 use Rattle.network.specs.OfferLaws.{offeredWay, offered-range}
@@ -302,6 +302,6 @@ moved-is c f b k h l =
     let t : c + f + k - b + b * k ≡ c + (f * 1 + b * (k - 1)) + k = omega arith in
     sym (add-mul-mod-self-right (c + f + k - b) b k) ∙ ap (λ (x : ℕ). x % k) t ∙ add-mod-right (c + (f * 1 + b * (k - 1))) k
 
--- the way of an offer is of a byte's range
-pub sizes-way : (s : Sizes) (n destination i : ℕ) → T (sizesInRange (shapeOf s)) → i < dimensions → ByteRange (offeredWay (shapeOf s) n destination i)
+-- the way of an offer is of an offset's range
+pub sizes-way : (s : Sizes) (n destination i : ℕ) → T (sizesInRange (shapeOf s)) → i < dimensions → OffsetRange (offeredWay (shapeOf s) n destination i)
 sizes-way s n destination i t h = offered-range (shapeOf s) n destination i (sizes-torus s t) (λ j k. inRange-size (shapeOf s) j t) h

@@ -9,16 +9,17 @@ use network::OFFSET_VALUES;
 ghost use mathlib.Core.Path.{_≡_};
 ghost use Prim.Native.Nat.{_<_, _≤_};
 ghost use lib.IntN.{natAbs};
+ghost use Rattle.base.specs.Digits.{digit};
 ghost use Rattle.network.specs.Sizes.{dimensions, largestRing};
-ghost use Rattle.network.specs.Packet.{offsetValues, signed, byte, offset, withOffset, distance, heading, shrunk, hop, hopsLeft, work, destination, shorterWay};
-ghost use Rattle.network.specs.PacketLaws.{ByteRange};
+ghost use Rattle.network.specs.Packet.{offsetValues, fields, offsetField, signed, unsigned, offset, withOffset, distance, heading, shrunk, hop, hopsLeft, work, destination, shorterWay};
+ghost use Rattle.network.specs.PacketLaws.{OffsetRange};
 
-// Signed bytes --------------------------------------------------------------------------------------------------------------
+// Signed offsets ------------------------------------------------------------------------------------------------------------
 
 // Half of the values of an offset: how far the least of them stands below 0.
 pub const HALF_OFFSETS: u64 = OFFSET_VALUES / 2;
 
-// The number that a byte stands for, two's complement: half a turn on, and half a turn back. This form is one instruction, a sign extension.
+// The number that an offset's field stands for, two's complement: half of the values on, and half of them back. This form is one instruction, a sign extension.
 pub fn signed(b: u64) -> i64
     requires { ⌜ b < offsetValues ⌝ }
     ensures { λ r. ⌜ r ≡ signed b ⌝ }
@@ -26,18 +27,18 @@ pub fn signed(b: u64) -> i64
     ((b + HALF_OFFSETS) % OFFSET_VALUES) as i64 - HALF_OFFSETS as i64
 }
 
-// The number without its sign. The least that a byte stands for, -128, is no exception: it is negated at the full width.
+// The number without its sign. The least that a field stands for is no exception: it is negated at the full width.
 pub fn nat_abs(z: i64) -> u64
-    requires { ⌜ ByteRange z ⌝ }
+    requires { ⌜ OffsetRange z ⌝ }
     ensures { λ r. ⌜ r ≡ natAbs z ⌝ }
 {
     if z < 0 { (-z) as u64 } else { z as u64 }
 }
 
-// The byte of a number from -128 to 127.
-pub fn byte(z: i64) -> u64
-    requires { ⌜ ByteRange z ⌝ }
-    ensures { λ r. ⌜ r ≡ byte z ⌝ }
+// The field of such a number.
+pub fn unsigned(z: i64) -> u64
+    requires { ⌜ OffsetRange z ⌝ }
+    ensures { λ r. ⌜ r ≡ unsigned z ⌝ }
 {
     if z < 0 {
         OFFSET_VALUES - nat_abs(z)
@@ -48,7 +49,7 @@ pub fn byte(z: i64) -> u64
 
 // One hop towards zero, whatever the sign: an offset that leads half way round keeps the way that it was given.
 pub fn shrunk(z: i64) -> i64
-    requires { ⌜ ByteRange z ⌝ }
+    requires { ⌜ OffsetRange z ⌝ }
     ensures { λ r. ⌜ r ≡ shrunk z ⌝ }
 {
     if z < 0 {
@@ -68,26 +69,33 @@ pub fn destination(p: u64) -> u64
     p / DESTINATION_AT % DESTINATION_VALUES
 }
 
-// The byte of dimension i is divided out by a literal in each arm, so that no division by a variable is left.
+// The field of the offset of dimension i. It is divided out by a literal in each arm, so that no division by a variable is left.
+pub fn offset_field(i: u64, p: u64) -> u64
+    requires { ⌜ i < dimensions ⌝ }
+    ensures { λ r. ⌜ r ≡ digit fields (offsetField i) p ⌝ }
+{
+    if i == 0 {
+        p / OFFSET_VALUES % OFFSET_VALUES
+    } else {
+        p % OFFSET_VALUES
+    }
+}
+
 pub fn offset(i: u64, p: u64) -> i64
     requires { ⌜ i < dimensions ⌝ }
     ensures { λ r. ⌜ r ≡ offset i p ⌝ }
 {
-    if i == 0 {
-        signed(p / OFFSET_VALUES % OFFSET_VALUES)
-    } else {
-        signed(p % OFFSET_VALUES)
-    }
+    signed(offset_field(i, p))
 }
 
 pub fn with_offset(i: u64, z: i64, p: u64) -> u64
-    requires { ⌜ (i < dimensions) × ByteRange z ⌝ }
+    requires { ⌜ (i < dimensions) × OffsetRange z ⌝ }
     ensures { λ r. ⌜ r ≡ withOffset i z p ⌝ }
 {
     if i == 0 {
-        p / DESTINATION_AT * DESTINATION_AT + byte(z) * OFFSET_VALUES + p % OFFSET_VALUES
+        p / DESTINATION_AT * DESTINATION_AT + unsigned(z) * OFFSET_VALUES + p % OFFSET_VALUES
     } else {
-        p / OFFSET_VALUES * OFFSET_VALUES + byte(z)
+        p / OFFSET_VALUES * OFFSET_VALUES + unsigned(z)
     }
 }
 

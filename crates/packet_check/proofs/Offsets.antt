@@ -1,4 +1,4 @@
--- An offset by how far it stands above -128: its hops forward and back, its limits, a coordinate moved by it. Assumes nothing.
+-- An offset by how far it stands above the least that its field can stand for: its hops forward and back, its limits, a coordinate moved by it. Assumes nothing.
 use mathlib.Core.Path.{_≡_, refl, ap, sym, _∙_}
 use mathlib.Core.Logic.{inl, inr}
 use mathlib.Core.Bool.{Bool, true, false, _&&_}
@@ -9,37 +9,29 @@ use borrow.Author.Tests.{le-ltb}
 use lib.Dec.{ltb, ltb→lt, lt→ltb}
 use Rattle.base.specs.Tests.{and-l, and-r, and-i}
 use Rattle.base.specs.Bools.{same-test, and-stop}
-use Rattle.network.specs.Sizes.{plus, minus}
+use Rattle.network.specs.Sizes.{plus, minus, largestRing}
 use Rattle.base.specs.Digits.{digit}
-use Rattle.network.specs.Packet.{fields, offsetField, signed, forward, backward, offset, hops}
+use Rattle.network.specs.Packet.{fields, offsetField, signed, forward, backward, offset, hops, halfOffsets, offsetValues}
 use Rattle.network.specs.PacketLaws.{signed-small, signed-large, hops-plus, hops-minus}
 use Rattle.packet.specs.GeometryLaws.{moved-is}
 use Rattle.packet_check.specs.PacketLimits.{OneWay}
 
--- 128 more than the number that a byte stands for
-signed-above : (b : ℕ) → b < 256 → (b + 128) % 256 + backward (signed b) ≡ 128 + forward (signed b)
+-- half of the values more than the number that a field stands for
+signed-above : (b : ℕ) → b < offsetValues → (b + halfOffsets) % offsetValues + backward (signed b) ≡ halfOffsets + forward (signed b)
 unfolding forward backward
-signed-above b h = go (decLt b 128)
+signed-above b h = go (decLt b halfOffsets)
   where
-    go : Dec (b < 128) → (b + 128) % 256 + backward (signed b) ≡ 128 + forward (signed b)
+    go : Dec (b < halfOffsets) → (b + halfOffsets) % offsetValues + backward (signed b) ≡ halfOffsets + forward (signed b)
     go (yes l) = rw (signed-small b l) (omega arith)
     go (no g) = rw (signed-large b (omega arith)) (omega arith)
 
 -- the field of the offset of dimension i, wherever it is taken from
-pub above-is : (i p b : ℕ) → b ≡ digit fields (offsetField i) p → b < 256 → (b + 128) % 256 + hops (minus i) p ≡ 128 + hops (plus i) p
+pub above-is : (i p b : ℕ) → b ≡ digit fields (offsetField i) p → b < offsetValues → (b + halfOffsets) % offsetValues + hops (minus i) p ≡ halfOffsets + hops (plus i) p
 unfolding offset
 above-is i p b e small =
-    ap (λ (v : ℕ). (b + 128) % 256 + v) (hops-minus i p ∙ ap (λ (x : ℕ). backward (signed x)) (sym e))
+    ap (λ (v : ℕ). (b + halfOffsets) % offsetValues + v) (hops-minus i p ∙ ap (λ (x : ℕ). backward (signed x)) (sym e))
     ∙ signed-above b small
-    ∙ ap (λ (v : ℕ). 128 + v) (ap (λ (x : ℕ). forward (signed x)) e ∙ sym (hops-plus i p))
-
-pub byte-of-first : (i p : ℕ) → i ≡ 0 → p / 256 % 256 ≡ digit fields (offsetField i) p
-unfolding digit
-byte-of-first i p e = ap (λ (j : ℕ). digit fields (offsetField j) p) (sym e)
-
-pub byte-of-second : (i p : ℕ) → i ≡ 1 → p % 256 ≡ digit fields (offsetField i) p
-unfolding digit
-byte-of-second i p e = ap (λ (j : ℕ). digit fields (offsetField j) p) (sym e)
+    ∙ ap (λ (v : ℕ). halfOffsets + v) (ap (λ (x : ℕ). forward (signed x)) e ∙ sym (hops-plus i p))
 
 module _ (forward back above f b : ℕ) where
   pub too-far : forward ≤ f → false ≡ (ltb f forward && ltb b back)
@@ -53,29 +45,29 @@ module _ (forward back above f b : ℕ) where
       never false = refl
 
   -- both tests by one: where neither limit is 0, an offset's place above the lowest that passes is compared with how many pass
-  pub one-test : 1 ≤ forward → forward ≤ 16 → 1 ≤ back → back ≤ 16 → above < 256 → OneWay f b → above + b ≡ 128 + f
-      → ltb ((above + 128 + back - 1) % 256) (forward + back - 1) ≡ (ltb f forward && ltb b back)
+  pub one-test : 1 ≤ forward → forward ≤ largestRing → 1 ≤ back → back ≤ largestRing → above < offsetValues → OneWay f b → above + b ≡ halfOffsets + f
+      → ltb ((above + halfOffsets + back - 1) % offsetValues) (forward + back - 1) ≡ (ltb f forward && ltb b back)
   one-test hf lf hb lb l way e =
       same-test (ltb shifted passing) (ltb f forward && ltb b back)
       (λ t. let p = there way (ltb→lt shifted passing t) in and-i (ltb f forward) (ltb b back) (lt→ltb f forward (p .0)) (lt→ltb b back (p .1)))
       (λ t. lt→ltb shifted passing (again way (ltb→lt f forward (and-l (ltb f forward) (ltb b back) t)) (ltb→lt b back (and-r (ltb f forward) (ltb b back) t))))
     where
       shifted : ℕ
-      shifted = (above + 128 + back - 1) % 256
+      shifted = (above + halfOffsets + back - 1) % offsetValues
 
       passing : ℕ
       passing = forward + back - 1
 
-      there : OneWay f b → (above + 128 + back - 1) % 256 < forward + back - 1 → (f < forward) × (b < back)
+      there : OneWay f b → (above + halfOffsets + back - 1) % offsetValues < forward + back - 1 → (f < forward) × (b < back)
       there (inl z) m = (omega arith, omega arith)
       there (inr z) m = (omega arith, omega arith)
 
-      again : OneWay f b → f < forward → b < back → (above + 128 + back - 1) % 256 < forward + back - 1
+      again : OneWay f b → f < forward → b < back → (above + halfOffsets + back - 1) % offsetValues < forward + back - 1
       again (inl z) m n = omega arith
       again (inr z) m n = omega arith
 
-pub moved-above : (c k above f b : ℕ) → 0 < k → b ≤ k → above + b ≡ 128 + f → 128 < above + k → (c + above + k - 128) % k ≡ (c + (f * 1 + b * (k - 1))) % k
+pub moved-above : (c k above f b : ℕ) → 0 < k → b ≤ k → above + b ≡ halfOffsets + f → halfOffsets < above + k → (c + above + k - halfOffsets) % k ≡ (c + (f * 1 + b * (k - 1))) % k
 moved-above c k above f b h l e m = ap (λ (n : ℕ). n % k) (same) ∙ moved-is c f b k h l
   where
-    same : c + above + k - 128 ≡ c + f + k - b
+    same : c + above + k - halfOffsets ≡ c + f + k - b
     same = omega arith

@@ -9,6 +9,7 @@ use native.Mathlib.Omega.{arith}
 use lib.Dec.{T}
 use lib.ListN.{length, getD, set, length-set}
 use lib.Seq.{getD-set-same, getD-set-other}
+use Rattle.network.specs.Packet.{halfOffsets}
 use Rattle.base.specs.Digits.{weight}
 use Rattle.network.specs.Sizes.{shapeOf, sizesInRange, size, dimensions}
 use Rattle.network.specs.TorusLaws.{inRange-size}
@@ -89,7 +90,7 @@ pub tables-all : (s : Sizes) (i : ℕ) (tables : List ℕ) → TablesTo s i tabl
 tables-all s i tables f h = record { words = f .words; ring = λ j l. f .ring j (omega arith) }
 
 -- c moved by f hops forward or b back
-pub moved-read : (tables : List ℕ) (start c k above f b w : ℕ) → c < k → above < 128 + k → 128 < above + k → RingTable tables start k w → b ≤ k → above + b ≡ 128 + f
-    → getD tables (start + (c + above + k - 128)) 0 ≡ w * ((c + (f * 1 + b * (k - 1))) % k)
+pub moved-read : (tables : List ℕ) (start c k above f b w : ℕ) → c < k → above < halfOffsets + k → halfOffsets < above + k → RingTable tables start k w → b ≤ k → above + b ≡ halfOffsets + f
+    → getD tables (start + (c + above + k - halfOffsets)) 0 ≡ w * ((c + (f * 1 + b * (k - 1))) % k)
 moved-read tables start c k above f b w h l m table lb e =
-    table (c + above + k - 128) (omega arith) ∙ ap (λ (n : ℕ). w * n) (moved-above c k above f b (omega arith) lb e m)
+    table (c + above + k - halfOffsets) (omega arith) ∙ ap (λ (n : ℕ). w * n) (moved-above c k above f b (omega arith) lb e m)

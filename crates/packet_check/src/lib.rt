@@ -6,6 +6,7 @@ use network::LARGEST_RING;
 use network::OFFSET_VALUES;
 use network::Sizes;
 use packet::HALF_OFFSETS;
+use packet::offset_field;
 use packet::torus::Place;
 use packet::torus::size;
 use packet::torus::weight;
@@ -16,7 +17,7 @@ ghost use lib.Dec.{T, ltb};
 ghost use lib.ListN.{length, getD};
 ghost use Rattle.base.specs.Digits.{weight};
 ghost use Rattle.network.specs.Sizes.{shapeOf, sizesInRange, size, dimensions, directions, largestRing, mostNodes, plus, minus};
-ghost use Rattle.network.specs.Packet.{offsetValues, hops};
+ghost use Rattle.network.specs.Packet.{offsetValues, hops, halfOffsets};
 ghost use Rattle.network.specs.Torus.{movedBy};
 ghost use Rattle.packet.specs.Geometry.{nodeAt, OnTorus};
 ghost use Rattle.packet_check.specs.PacketLimits.{limit, LimitsOf, LimitsFit, OneWay, belowLimits, fitsWithin, NoRound};
@@ -61,25 +62,21 @@ pub fn limits_of(s: Sizes, q: u64) -> [u64; DIRECTIONS as usize]
     limits
 }
 
-// How far the offset of dimension i stands above -128, the least that a byte can stand for. What is compared and added by this needs no branch on
+// How far the offset of dimension i stands above the least that its field can stand for. What is compared and added by this needs no branch on
 // the offset's sign, which packets take either way.
 fn above(i: u64, p: u64) -> u64
     requires { ⌜ i < dimensions ⌝ }
     ensures small { λ r. ⌜ r < offsetValues ⌝ }
-    ensures offset { λ r. ⌜ r + hops (minus i) p ≡ 128 + hops (plus i) p ⌝ }
+    ensures offset { λ r. ⌜ r + hops (minus i) p ≡ halfOffsets + hops (plus i) p ⌝ }
 {
-    if i == 0 {
-        (p / OFFSET_VALUES % OFFSET_VALUES + HALF_OFFSETS) % OFFSET_VALUES
-    } else {
-        (p % OFFSET_VALUES + HALF_OFFSETS) % OFFSET_VALUES
-    }
+    (offset_field(i, p) + HALF_OFFSETS) % OFFSET_VALUES
 }
 
 // Whether an offset, f hops forward or b back, is below the limits of the two directions of its dimension. Where neither limit is 0, the offsets
 // that pass are forward + back - 1 numbers in a row: one comparison tells, since those below the first of them become large by the remainder.
 fn between(forward: u64, back: u64, above: u64) -> bool
     requires { ⌜ (forward ≤ largestRing) × (back ≤ largestRing) × (above < offsetValues) ⌝ }
-    ensures { λ r. ⌜ ((f b : ℕ) → OneWay f b → above + b ≡ 128 + f → r ≡ (ltb f forward && ltb b back)) ⌝ }
+    ensures { λ r. ⌜ ((f b : ℕ) → OneWay f b → above + b ≡ halfOffsets + f → r ≡ (ltb f forward && ltb b back)) ⌝ }
 {
     if forward == 0 {
         return false;

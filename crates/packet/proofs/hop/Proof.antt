@@ -3,12 +3,12 @@ use mathlib.Core.Path.{_≡_, ap, _∙_}
 use Prim.Native.Nat.{ℕ}
 use borrow.Author.Needs.{needs}
 use Rattle.network.specs.Packet.{offset, shrunk, hop, withOffset}
-use Rattle.network.specs.PacketLaws.{ByteRange, offset-range, shrunk-range}
+use Rattle.network.specs.PacketLaws.{OffsetRange, offset-range, shrunk-range}
 use Rattle.packet.proofs.Numbers.{back, range-back}
 use Rattle.packet.proofs.hop.Statement.{statement}
 use Rattle.packet.proofs.hop.Tie as tie
 
-hop-range : (i p : ℕ) → ByteRange (shrunk (offset i p))
+hop-range : (i p : ℕ) → OffsetRange (shrunk (offset i p))
 hop-range i p = shrunk-range (offset i p) (offset-range i p)
 
 -- what the call of `shrunk` gave

@@ -5,7 +5,7 @@ use Prim.Native.Nat.{ℕ, _+_, _*_, _-_, _%_, _<_, _≤_}
 use native.Mathlib.Omega.{arith}
 use Rattle.base.specs.Digits.{weight}
 use Rattle.network.specs.Sizes.{shapeOf, size, dimensions, dimensionOf, largestRing, plus, minus}
-use Rattle.network.specs.Packet.{hops}
+use Rattle.network.specs.Packet.{hops, halfOffsets}
 use Rattle.network.specs.TorusLaws.{inRange-size}
 use Rattle.packet_check.specs.Tables.{ringWords, RingTable}
 use Rattle.packet_check.proofs.TableLaws.{moved-read}
@@ -26,8 +26,8 @@ record Short (i c k above : ℕ) : Type 0 where
   ring : k ≤ largestRing
   on : c < k
   dimension : i < dimensions
-  least : 128 < above + k
-  most : above < 128 + k
+  least : halfOffsets < above + k
+  most : above < halfOffsets + k
 
 short : (c : tie.After-above) → Short (c .before .before .before .args .i) (c .before .before .before .args .c) (c .before .size .result) (c .above .result)
 short c =

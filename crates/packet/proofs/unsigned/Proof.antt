@@ -1,12 +1,12 @@
--- `packet::byte` meets its contract. Assumes nothing.
+-- `packet::unsigned` meets its contract. Assumes nothing.
 use mathlib.Core.Path.{_≡_, refl, ap, sym, _∙_}
 use Prim.Native.Nat.{ℕ, _-_}
 use native.Mathlib.Omega.{arith}
 use lib.IntN.{natAbs}
 use borrow.Author.Needs.{needs}
 use Rattle.packet.proofs.Numbers.{back, natAbs-most, minus-of, plus-of}
-use Rattle.packet.proofs.byte.Statement.{statement}
-use Rattle.packet.proofs.byte.Tie as tie
+use Rattle.packet.proofs.unsigned.Statement.{statement}
+use Rattle.packet.proofs.unsigned.Tie as tie
 
 nat-abs-requires : tie.Need-nat-abs-requires
 nat-abs-requires c κs = search needs
@@ -24,13 +24,13 @@ nat-abs-requires-2 c κs = search needs
 returns : tie.Need-returns
 returns c =
     ap (λ (n : ℕ). 256 - n) (c .nat-abs .ensures ∙ ap natAbs (back refl (c .before .before .pre)))
-    ∙ sym (minus-of refl (c .before .before .pre) (c .before .if1 .taken) .byte-is)
+    ∙ sym (minus-of refl (c .before .before .pre) (c .before .if1 .taken) .unsigned-is)
 
 returns-2 : tie.Need-returns-2
 returns-2 c =
     c .nat-abs2 .ensures
     ∙ ap natAbs (back refl (c .before .before .pre))
-    ∙ sym (plus-of refl (c .before .before .pre) (c .before .if1 .left) .byte-is)
+    ∙ sym (plus-of refl (c .before .before .pre) (c .before .if1 .left) .unsigned-is)
 
-pub byte-spec : {M : Type 1} → statement M
-byte-spec = tie.close (tie.spec nat-abs-requires sub-result nat-abs-requires-2 returns returns-2)
+pub unsigned-spec : {M : Type 1} → statement M
+unsigned-spec = tie.close (tie.spec nat-abs-requires sub-result nat-abs-requires-2 returns returns-2)
