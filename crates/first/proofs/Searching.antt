@@ -16,7 +16,7 @@ use lib.Seq.{drop-cons, drop-length}
 use Rattle.base.specs.Sums.{sumBelow}
 use Rattle.base.specs.Tests.{elem, or-l, or-r}
 use Rattle.network.specs.declared.Found.{Found}
-use Rattle.network.specs.Sizes.{Shape, shapeOf, nodes, queues, adaptiveQueue, escapeQueue, capacity}
+use Rattle.network.specs.Sizes.{Shape, shapeOf, nodes, queues, adaptiveQueue, escapeQueue, capacity, directions}
 use Rattle.network.specs.Layout.{nodeWords, queueStart, queueEnd, queueLength, held, total, accepted, delivered}
 use Rattle.network.specs.LayoutLaws.{end-next, end-length, node-words, total-zero}
 use Rattle.network.specs.Check.{packetsHeld}
@@ -64,7 +64,7 @@ module _ (f : ℕ → Found) (i total : ℕ) where
 route-lt : (q p o : ℕ) → T (elem o (routes q p)) → o < queues
 route-lt q p o t = go (route-of q p o t)
   where
-    by : (r : Onward p o) → heading (r .dimension) p < 4
+    by : (r : Onward p o) → heading (r .dimension) p < directions
         → (o ≡ adaptiveQueue (heading (r .dimension) p)) ⊎ ((o ≡ escapeQueue (heading (r .dimension) p)) × ((j : ℕ) → j < r .dimension → distance j p ≡ 0)) → o < queues
     by r l (inl e) = omega arith
     by r l (inr e) = let f = e .0 in omega arith

@@ -1,4 +1,4 @@
--- Laws of the 65 words: what each function leaves or finds, from the bits of the words that it computes or reads.
+-- Laws of the words: what each function leaves or finds, from the bits of the words that it computes or reads.
 -- Order: a word of heads and the top word replaced; heads in; one head out; the heads of the nodes below a number; the lowest head.
 -- Assumes nothing.
 use mathlib.Core.Path.{_≡_, refl, ap, ap₂, sym, _∙_}
@@ -15,14 +15,15 @@ use lib.Dec.{eqb, ltb, lit<}
 use lib.ListN.{length, getD, set, length-set, replicate, length-replicate}
 use lib.Pow.{shl-exact}
 use lib.Seq.{getD-set-same, getD-set-other}
-use Rattle.headset.specs.Set.{bit, member, IsSet, Filled, United, Inserted, NodeInserted, Removed, LowestBit, Lowest}
+use Rattle.network.specs.Sizes.{queues}
+use Rattle.headset.specs.Set.{nodeHeads, heads, setWords, wordNodes, nodeBits, bit, member, IsSet, Filled, United, Inserted, NodeInserted, Removed, LowestBit, Lowest}
 use Rattle.headset.proofs.WordBits.{bit-none, bit-or, bit-ones, bit-one, bit-set, bit-cleared, one-bit, cleared, shifted-below, shifted-from}
 
 -- Words replaced -------------------------------------------------------------------------------------------------------------------------
 
 -- the words of s, but w in word 1 + i and t in word 0
 record Changed (s after : List ℕ) (i w t : ℕ) : Type 0 where
-  words : length after ≡ 65
+  words : length after ≡ setWords
   first : getD after 0 0 ≡ t
   own : getD after (1 + i) 0 ≡ w
   others : (k : ℕ) → k ≢ i → getD after (1 + k) 0 ≡ getD s (1 + k) 0
@@ -128,47 +129,47 @@ inserted s after h u =
     }
 
 -- the word with the nine heads of node n alone, as the code computes it
-abbrev pub nine-bits : ℕ → ℕ
-nine-bits n = 511 * 2 ^ (n % 4 * 16) % 2 ^ 64
+abbrev pub node-bits : ℕ → ℕ
+node-bits n = nodeBits * 2 ^ (n % wordNodes * nodeHeads) % 2 ^ 64
 
-nine-exact : (n : ℕ) → nine-bits n ≡ 511 * 2 ^ (n % 4 * 16)
-nine-exact n = shl-exact {a = 511} 9 (n % 4 * 16) 64 (lit< tt) (omega arith)
+node-exact : (n : ℕ) → node-bits n ≡ nodeBits * 2 ^ (n % wordNodes * nodeHeads)
+node-exact n = shl-exact {a = nodeBits} queues (n % wordNodes * nodeHeads) 64 (lit< tt) (omega arith)
 
-nine-heads : (m n : ℕ) → (eqb (m / 64) (n / 4) && bit (nine-bits n) (m % 64)) ≡ (eqb (m / 16) n && ltb (m % 16) 9)
-nine-heads m n =
-    ap (λ (x : ℕ). eqb (m / 64) (n / 4) && bit x (m % 64)) (nine-exact n)
-    ∙ go (ℕ-discrete (m / 64) (n / 4)) (ℕ-discrete (m / 16) n) (decLt (m % 64) (n % 4 * 16))
+node-heads : (m n : ℕ) → (eqb (m / 64) (n / wordNodes) && bit (node-bits n) (m % 64)) ≡ (eqb (m / nodeHeads) n && ltb (m % nodeHeads) queues)
+node-heads m n =
+    ap (λ (x : ℕ). eqb (m / 64) (n / wordNodes) && bit x (m % 64)) (node-exact n)
+    ∙ go (ℕ-discrete (m / 64) (n / wordNodes)) (ℕ-discrete (m / nodeHeads) n) (decLt (m % 64) (n % wordNodes * nodeHeads))
   where
     low : ℕ
-    low = n % 4 * 16
+    low = n % wordNodes * nodeHeads
 
-    from : low ≤ m % 64 → bit (511 * 2 ^ low) (m % 64) ≡ ltb (m % 64 - low) 9
-    from l = ap (bit (511 * 2 ^ low)) (omega arith) ∙ shifted-from 511 low (m % 64 - low) ∙ bit-ones 9 (m % 64 - low)
+    from : low ≤ m % 64 → bit (nodeBits * 2 ^ low) (m % 64) ≡ ltb (m % 64 - low) queues
+    from l = ap (bit (nodeBits * 2 ^ low)) (omega arith) ∙ shifted-from nodeBits low (m % 64 - low) ∙ bit-ones queues (m % 64 - low)
 
-    own : m / 16 ≡ n → bit (511 * 2 ^ low) (m % 64) ≡ ltb (m % 16) 9
+    own : m / nodeHeads ≡ n → bit (nodeBits * 2 ^ low) (m % 64) ≡ ltb (m % nodeHeads) queues
     own y =
-        let e : m % 64 - low ≡ m % 16 = omega arith in
-        from (omega arith) ∙ ap (λ (k : ℕ). ltb k 9) e
+        let e : m % 64 - low ≡ m % nodeHeads = omega arith in
+        from (omega arith) ∙ ap (λ (k : ℕ). ltb k queues) e
 
-    none : m / 64 ≡ n / 4 → m / 16 ≢ n → Dec (m % 64 < low) → bit (511 * 2 ^ low) (m % 64) ≡ false
-    none z y (yes x) = shifted-below 511 low (m % 64) x
-    none z y (no x) = from (omega arith) ∙ le-ltb (m % 64 - low) 9 (omega arith)
+    none : m / 64 ≡ n / wordNodes → m / nodeHeads ≢ n → Dec (m % 64 < low) → bit (nodeBits * 2 ^ low) (m % 64) ≡ false
+    none z y (yes x) = shifted-below nodeBits low (m % 64) x
+    none z y (no x) = from (omega arith) ∙ le-ltb (m % 64 - low) queues (omega arith)
 
-    go : Dec (m / 64 ≡ n / 4) → Dec (m / 16 ≡ n) → Dec (m % 64 < low)
-        → (eqb (m / 64) (n / 4) && bit (511 * 2 ^ low) (m % 64)) ≡ (eqb (m / 16) n && ltb (m % 16) 9)
+    go : Dec (m / 64 ≡ n / wordNodes) → Dec (m / nodeHeads ≡ n) → Dec (m % 64 < low)
+        → (eqb (m / 64) (n / wordNodes) && bit (nodeBits * 2 ^ low) (m % 64)) ≡ (eqb (m / nodeHeads) n && ltb (m % nodeHeads) queues)
     go (no z) y x =
-        ap (λ (b : Bool). b && bit (511 * 2 ^ low) (m % 64)) (ne-eqb (m / 64) (n / 4) z)
-        ∙ sym (ap (λ (b : Bool). b && ltb (m % 16) 9) (ne-eqb (m / 16) n (λ e. z (omega arith))))
+        ap (λ (b : Bool). b && bit (nodeBits * 2 ^ low) (m % 64)) (ne-eqb (m / 64) (n / wordNodes) z)
+        ∙ sym (ap (λ (b : Bool). b && ltb (m % nodeHeads) queues) (ne-eqb (m / nodeHeads) n (λ e. z (omega arith))))
     go (yes z) (yes y) x =
-        ap₂ _&&_ (eq-eqb (m / 64) (n / 4) z) (own y) ∙ sym (ap (λ (b : Bool). b && ltb (m % 16) 9) (eq-eqb (m / 16) n y))
+        ap₂ _&&_ (eq-eqb (m / 64) (n / wordNodes) z) (own y) ∙ sym (ap (λ (b : Bool). b && ltb (m % nodeHeads) queues) (eq-eqb (m / nodeHeads) n y))
     go (yes z) (no y) x =
-        ap₂ _&&_ (eq-eqb (m / 64) (n / 4) z) (none z y x) ∙ sym (ap (λ (b : Bool). b && ltb (m % 16) 9) (ne-eqb (m / 16) n y))
+        ap₂ _&&_ (eq-eqb (m / 64) (n / wordNodes) z) (none z y x) ∙ sym (ap (λ (b : Bool). b && ltb (m % nodeHeads) queues) (ne-eqb (m / nodeHeads) n y))
 
-pub node-inserted : (s after : List ℕ) (n : ℕ) → United s after (n / 4) (nine-bits n) → NodeInserted s after n
+pub node-inserted : (s after : List ℕ) (n : ℕ) → United s after (n / wordNodes) (node-bits n) → NodeInserted s after n
 node-inserted s after n u =
     record {
       set = u .set;
-      members = λ m. u .members m ∙ ap (λ (b : Bool). b || member s m) (nine-heads m n);
+      members = λ m. u .members m ∙ ap (λ (b : Bool). b || member s m) (node-heads m n);
     }
 
 -- One head out ---------------------------------------------------------------------------------------------------------------------------
@@ -182,7 +183,7 @@ removed-members s after h t c m =
     ∙ ap (λ (b : Bool). not b && member s m) (same-head m h)
 
 -- the word still holds a head
-pub removed-own : (s : List ℕ) (h : ℕ) → IsSet s → h < 4096 → cleared (h % 64) (getD s (1 + h / 64) 0) ≢ 0
+pub removed-own : (s : List ℕ) (h : ℕ) → IsSet s → h < heads → cleared (h % 64) (getD s (1 + h / 64) 0) ≢ 0
     → Removed s (set s (1 + h / 64) (cleared (h % 64) (getD s (1 + h / 64) 0))) h
 removed-own s h k l some =
     let word = getD s (1 + h / 64) 0 in
@@ -198,7 +199,7 @@ removed-own s h k l some =
     }
 
 -- the word is 0 now
-pub removed-both : (s : List ℕ) (h : ℕ) → IsSet s → h < 4096 → cleared (h % 64) (getD s (1 + h / 64) 0) ≡ 0
+pub removed-both : (s : List ℕ) (h : ℕ) → IsSet s → h < heads → cleared (h % 64) (getD s (1 + h / 64) 0) ≡ 0
     → (let a = set s (1 + h / 64) (cleared (h % 64) (getD s (1 + h / 64) 0)) in Removed s (set a 0 (cleared (h / 64) (getD a 0 0))) h)
 removed-both s h k l none =
     let rest = cleared (h % 64) (getD s (1 + h / 64) 0) in
@@ -225,17 +226,17 @@ zeros-word zero i = refl
 zeros-word (suc n) zero = refl
 zeros-word (suc n) (suc i) = zeros-word n i
 
-pub filled-none : (s : List ℕ) → s ≡ zeros 65 → Filled s 0
+pub filled-none : (s : List ℕ) → s ≡ zeros setWords → Filled s 0
 unfolding member
 filled-none s e =
     rw e (record {
       set = record {
-        words = length-replicate {A = ℕ} 65 0;
-        top = λ i l. ap (λ (x : ℕ). bit x i) (zeros-word 65 0) ∙ bit-none i ∙ sym (ap (λ (x : ℕ). not (eqb x 0)) (zeros-word 65 (1 + i)));
+        words = length-replicate {A = ℕ} setWords 0;
+        top = λ i l. ap (λ (x : ℕ). bit x i) (zeros-word setWords 0) ∙ bit-none i ∙ sym (ap (λ (x : ℕ). not (eqb x 0)) (zeros-word setWords (1 + i)));
       };
       members = λ m.
-          ap (λ (x : ℕ). bit x (m % 64)) (zeros-word 65 (1 + m / 64)) ∙ bit-none (m % 64)
-          ∙ sym (ap (λ (b : Bool). b && ltb (m % 16) 9) (le-ltb (m / 16) 0 (omega arith)));
+          ap (λ (x : ℕ). bit x (m % 64)) (zeros-word setWords (1 + m / 64)) ∙ bit-none (m % 64)
+          ∙ sym (ap (λ (b : Bool). b && ltb (m % nodeHeads) queues) (le-ltb (m / nodeHeads) 0 (omega arith)));
     })
 
 one-more : (x n : ℕ) (b : Bool) → ((eqb x n && b) || (ltb x n && b)) ≡ (ltb x (n + 1) && b)
@@ -251,8 +252,8 @@ filled-more before after n f i =
     record {
       set = i .set;
       members = λ m. i .members m
-          ∙ ap (λ (b : Bool). (eqb (m / 16) n && ltb (m % 16) 9) || b) (f .members m)
-          ∙ one-more (m / 16) n (ltb (m % 16) 9);
+          ∙ ap (λ (b : Bool). (eqb (m / nodeHeads) n && ltb (m % nodeHeads) queues) || b) (f .members m)
+          ∙ one-more (m / nodeHeads) n (ltb (m % nodeHeads) queues);
     }
 
 -- The lowest head ------------------------------------------------------------------------------------------------------------------------
@@ -264,11 +265,11 @@ used-word : (s : List ℕ) (i : ℕ) → IsSet s → i < 64 → bit (getD s 0 0)
 used-word s i k l e = eqb-false (getD s (1 + i) 0) 0 (not-true (eqb (getD s (1 + i) 0) 0) (sym (k .top i l) ∙ e))
 
 -- no head of a word whose bit in the top word is not set
-empty-heads : (s : List ℕ) (m : ℕ) → IsSet s → m < 4096 → bit (getD s 0 0) (m / 64) ≡ false → member s m ≡ false
+empty-heads : (s : List ℕ) (m : ℕ) → IsSet s → m < heads → bit (getD s 0 0) (m / 64) ≡ false → member s m ≡ false
 unfolding member
 empty-heads s m k l e = ap (λ (x : ℕ). bit x (m % 64)) (empty-word s (m / 64) k (omega arith) e) ∙ bit-none (m % 64)
 
-pub lowest-empty : (s : List ℕ) → IsSet s → getD s 0 0 ≡ 0 → Lowest s 4096
+pub lowest-empty : (s : List ℕ) → IsSet s → getD s 0 0 ≡ 0 → Lowest s heads
 lowest-empty s k e =
     record {
       most = omega arith;

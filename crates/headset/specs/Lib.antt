@@ -1,3 +1,3 @@
--- A set of heads of queues in 65 words, what the functions of the crate leave there or find, and laws for their callers.
+-- A set of heads of queues in words, what the functions of the crate leave there or find, and laws for their callers.
 pub mod Set
 pub mod SetLaws

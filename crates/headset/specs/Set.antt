@@ -1,10 +1,10 @@
--- A set of heads of queues as the bits of 65 words: head h is bit h % 64 of word 1 + h / 64. The head of queue q of node n
--- is number 16 * n + q. Order: the members; what the functions of the crate leave or find. The statements are over
+-- A set of heads of queues as the bits of words: head h is bit h % 64 of word 1 + h / 64. The head of queue q of node n
+-- is number nodeHeads * n + q. Order: the members; what the functions of the crate leave or find. The statements are over
 -- every number m: from `heads` on there is no member (SetLaws.antt). Assumes nothing.
 use mathlib.Core.Path.{_≡_}
 use mathlib.Core.Bool.{Bool, true, false, not, _&&_, _||_}
 use mathlib.Core.List.{List}
-use Prim.Native.Nat.{ℕ, _+_, _*_, _/_, _%_, _^_, _<_, _≤_}
+use Prim.Native.Nat.{ℕ, _+_, _*_, _/_, _%_, _-_, _^_, _<_, _≤_}
 use lib.Dec.{eqb, ltb}
 use lib.ListN.{length, getD}
 use Rattle.network.specs.Sizes.{queues, mostNodes}
@@ -18,6 +18,13 @@ heads = nodeHeads * mostNodes
 
 abbrev pub setWords : ℕ
 setWords = 1 + heads / 64
+
+-- the nodes whose heads share a word, and the bits of the first one's heads
+abbrev pub wordNodes : ℕ
+wordNodes = 64 / nodeHeads
+
+abbrev pub nodeBits : ℕ
+nodeBits = 2 ^ queues - 1
 
 -- bit j of the word is set
 unfoldable pub bit : ℕ → ℕ → Bool

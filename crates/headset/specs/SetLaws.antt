@@ -1,4 +1,4 @@
--- Laws of Set.antt for a caller. Order: no member from 4096 on; what the lowest member says of any other. Assumes nothing.
+-- Laws of Set.antt for a caller. Order: no member from `heads` on; what the lowest member says of any other. Assumes nothing.
 use mathlib.Core.Path.{_≡_, ap, _∙_}
 use mathlib.Core.Bool.{false}
 use mathlib.Core.List.{List}
@@ -8,19 +8,19 @@ use native.Mathlib.Decide.{decLt}
 use native.Mathlib.Omega.{arith}
 use lib.Dec.{eqb}
 use lib.ListN.{List·getD-eq-default}
-use Rattle.headset.specs.Set.{bit, member, IsSet, Lowest}
+use Rattle.headset.specs.Set.{heads, bit, member, IsSet, Lowest}
 
-pub none-beyond : (set : List ℕ) → IsSet set → (m : ℕ) → 4096 ≤ m → member set m ≡ false
+pub none-beyond : (set : List ℕ) → IsSet set → (m : ℕ) → heads ≤ m → member set m ≡ false
 unfolding member bit
 none-beyond set k m h =
     let l = k .words in
     ap (λ (w : ℕ). eqb (w / 2 ^ (m % 64) % 2) 1) (List·getD-eq-default set 0 (omega arith))
     ∙ ap (λ (x : ℕ). eqb (x % 2) 1) (zero-div (2 ^ (m % 64)))
 
--- 4096: the set is empty
-pub lowest-none : (set : List ℕ) → IsSet set → Lowest set 4096 → (m : ℕ) → member set m ≡ false
-lowest-none set k l m = go (decLt m 4096)
+-- `heads`: the set is empty
+pub lowest-none : (set : List ℕ) → IsSet set → Lowest set heads → (m : ℕ) → member set m ≡ false
+lowest-none set k l m = go (decLt m heads)
   where
-    go : Dec (m < 4096) → member set m ≡ false
+    go : Dec (m < heads) → member set m ≡ false
     go (yes h) = l .below m h
     go (no h) = none-beyond set k m (omega arith)

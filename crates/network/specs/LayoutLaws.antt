@@ -351,7 +351,7 @@ pub raised-other : (at : ℕ) (w : List ℕ) (i : ℕ) → i ≢ at → getD (ra
 unfolding raised
 raised-other at w i ne = getD-set-other w at i (getD w at 0 + 1) 0 ne
 
-pub shape-raised : (at : ℕ) (w : List ℕ) → 5 ≤ at → shape (raised at w) ≡ shape w
+pub shape-raised : (at : ℕ) (w : List ℕ) → acceptedAt ≤ at → shape (raised at w) ≡ shape w
 shape-raised at w h = shape-same (raised at w) w (λ i b. raised-other at w i (omega arith))
 
 pub rest-raised : (S : Shape) (at : ℕ) (w : List ℕ) → at < headerWords → drop (need S) (raised at w) ≡ drop (need S) w

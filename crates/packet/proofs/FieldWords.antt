@@ -22,11 +22,11 @@ pub field-y : (i p : ℕ) → i ≡ 1 → p % offsetValues ≡ digit fields (off
 unfolding digit
 field-y i p e = rw e refl
 
-pub with-x : (i : ℕ) (z : ℤ) (p b : ℕ) → i ≡ 0 → b ≡ unsigned z → p / 65536 * 65536 + b * 256 + p % 256 ≡ withOffset i z p
+pub with-x : (i : ℕ) (z : ℤ) (p b : ℕ) → i ≡ 0 → b ≡ unsigned z → p / 65536 * 65536 + b * offsetValues + p % offsetValues ≡ withOffset i z p
 unfolding withOffset putDigit
-with-x i z p b e f = rw e (let d : p / 256 / 256 ≡ p / 65536 = div-div-eq-div-mul p 256 256 in omega arith)
+with-x i z p b e f = rw e (let d : p / offsetValues / offsetValues ≡ p / 65536 = div-div-eq-div-mul p offsetValues offsetValues in omega arith)
 
-pub with-y : (i : ℕ) (z : ℤ) (p b : ℕ) → i ≡ 1 → b ≡ unsigned z → p / 256 * 256 + b ≡ withOffset i z p
+pub with-y : (i : ℕ) (z : ℤ) (p b : ℕ) → i ≡ 1 → b ≡ unsigned z → p / offsetValues * offsetValues + b ≡ withOffset i z p
 unfolding withOffset putDigit
 with-y i z p b e f = rw e (omega arith)
 

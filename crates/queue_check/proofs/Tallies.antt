@@ -5,7 +5,7 @@ use mathlib.Core.Bool.{Bool, true, false, _&&_}
 use mathlib.Core.List.{List, [], _∷_}
 use Prim.Native.Nat.{ℕ, zero, suc, _+_, _*_, _-_, _<_, _≤_}
 use native.Mathlib.Numerals.{add-one}
-use native.Mathlib.Nat.{le-step, suc-mul}
+use native.Mathlib.Nat.{suc-mul}
 use native.Mathlib.Omega.{arith}
 use borrow.Author.Tests.{eq-eqb, ne-eqb}
 use lib.Bits.{bitAnd, bitOr, or-add-and, and-le-r}
@@ -16,7 +16,7 @@ use Rattle.base.specs.Tests.{allBelow, allOf}
 use Rattle.base.specs.Sums.{sumBelow, sumOf}
 use Rattle.base.specs.Bools.{and-stop, and-on, fails-at}
 use Rattle.network.specs.Sizes.{dimensions, largestCapacity}
-use Rattle.network.specs.Packet.{work}
+use Rattle.network.specs.Packet.{halfOffsets, work}
 use Rattle.network.specs.PacketLaws.{hopsLeft-most}
 use Rattle.network.specs.Layout.{countOf, packetsOf}
 use Rattle.network.specs.LayoutLaws.{length-packetsOf}
@@ -172,7 +172,7 @@ packet-at part i h =
 
 -- no packet has much work left, whatever its word, nor have the packets of a queue
 abbrev packetWork : ℕ
-packetWork = 128 * dimensions + 1
+packetWork = halfOffsets * dimensions + 1
 
 abbrev pub queueWork : ℕ
 queueWork = largestCapacity * packetWork

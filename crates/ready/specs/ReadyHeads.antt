@@ -11,7 +11,7 @@ use native.Mathlib.Omega.{arith}
 use borrow.Author.Tests.{eq-eqb, ne-eqb, lt-ltb, ltb-true, eqb-false}
 use lib.Dec.{eqb, ltb}
 use Rattle.network.specs.declared.Found.{Found}
-use Rattle.network.specs.Sizes.{Shape, nodes, queues, directions}
+use Rattle.network.specs.Sizes.{Shape, nodes, queues, directions, mostNodes}
 use Rattle.network.specs.Torus.{neighbour}
 use Rattle.network.specs.TorusLaws.{Torus, neighbour-lt}
 use Rattle.network.specs.Check.{opposite}
@@ -20,14 +20,14 @@ use Rattle.network.specs.RefusalLaws.{Permitted}
 use Rattle.network.specs.Routes.{deliver, target}
 use Rattle.network.specs.Calls.{afterMove, firstInQueue, firstMove}
 use Rattle.run.specs.NewHeads.{before, Untouched, still-nothing, first-at, first-nowhere}
-use Rattle.headset.specs.Set.{member, IsSet, Filled, Inserted, NodeInserted, Removed, Lowest}
+use Rattle.headset.specs.Set.{member, IsSet, Filled, Inserted, NodeInserted, Removed, Lowest, nodeHeads, heads}
 
 abbrev pub headOf : ℕ → ℕ → ℕ
-headOf n q = 16 * n + q
+headOf n q = nodeHeads * n + q
 
 -- every member is the head of a queue that exists
 abbrev pub Heads : Shape → List ℕ → Type 0
-Heads S set = (h : ℕ) → member set h ≡ true → (h / 16 < nodes S) × (h % 16 < queues)
+Heads S set = (h : ℕ) → member set h ≡ true → (h / nodeHeads < nodes S) × (h % nodeHeads < queues)
 
 -- a head that is not in the set has no permitted move
 pub record Covered (S : Shape) (w set : List ℕ) : Type 0 where
@@ -36,10 +36,10 @@ pub record Covered (S : Shape) (w set : List ℕ) : Type 0 where
   pub others : (n q : ℕ) → n < nodes S → q < queues → member set (headOf n q) ≡ false → firstInQueue S w n q ≡ Found.Nothing
 
 -- the two tests of a number that is a head's
-head-node : (n q : ℕ) → q < queues → headOf n q / 16 ≡ n
+head-node : (n q : ℕ) → q < queues → headOf n q / nodeHeads ≡ n
 head-node n q h = omega arith
 
-head-queue : (n q : ℕ) → q < queues → headOf n q % 16 ≡ q
+head-queue : (n q : ℕ) → q < queues → headOf n q % nodeHeads ≡ q
 head-queue n q h = omega arith
 
 -- all heads
@@ -51,17 +51,17 @@ pub covered-filled : (S : Shape) (w set : List ℕ) → Filled set (nodes S) →
 covered-filled S w set f =
     record {
       set-of = f .set;
-      heads = λ h e. let (a, b) = both-true (ltb (h / 16) (nodes S)) (ltb (h % 16) 9) (sym (f .members h) ∙ e) in (ltb-true (h / 16) (nodes S) a, ltb-true (h % 16) 9 b);
+      heads = λ h e. let (a, b) = both-true (ltb (h / nodeHeads) (nodes S)) (ltb (h % nodeHeads) queues) (sym (f .members h) ∙ e) in (ltb-true (h / nodeHeads) (nodes S) a, ltb-true (h % nodeHeads) queues b);
       others = λ n q hn hq e. absurd (true≢false (sym (f .members (headOf n q) ∙ here n q hn hq) ∙ e));
     }
   where
-    here : (n q : ℕ) → n < nodes S → q < queues → (ltb (headOf n q / 16) (nodes S) && ltb (headOf n q % 16) 9) ≡ true
+    here : (n q : ℕ) → n < nodes S → q < queues → (ltb (headOf n q / nodeHeads) (nodes S) && ltb (headOf n q % nodeHeads) queues) ≡ true
     here n q hn hq =
-        ap₂ (λ (a b : ℕ). ltb a (nodes S) && ltb b 9) (head-node n q hq) (head-queue n q hq)
-        ∙ ap₂ (λ (a b : Bool). a && b) (lt-ltb n (nodes S) hn) (lt-ltb q 9 hq)
+        ap₂ (λ (a b : ℕ). ltb a (nodes S) && ltb b queues) (head-node n q hq) (head-queue n q hq)
+        ∙ ap₂ (λ (a b : Bool). a && b) (lt-ltb n (nodes S) hn) (lt-ltb q queues hq)
 
 -- one without a move taken out
-pub covered-removed : (S : Shape) (w set after : List ℕ) (h : ℕ) → Covered S w set → firstInQueue S w (h / 16) (h % 16) ≡ Found.Nothing → Removed set after h
+pub covered-removed : (S : Shape) (w set after : List ℕ) (h : ℕ) → Covered S w set → firstInQueue S w (h / nodeHeads) (h % nodeHeads) ≡ Found.Nothing → Removed set after h
     → Covered S w after
 covered-removed S w set after h c none r =
     record {
@@ -73,17 +73,17 @@ covered-removed S w set after h c none r =
     go : (n q : ℕ) → n < nodes S → q < queues → Dec (headOf n q ≡ h) → (not (eqb (headOf n q) h) && member set (headOf n q)) ≡ false
         → firstInQueue S w n q ≡ Found.Nothing
     go n q hn hq (yes e) x =
-        ap₂ (λ (a b : ℕ). firstInQueue S w a b) (sym (head-node n q hq) ∙ ap (λ (m : ℕ). m / 16) e) (sym (head-queue n q hq) ∙ ap (λ (m : ℕ). m % 16) e) ∙ none
+        ap₂ (λ (a b : ℕ). firstInQueue S w a b) (sym (head-node n q hq) ∙ ap (λ (m : ℕ). m / nodeHeads) e) (sym (head-queue n q hq) ∙ ap (λ (m : ℕ). m % nodeHeads) e) ∙ none
     go n q hn hq (no ne) x = c .others n q hn hq (rw (ne-eqb (headOf n q) h ne) at x)
 
 -- First's move: that of the lowest head of the set which has one
-pub lowest-first : (S : Shape) (w set : List ℕ) (h : ℕ) (f : Found) → Covered S w set → Lowest set h → h < 4096 → firstInQueue S w (h / 16) (h % 16) ≡ f
+pub lowest-first : (S : Shape) (w set : List ℕ) (h : ℕ) (f : Found) → Covered S w set → Lowest set h → h < heads → firstInQueue S w (h / nodeHeads) (h % nodeHeads) ≡ f
     → f ≢ Found.Nothing → firstMove S w ≡ f
 lowest-first S w set h f c l small e ne =
     let (hn, hq) = c .heads h (l .found small) in
-    first-at S w (h / 16) (h % 16) f hn hq
+    first-at S w (h / nodeHeads) (h % nodeHeads) f hn hq
     (λ k r hk hr. c .others k r (lt-trans hk hn) hr (l .below (headOf k r) (omega arith)))
-    (λ r hr. c .others (h / 16) r hn (lt-trans hr hq) (l .below (headOf (h / 16) r) (omega arith)))
+    (λ r hr. c .others (h / nodeHeads) r hn (lt-trans hr hq) (l .below (headOf (h / nodeHeads) r) (omega arith)))
     e ne
 
 -- the set after holds what the set before did, all of it heads of queues that exist; a head that is not in it then is apart from those that were put in
@@ -132,7 +132,7 @@ source-marked S n q set after hn hq i =
       others = λ k r hr e. apart k r (neither (eqb (headOf k r) (headOf n q)) (member set (headOf k r)) (sym (i .members (headOf k r)) ∙ e));
     }
   where
-    all : Heads S set → (h : ℕ) → Dec (h ≡ headOf n q) → (eqb h (headOf n q) || member set h) ≡ true → (h / 16 < nodes S) × (h % 16 < queues)
+    all : Heads S set → (h : ℕ) → Dec (h ≡ headOf n q) → (eqb h (headOf n q) || member set h) ≡ true → (h / nodeHeads < nodes S) × (h % nodeHeads < queues)
     all hs h (yes z) x = (omega (arith, hn), omega arith)
     all hs h (no ne) x = hs h (rw (ne-eqb h (headOf n q) ne) at x)
 
@@ -151,20 +151,20 @@ pub feeder-marked : (S : Shape) (n q there : ℕ) (set after : List ℕ) → the
 feeder-marked S n q there set after ht t i =
     record {
       set-of = i .set;
-      heads = λ hs h e. all hs h (either (eqb (h / 16) there && ltb (h % 16) 9) (member set h) (sym (i .members h) ∙ e));
-      others = λ k r hr e. apart k r hr (neither (eqb (headOf k r / 16) there && ltb (headOf k r % 16) 9) (member set (headOf k r)) (sym (i .members (headOf k r)) ∙ e));
+      heads = λ hs h e. all hs h (either (eqb (h / nodeHeads) there && ltb (h % nodeHeads) queues) (member set h) (sym (i .members h) ∙ e));
+      others = λ k r hr e. apart k r hr (neither (eqb (headOf k r / nodeHeads) there && ltb (headOf k r % nodeHeads) queues) (member set (headOf k r)) (sym (i .members (headOf k r)) ∙ e));
     }
   where
-    all : Heads S set → (h : ℕ) → ((eqb (h / 16) there && ltb (h % 16) 9) ≡ true) ⊎ (member set h ≡ true) → (h / 16 < nodes S) × (h % 16 < queues)
+    all : Heads S set → (h : ℕ) → ((eqb (h / nodeHeads) there && ltb (h % nodeHeads) queues) ≡ true) ⊎ (member set h ≡ true) → (h / nodeHeads < nodes S) × (h % nodeHeads < queues)
     all hs h (inl x) =
-        let (a, b) = both-true (eqb (h / 16) there) (ltb (h % 16) 9) x in
-        (subst (λ (k : ℕ). k < nodes S) (sym (borrow.Author.Tests.eqb-true (h / 16) there a)) ht, ltb-true (h % 16) 9 b)
+        let (a, b) = both-true (eqb (h / nodeHeads) there) (ltb (h % nodeHeads) queues) x in
+        (subst (λ (k : ℕ). k < nodes S) (sym (borrow.Author.Tests.eqb-true (h / nodeHeads) there a)) ht, ltb-true (h % nodeHeads) queues b)
     all hs h (inr x) = hs h x
 
-    one : (k r : ℕ) → r < queues → k ≡ there → (eqb (headOf k r / 16) there && ltb (headOf k r % 16) 9) ≡ true
-    one k r hr z = ap₂ (λ (a b : Bool). a && b) (eq-eqb (headOf k r / 16) there (head-node k r hr ∙ z)) (lt-ltb (headOf k r % 16) 9 (omega arith))
+    one : (k r : ℕ) → r < queues → k ≡ there → (eqb (headOf k r / nodeHeads) there && ltb (headOf k r % nodeHeads) queues) ≡ true
+    one k r hr z = ap₂ (λ (a b : Bool). a && b) (eq-eqb (headOf k r / nodeHeads) there (head-node k r hr ∙ z)) (lt-ltb (headOf k r % nodeHeads) queues (omega arith))
 
-    apart : (k r : ℕ) → r < queues → ((eqb (headOf k r / 16) there && ltb (headOf k r % 16) 9) ≡ false) × (member set (headOf k r) ≡ false)
+    apart : (k r : ℕ) → r < queues → ((eqb (headOf k r / nodeHeads) there && ltb (headOf k r % nodeHeads) queues) ≡ false) × (member set (headOf k r) ≡ false)
         → (member set (headOf k r) ≡ false) × (q ≢ deliver → k ≢ before S n q)
     apart k r hr x = (x .1, λ ne z. true≢false (sym (one k r hr (z ∙ sym t)) ∙ x .0))
 
@@ -193,13 +193,13 @@ direction-back d = go (ℕ-discrete (d % 2) 0)
 pub neighbour-node : (S : Shape) (d n r : ℕ) → Torus S → n < nodes S → d < directions → r ≡ neighbour S d n → r < nodes S
 neighbour-node S d n r tor h hd e = let a : neighbour S d n < nodes S = neighbour-lt S d n tor hd h in omega arith
 
-pub target-is : (S : Shape) (n o r : ℕ) → r ≡ neighbour S ((o - 1) % 4) n → r ≡ target S n o
+pub target-is : (S : Shape) (n o r : ℕ) → r ≡ neighbour S ((o - 1) % directions) n → r ≡ target S n o
 unfolding target
 target-is S n o r e = e
 
-pub before-is : (S : Shape) (n q r : ℕ) → r ≡ neighbour S ((q - 1) % 4 / 2 * 2 + (1 - (q - 1) % 4 % 2)) n → r ≡ before S n q
+pub before-is : (S : Shape) (n q r : ℕ) → r ≡ neighbour S ((q - 1) % directions / 2 * 2 + (1 - (q - 1) % directions % 2)) n → r ≡ before S n q
 unfolding before
-before-is S n q r e = e ∙ ap (λ (d : ℕ). neighbour S d n) (direction-back ((q - 1) % 4))
+before-is S n q r e = e ∙ ap (λ (d : ℕ). neighbour S d n) (direction-back ((q - 1) % directions))
 
 -- the search through the set: no head before `from` is left in it
 pub record Searched (S : Shape) (w set : List ℕ) (from : ℕ) : Type 0 where
@@ -209,7 +209,7 @@ pub record Searched (S : Shape) (w set : List ℕ) (from : ℕ) : Type 0 where
 pub searched-start : (S : Shape) (w set : List ℕ) → Covered S w set → Searched S w set 0
 searched-start S w set c = record { covers = c; below = λ m h. absurd (native.Mathlib.Nat.not-suc-le-zero h) }
 
-pub searched-next : (S : Shape) (w set after : List ℕ) (from h : ℕ) → Searched S w set from → Lowest set h → firstInQueue S w (h / 16) (h % 16) ≡ Found.Nothing
+pub searched-next : (S : Shape) (w set after : List ℕ) (from h : ℕ) → Searched S w set from → Lowest set h → firstInQueue S w (h / nodeHeads) (h % nodeHeads) ≡ Found.Nothing
     → Removed set after h → Searched S w after (h + 1)
 searched-next S w set after from h s l none r =
     record { covers = covered-removed S w set after h (s .covers) none r; below = λ m b. r .members m ∙ gone m b (ℕ-discrete m h) }
@@ -219,7 +219,7 @@ searched-next S w set after from h s l none r =
     gone m b (no ne) = rw (ne-eqb m h ne) (l .below m (omega arith))
 
 -- it goes on upwards
-pub searched-up : (S : Shape) (w set : List ℕ) (from h : ℕ) → Searched S w set from → Lowest set h → h < 4096 → from ≤ h
+pub searched-up : (S : Shape) (w set : List ℕ) (from h : ℕ) → Searched S w set from → Lowest set h → h < heads → from ≤ h
 searched-up S w set from h s l small = go (decLt h from)
   where
     go : Dec (h < from) → from ≤ h
@@ -227,10 +227,10 @@ searched-up S w set from h s l small = go (decLt h from)
     go (no b) = omega arith
 
 -- and where no head is left, there is no move
-pub searched-all : (S : Shape) (w set : List ℕ) (from : ℕ) → Searched S w set from → nodes S ≤ 256 → 4096 ≤ from → firstMove S w ≡ Found.Nothing
+pub searched-all : (S : Shape) (w set : List ℕ) (from : ℕ) → Searched S w set from → nodes S ≤ mostNodes → heads ≤ from → firstMove S w ≡ Found.Nothing
 searched-all S w set from s few h = first-nowhere S w (λ k r hk hr. s .covers .others k r hk hr (s .below (headOf k r) (omega arith)))
 
-pub lowest-none : (S : Shape) (w set : List ℕ) (h : ℕ) → Covered S w set → Lowest set h → nodes S ≤ 256 → 4096 ≤ h → firstMove S w ≡ Found.Nothing
+pub lowest-none : (S : Shape) (w set : List ℕ) (h : ℕ) → Covered S w set → Lowest set h → nodes S ≤ mostNodes → heads ≤ h → firstMove S w ≡ Found.Nothing
 lowest-none S w set h c l few g = first-nowhere S w (λ k r hk hr. c .others k r hk hr (l .below (headOf k r) (omega arith)))
 
 -- what is named is not nothing

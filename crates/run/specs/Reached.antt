@@ -109,7 +109,7 @@ module _ (s : Sizes) (rest : List ℕ) where
   made = emptyNetwork S ++ rest
 
   header : List ℕ
-  header = s .x ∷ s .y ∷ s .escape ∷ s .adaptive ∷ s .injection ∷ 0 ∷ 0 ∷ 0 ∷ []
+  header = S .sizes ++ (S .escape ∷ S .adaptive ∷ S .injection ∷ 0 ∷ 0 ∷ 0 ∷ [])
 
   blanks : List ℕ
   blanks = replicate (nodes S * nodeWords S) 0
@@ -123,23 +123,23 @@ module _ (s : Sizes) (rest : List ℕ) where
   blanks-length = length-replicate (nodes S * nodeWords S) 0
 
   made-long : need S ≤ length made
-  unfolding header need
+  unfolding header need S shapeOf
   made-long =
-      let l : length made ≡ 8 + (length blanks + length rest) =
-      ap length made-is ∙ length-append header (blanks ++ rest) ∙ ap (λ (m : ℕ). 8 + m) (length-append blanks rest) in
+      let l : length made ≡ headerWords + (length blanks + length rest) =
+      ap length made-is ∙ length-append header (blanks ++ rest) ∙ ap (λ (m : ℕ). headerWords + m) (length-append blanks rest) in
       let r = blanks-length in
       omega arith
 
   made-zeros : (i : ℕ) → headerWords ≤ i → i < need S → getD made i 0 ≡ 0
-  unfolding header blanks need
+  unfolding header blanks need S shapeOf
   made-zeros i l b =
       let r : length blanks ≡ nodes S * nodeWords S = blanks-length in
-      let at : i ≡ 8 + (i - 8) = omega arith in
+      let at : i ≡ headerWords + (i - headerWords) = omega arith in
       ap (λ (m : ℕ). getD made m 0) at
-      ∙ ap (λ (w : List ℕ). getD w (8 + (i - 8)) 0) made-is
-      ∙ getD-append-add header (blanks ++ rest) (i - 8) 0
-      ∙ List·getD-append blanks rest 0 (i - 8) (omega arith)
-      ∙ getD-replicate (nodes S * nodeWords S) (i - 8) 0 0 (omega arith)
+      ∙ ap (λ (w : List ℕ). getD w (headerWords + (i - headerWords)) 0) made-is
+      ∙ getD-append-add header (blanks ++ rest) (i - headerWords) 0
+      ∙ List·getD-append blanks rest 0 (i - headerWords) (omega arith)
+      ∙ getD-replicate (nodes S * nodeWords S) (i - headerWords) 0 0 (omega arith)
 
   made-blank : T (sizesInRange S) → Blank S made
   unfolding made S header emptyNetwork shapeOf accepted delivered movesMade

@@ -4,7 +4,7 @@ use mathlib.Core.Path.{refl, sym, subst}
 use Prim.Native.Nat.{ℕ, _≤_}
 use native.Mathlib.Omega.{arith}
 use denote.Ref.{now}
-use Rattle.network.specs.Sizes.{shapeOf}
+use Rattle.network.specs.Sizes.{shapeOf, mostNodes}
 use Rattle.network.specs.declared.Stop.{Stop}
 use Rattle.network.specs.Layout.{accepted, delivered}
 use Rattle.headset.specs.Set.{Filled}
@@ -70,7 +70,7 @@ nodes-requires c κs =
 fill-requires-2 : tie.Need-fill-requires-2
 fill-requires-2 c κs =
     let a = c .before .before .before .before .before .before .before .before .before .before in
-    (refl, subst (λ (x : ℕ). x ≤ 256) (sym (c .nodes .ensures)) (sizes-nodes (a .args .s) (a .pre .in-range)))
+    (refl, subst (λ (x : ℕ). x ≤ mostNodes) (sym (c .nodes .ensures)) (sizes-nodes (a .args .s) (a .pre .in-range)))
 
 -- src/lib.rt:237:26
 slice-aggregate-take-turns : tie.Need-slice-aggregate-take-turns

@@ -11,7 +11,7 @@ use borrow.Author.Needs.{needs}
 use borrow.Author.Tests.{eq-eqb, ne-eqb, le-leb, lt-leb}
 use lib.Dec.{leb, eqb}
 use lib.ListN.{length}
-use Rattle.network.specs.Sizes.{shapeOf, capacity, isEscape}
+use Rattle.network.specs.Sizes.{shapeOf, capacity, isEscape, largestCapacity}
 use Rattle.network.specs.SizesLaws.{range-of, capacity-most}
 use Rattle.network.specs.Layout.{held}
 use Rattle.network.specs.Routes.{target, freeSlots, entersRing, slotsNeeded}
@@ -51,7 +51,7 @@ small-sum : (s : Sizes) (w : List ℕ) (n q o there slots count needed : ℕ) �
 unfolding entersRing slotsNeeded
 small-sum s w n q o there slots count needed k et es ec en = go (isEscape o && not (eqb q o)) en
   where
-    few : count ≤ 8
+    few : count ≤ largestCapacity
     few =
         let l = target-few s w n o there k et slots count es ec in
         let m = capacity-most (shapeOf s) o (range-of (shapeOf s) (k .network .in-range)) in

@@ -4,7 +4,7 @@ use mathlib.Core.Bool.{Bool, true, false, cond, not, _&&_}
 use Prim.Native.Nat.{ℕ, _≤_}
 use borrow.Author.Tests.{eq-eqb, ne-eqb, lt-ltb, le-ltb}
 use lib.Dec.{eqb}
-use Rattle.network.specs.Sizes.{isEscape}
+use Rattle.network.specs.Sizes.{isEscape, directions}
 use Rattle.network.specs.Routes.{entersRing, slotsNeeded}
 use Rattle.flow.proofs.slots_needed.Statement.{statement}
 use Rattle.flow.proofs.slots_needed.Tie as tie
@@ -14,7 +14,7 @@ needed : (q o : ℕ) (a b : Bool) → isEscape o ≡ a → eqb q o ≡ b → con
 unfolding entersRing slotsNeeded
 needed q o a b e f = sym (ap₂ (λ (x y : Bool). cond (x && not y) 2 1) e f)
 
-adaptive : (q o : ℕ) → o ≤ 4 → 1 ≡ slotsNeeded q o
+adaptive : (q o : ℕ) → o ≤ directions → 1 ≡ slotsNeeded q o
 adaptive q o h = needed q o false (eqb q o) (le-ltb 4 o h) refl
 
 returns : tie.Need-returns

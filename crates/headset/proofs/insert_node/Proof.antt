@@ -2,6 +2,7 @@
 use native.Mathlib.Omega.{arith}
 use borrow.Author.Needs.{needs}
 use lib.Dec.{lit<}
+use Rattle.network.specs.Sizes.{queues}
 use Rattle.headset.proofs.WordBits.{shifted-some}
 use Rattle.headset.proofs.Sets.{node-inserted}
 use Rattle.headset.proofs.insert_node.Statement.{statement}
@@ -14,7 +15,7 @@ shl-heads : tie.Need-shl-heads
 shl-heads c = search needs
 
 unite-requires : tie.Need-unite-requires
-unite-requires c κs = (c .before .before .pre .0, (omega arith, shifted-some _ 9 _ (lit< tt) (lit< tt) (omega arith)))
+unite-requires c κs = (c .before .before .pre .0, (omega arith, shifted-some _ queues _ (lit< tt) (lit< tt) (omega arith)))
 
 same-length : tie.Need-same-length
 same-length c = search needs

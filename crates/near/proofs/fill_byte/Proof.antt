@@ -3,7 +3,7 @@ use borrow.Author.Needs.{needs}
 use mathlib.Core.Path.{refl}
 use Prim.Native.Nat.{_+_, _*_}
 use native.Mathlib.Omega.{arith}
-use Rattle.network.specs.Sizes.{shapeOf}
+use Rattle.network.specs.Sizes.{shapeOf, directions}
 use Rattle.network.specs.TorusLaws.{sizes-torus, sizes-nodes, neighbour-lt}
 use Rattle.near.specs.Table.{near-more}
 use Rattle.near.proofs.fill_byte.Statement.{statement}
@@ -45,7 +45,7 @@ same-length c = search needs
 returns : tie.Need-returns
 returns c =
     let a = c .before .before in
-    near-more (4 * a .args .n + a .args .d) (c .step-from .result) (a .args .d) (a .args .n) (a .pre .1 .1) (omega arith) refl (a .pre .0 .1) (c .step-from .ensures)
+    near-more (directions * a .args .n + a .args .d) (c .step-from .result) (a .args .d) (a .args .n) (a .pre .1 .1) (omega arith) refl (a .pre .0 .1) (c .step-from .ensures)
 
 pub fill-byte-spec : {M : Type 1} → statement M
 fill-byte-spec =

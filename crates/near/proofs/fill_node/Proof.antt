@@ -6,7 +6,7 @@ use Prim.Native.Nat.{ℕ, _+_, _*_, _-_, _<_, _≤_}
 use native.Mathlib.Nat.{lt-of-lt-of-le}
 use native.Mathlib.Omega.{arith}
 use lib.ListN.{getD}
-use Rattle.network.specs.Sizes.{Shape, shapeOf, directions, dimensionOf, nodes}
+use Rattle.network.specs.Sizes.{Shape, shapeOf, directions, dimensionOf, nodes, mostNodes}
 use Rattle.network.specs.PacketLaws.{dimension-lt}
 use Rattle.network.specs.Torus.{coordinate}
 use Rattle.network.specs.TorusLaws.{sizes-nodes}
@@ -24,7 +24,7 @@ abbrev μ-loop : tie.MeasureT-loop
 is-node : (c : tie.Start Inv-loop μ-loop) → c .args .n < nodes (shapeOf (c .args .s))
 is-node c = subst (λ (k : ℕ). k < nodes (shapeOf (c .args .s))) (c .pre .1) (place-node (c .pre .0))
 
-few : (c : tie.Start Inv-loop μ-loop) → c .args .n < 256
+few : (c : tie.Start Inv-loop μ-loop) → c .args .n < mostNodes
 few c = lt-of-lt-of-le (is-node c) (sizes-nodes (c .args .s) (c .pre .0 .sizes))
 
 coordinate-at : (c : tie.Start Inv-loop μ-loop) (d : ℕ) → d < directions

@@ -3,6 +3,7 @@ use borrow.Author.Needs.{needs}
 use Prim.Native.Nat.{_+_, _*_}
 use native.Mathlib.Omega.{arith}
 use denote.Ref.{now}
+use Rattle.network.specs.Sizes.{directions}
 use Rattle.near.specs.Table.{near-at}
 use Rattle.near.proofs.look_up.Statement.{statement}
 use Rattle.near.proofs.look_up.Tie as tie
@@ -23,7 +24,7 @@ shared-slice-read-result c = search needs
 
 -- src/near.rt:57:5
 cast-result : tie.Need-cast-result
-cast-result c = omega (arith, c .shared-slice-known .given (4 * c .before .args .n + c .before .args .d))
+cast-result c = omega (arith, c .shared-slice-known .given (directions * c .before .args .n + c .before .args .d))
 
 -- src/near.rt:53:1
 returns : tie.Need-returns

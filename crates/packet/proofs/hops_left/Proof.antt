@@ -5,7 +5,7 @@ use native.Mathlib.Omega.{arith}
 use borrow.Author.Needs.{needs}
 use Rattle.base.specs.Sums.{sumBelow, sum-next, sum-most}
 use Rattle.network.specs.Sizes.{dimensions}
-use Rattle.network.specs.Packet.{distance, hopsLeft}
+use Rattle.network.specs.Packet.{halfOffsets, distance, hopsLeft}
 use Rattle.network.specs.PacketLaws.{distance-most}
 use Rattle.packet.proofs.hops_left.Statement.{statement}
 use Rattle.packet.proofs.hops_left.Tie as tie
@@ -14,9 +14,9 @@ use Rattle.packet.proofs.hops_left.Tie as tie
 hopsBelow : ℕ → ℕ → ℕ
 hopsBelow p i = sumBelow i (λ j. distance j p)
 
-few : (p i : ℕ) → hopsBelow p i ≤ i * 128
+few : (p i : ℕ) → hopsBelow p i ≤ i * halfOffsets
 unfolding hopsBelow
-few p i = sum-most i 128 (λ j. distance j p) (λ j h. distance-most j p)
+few p i = sum-most i halfOffsets (λ j. distance j p) (λ j h. distance-most j p)
 
 more : (p i : ℕ) → hopsBelow p i + distance i p ≡ hopsBelow p (i + 1)
 unfolding hopsBelow

@@ -4,6 +4,7 @@ use Prim.Native.Nat.{ℕ, _-_}
 use native.Mathlib.Omega.{arith}
 use lib.IntN.{natAbs}
 use borrow.Author.Needs.{needs}
+use Rattle.network.specs.Packet.{offsetValues}
 use Rattle.packet.proofs.Numbers.{back, natAbs-most, minus-of, plus-of}
 use Rattle.packet.proofs.unsigned.Statement.{statement}
 use Rattle.packet.proofs.unsigned.Tie as tie
@@ -23,7 +24,7 @@ nat-abs-requires-2 c κs = search needs
 
 returns : tie.Need-returns
 returns c =
-    ap (λ (n : ℕ). 256 - n) (c .nat-abs .ensures ∙ ap natAbs (back refl (c .before .before .pre)))
+    ap (λ (n : ℕ). offsetValues - n) (c .nat-abs .ensures ∙ ap natAbs (back refl (c .before .before .pre)))
     ∙ sym (minus-of refl (c .before .before .pre) (c .before .if1 .taken) .unsigned-is)
 
 returns-2 : tie.Need-returns-2

@@ -1,8 +1,8 @@
 -- `packet_check::fill_ring` meets its contract. The loop's invariant: the first j words of the ring's part are filled. Assumes nothing.
 use Prim.Native.Nat.{_*_, _-_, _<_, _≤_}
-use borrow.Author.Needs.{needs}
 use native.Mathlib.Omega.{arith}
 use native.Mathlib.Nat.{mul-le-mul}
+use Rattle.network.specs.Sizes.{largestRing}
 use Rattle.packet_check.specs.Tables.{ringWords}
 use Rattle.packet_check.proofs.TableLaws.{Filling, filling-start, filling-small, filling-more, filling-end}
 use Rattle.packet_check.proofs.fill_ring.Statement.{statement}
@@ -28,7 +28,7 @@ mul-tables : tie.Need-mul-tables Inv-loop μ-loop
 mul-tables c =
     let st = c .before .before .before in
     let l = small c in
-    let h : c .before .loop .c ≤ 16 = omega arith in
+    let h : c .before .loop .c ≤ largestRing = omega arith in
     let m = mul-le-mul (st .pre .4) h in
     omega arith
 

@@ -1,9 +1,7 @@
 -- `packet_check::fill_tables` meets its contract. The loop's invariant: the rings of the dimensions before i are filled. Assumes nothing.
 use borrow.Author.Needs.{needs}
-use mathlib.Core.Path.{_≡_, subst, sym, _∙_}
-use Prim.Native.Nat.{ℕ, _-_, _≤_}
+use Prim.Native.Nat.{_-_, _≤_}
 use native.Mathlib.Omega.{arith}
-use native.Mathlib.Nat.{le-trans}
 use Rattle.base.specs.Numbers.{weight-most}
 use Rattle.network.specs.Sizes.{shapeOf, nodes, dimensions}
 use Rattle.network.specs.TorusLaws.{sizes-torus, sizes-nodes, inRange-size, size-pos}

@@ -1,9 +1,7 @@
 -- `packet_check::limits_of` meets its contract. The loop's invariant: the limits of the directions before d are there. Assumes nothing.
 use borrow.Author.Needs.{needs}
-use mathlib.Core.Path.{_≡_}
-use Prim.Native.Nat.{ℕ, _-_, _<_, _≤_}
+use Prim.Native.Nat.{_-_}
 use native.Mathlib.Omega.{arith}
-use lib.ListN.{length, getD}
 use Rattle.network.specs.Sizes.{shapeOf, directions}
 use Rattle.packet_check.specs.LimitLaws.{LimitsTo, limits-none, limits-more}
 use Rattle.packet_check.proofs.limits_of.Statement.{statement}

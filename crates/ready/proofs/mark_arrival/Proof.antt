@@ -5,7 +5,7 @@ use Prim.Native.Nat.{_-_, _%_}
 use native.Mathlib.Nat.{lt-of-lt-of-le}
 use native.Mathlib.Omega.{arith}
 use denote.Ref.{now}
-use Rattle.network.specs.Sizes.{shapeOf}
+use Rattle.network.specs.Sizes.{shapeOf, directions}
 use Rattle.network.specs.Torus.{neighbour}
 use Rattle.network.specs.TorusLaws.{sizes-torus, sizes-nodes}
 use Rattle.ready.specs.ReadyHeads.{neighbour-node, target-is, arrival-marked}
@@ -35,7 +35,7 @@ abbrev start : tie.After-look-up → tie.Start
 start c = c .before .before .before .before
 
 there-is : (c : tie.After-look-up)
-    → c .look-up .result ≡ neighbour (shapeOf (start c .args .s)) ((start c .args .o - 1) % 4) (start c .args .n)
+    → c .look-up .result ≡ neighbour (shapeOf (start c .args .s)) ((start c .args .o - 1) % directions) (start c .args .n)
 there-is c =
     let a = start c in
     c .look-up .ensures (shapeOf (a .args .s)) (a .pre .1 .1) (a .pre .1 .0 .1)
@@ -48,7 +48,7 @@ mark-head-requires c κs =
       a .pre .0,
       (
         a .pre .1 .0 .0,
-        neighbour-node (shapeOf (a .args .s)) ((a .args .o - 1) % 4) (a .args .n) (l .look-up .result) (sizes-torus (a .args .s) (a .pre .1 .0 .0)) (a .pre .1 .0 .1) (omega arith) (there-is l),
+        neighbour-node (shapeOf (a .args .s)) ((a .args .o - 1) % directions) (a .args .n) (l .look-up .result) (sizes-torus (a .args .s) (a .pre .1 .0 .0)) (a .pre .1 .0 .1) (omega arith) (there-is l),
         a .pre .1 .0 .2,
       ),
     )

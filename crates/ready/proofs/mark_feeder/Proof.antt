@@ -5,7 +5,7 @@ use Prim.Native.Nat.{ℕ, _+_, _*_, _-_, _/_, _%_, _<_}
 use native.Mathlib.Nat.{lt-of-lt-of-le}
 use native.Mathlib.Omega.{arith}
 use denote.Ref.{now}
-use Rattle.network.specs.Sizes.{shapeOf, nodes}
+use Rattle.network.specs.Sizes.{shapeOf, nodes, directions}
 use Rattle.network.specs.Torus.{neighbour}
 use Rattle.network.specs.TorusLaws.{sizes-torus, sizes-nodes}
 use Rattle.ready.specs.ReadyHeads.{neighbour-node, before-is, feeder-marked}
@@ -44,7 +44,7 @@ look-up-requires c κs =
 
 -- the neighbour that was looked up
 abbrev back : ℕ → ℕ
-back q = (q - 1) % 4 / 2 * 2 + (1 - (q - 1) % 4 % 2)
+back q = (q - 1) % directions / 2 * 2 + (1 - (q - 1) % directions % 2)
 
 abbrev start : tie.After-look-up → tie.Start
 start c = c .before .before .before .before

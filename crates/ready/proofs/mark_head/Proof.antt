@@ -4,7 +4,7 @@ use Prim.Native.Nat.{_<_}
 use native.Mathlib.Nat.{lt-of-lt-of-le}
 use native.Mathlib.Omega.{arith}
 use denote.Ref.{now}
-use Rattle.network.specs.Sizes.{shapeOf}
+use Rattle.network.specs.Sizes.{shapeOf, mostNodes}
 use Rattle.network.specs.TorusLaws.{sizes-nodes}
 use Rattle.ready.specs.ReadyHeads.{source-marked}
 use Rattle.ready.proofs.mark_head.Statement.{statement}
@@ -13,7 +13,7 @@ use Rattle.ready.proofs.mark_head.Reads as reads
 use Rattle.ready.proofs.mark_head.Lts as lts
 use Rattle.headset.proofs.insert.Reads as insert-reads
 
-few : (c : tie.Start) → c .args .n < 256
+few : (c : tie.Start) → c .args .n < mostNodes
 few c = lt-of-lt-of-le (c .pre .1 .1) (sizes-nodes (c .args .s) (c .pre .1 .0))
 
 -- src/lib.rt:36:28

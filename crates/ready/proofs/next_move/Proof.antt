@@ -6,7 +6,8 @@ use Prim.Native.Nat.{ℕ, _+_, _-_, _<_, _≤_}
 use native.Mathlib.Omega.{arith}
 use lib.ListN.{length}
 use denote.Ref.{now}
-use Rattle.network.specs.Sizes.{shapeOf, nodes}
+use Rattle.headset.specs.Set.{heads}
+use Rattle.network.specs.Sizes.{shapeOf, nodes, mostNodes}
 use Rattle.network.specs.TorusLaws.{sizes-nodes}
 use Rattle.ready.specs.ReadyHeads.{Searched, searched-start, searched-next, searched-up, searched-all, lowest-first, lowest-none, refused-some, move-some}
 use Rattle.ready.proofs.next_move.Statement.{statement}
@@ -21,13 +22,13 @@ abbrev Inv-loop : tie.InvT-loop
 Inv-loop words s near ready₀ from₀ ready from = Searched (shapeOf s) words ready from × (length ready ≡ length ready₀)
 
 abbrev μ-loop : tie.MeasureT-loop
-μ-loop words s near ready₀ from₀ ready from = 4096 - from
+μ-loop words s near ready₀ from₀ ready from = heads - from
 
 less : (t x n : ℕ) → x ≤ n → n < t → t - (n + 1) < t - x
 less t x n a b = omega arith
 
 -- there are at most 256 nodes
-few : (c : tie.Start Inv-loop μ-loop) → nodes (shapeOf (c .args .s)) ≤ 256
+few : (c : tie.Start Inv-loop μ-loop) → nodes (shapeOf (c .args .s)) ≤ mostNodes
 few c = sizes-nodes (c .args .s) (c .pre .0 .in-range)
 
 -- src/lib.rt:77:5
@@ -125,7 +126,7 @@ loop-less c =
     let h = f .before .before .lowest .result in
     let up : l .loop .from ≤ h =
     searched-up (shapeOf (a .args .s)) (now (a .args .words)) (l .loop .ready) (l .loop .from) h (l .loop .inv .0) (f .before .before .lowest .ensures) (f .before .if1 .left) in
-    less 4096 (l .loop .from) h up (f .before .if1 .left)
+    less heads (l .loop .from) h up (f .before .if1 .left)
 
 -- src/lib.rt:77:5
 loop-again : tie.Need-loop-again Inv-loop μ-loop
