@@ -1,6 +1,6 @@
 // A Drain of a network: turn after turn until one stops, with the set of heads and the table of neighbours that the turns use.
 use headset::SET_WORDS;
-use near::TABLE_BYTES;
+use near::TABLE_ENTRIES;
 use network::ACCEPTED_AT;
 use network::DELIVERED_AT;
 use network::Drained;
@@ -18,7 +18,7 @@ ghost use Rattle.drains.specs.SoFar.{DrainedTo};
 fn take_turns(
     words: &mut [u64],
     s: Sizes,
-    near: &[u8],
+    near: &[u16],
     ready: &mut [u64],
     budget: u32,
     ledger: &mut [u64],
@@ -68,7 +68,7 @@ pub fn drain_network(words: &mut [u64], s: Sizes, budget: u32, ledger: &mut [u64
             stop: Stop::Emptied,
         };
     }
-    let mut near = [0u8; TABLE_BYTES];
+    let mut near = [0u16; TABLE_ENTRIES];
     near::fill(&mut near, s);
     let mut ready = [0u64; SET_WORDS];
     headset::fill(&mut ready, packet::torus::nodes(s));

@@ -67,7 +67,7 @@ pub fn first_move(words: &[u64], s: Sizes) -> Found
 }
 
 // The first permitted move of the head of queue q of node n, if it has one.
-pub fn first_in_queue(words: &[u64], s: Sizes, near: &[u8], n: u64, q: u64) -> Found
+pub fn first_in_queue(words: &[u64], s: Sizes, near: &[u16], n: u64, q: u64) -> Found
     requires { ⌜ QueueOf (shapeOf s) (now words) n q ⌝ }
     requires { ⌜ Near (shapeOf s) (now near) ⌝ }
     ensures { λ r. ⌜ r ≡ firstInQueue (shapeOf s) (now (words .entry)) n q ⌝ }

@@ -91,7 +91,7 @@ pub fn flow_rules(words: &[u64], s: Sizes, n: u64, q: u64, o: u64) -> u64
 
 // Whether the flow rule lets a head of queue q of node n go by output o, which is one of its routes. The target's node comes out
 // of a table.
-pub fn may_flow(words: &[u64], s: Sizes, near: &[u8], n: u64, q: u64, o: u64) -> bool
+pub fn may_flow(words: &[u64], s: Sizes, near: &[u16], n: u64, q: u64, o: u64) -> bool
     requires { ⌜ QueueOf (shapeOf s) (now words) n o ⌝ }
     requires { ⌜ Near (shapeOf s) (now near) ⌝ }
     ensures { λ r. ⌜ r ≡ eqb (flowRules (shapeOf s) (now (words .entry)) n q o) 0 ⌝ }

@@ -1,4 +1,4 @@
--- A table of neighbours: byte directions * n + d is the neighbour of node n in direction d. Order: its first bytes; one byte more; what is
+-- A table of neighbours: entry directions * n + d is the neighbour of node n in direction d. Order: its first entries; one more; what is
 -- read from it. Assumes nothing.
 use mathlib.Core.Path.{_≡_, ap, ap₂, _∙_}
 use mathlib.Core.List.{List}
@@ -11,9 +11,9 @@ use lib.Seq.{getD-set-same, getD-set-other}
 use Rattle.network.specs.Sizes.{Shape, nodes, mostNodes, directions}
 use Rattle.network.specs.Torus.{neighbour}
 
--- its first bytes, so many of them
+-- its first entries, so many of them
 pub record NearTo (S : Shape) (count : ℕ) (near : List ℕ) : Type 0 where
-  pub bytes : length near ≡ directions * mostNodes
+  pub entries : length near ≡ directions * mostNodes
   pub at : (i : ℕ) → i < count → getD near i 0 ≡ neighbour S (i % directions) (i / directions)
 
 -- for all nodes
@@ -21,20 +21,20 @@ abbrev pub Near : Shape → List ℕ → Type 0
 Near S near = NearTo S (directions * nodes S) near
 
 pub near-none : (S : Shape) (near : List ℕ) → length near ≡ directions * mostNodes → NearTo S 0 near
-near-none S near e = record { bytes = e; at = λ i h. absurd (not-suc-le-zero h) }
+near-none S near e = record { entries = e; at = λ i h. absurd (not-suc-le-zero h) }
 
 pub near-more : {S : Shape} {near : List ℕ} (k v d n : ℕ) → NearTo S k near → k < directions * mostNodes → k ≡ directions * n + d → d < directions → v ≡ neighbour S d n
     → NearTo S (k + 1) (set near k v)
 near-more {S} {near} k v d n t h ek hd ev =
     record {
-      bytes = length-set near k v ∙ t .bytes;
+      entries = length-set near k v ∙ t .entries;
       at = λ i l. go i l (ℕ-discrete i k);
     }
   where
     go : (i : ℕ) → i < k + 1 → Dec (i ≡ k) → getD (set near k v) i 0 ≡ neighbour S (i % directions) (i / directions)
     go i l (yes e) =
         ap (λ (j : ℕ). getD (set near k v) j 0) e
-        ∙ getD-set-same near k v 0 (let w = t .bytes in omega arith)
+        ∙ getD-set-same near k v 0 (let w = t .entries in omega arith)
         ∙ ev
         ∙ ap₂ (neighbour S) (let x : d ≡ i % directions = omega arith in x) (let y : n ≡ i / directions = omega arith in y)
     go i l (no ne) = getD-set-other near k i v 0 ne ∙ t .at i (omega arith)

@@ -1,4 +1,4 @@
-// A table of neighbours, for a search that asks for them again and again: byte DIRECTIONS * n + d of as many lent bytes as there can be is the neighbour of node n in
+// A table of neighbours, for a search that asks for them again and again: entry DIRECTIONS * n + d of as many as there can be is the neighbour of node n in
 // direction d. It is filled without a division.
 use network::DIMENSIONS;
 use network::DIRECTIONS;
@@ -17,34 +17,34 @@ ghost use Rattle.network.specs.Torus.{coordinate, neighbour};
 ghost use Rattle.packet.specs.Geometry.{nodeAt, OnTorus};
 ghost use Rattle.near.specs.Table.{Near, NearTo};
 
-// A byte for each direction of each node of the largest network.
-pub const TABLE_BYTES: usize = (DIRECTIONS * MOST_NODES) as usize;
+// An entry for each direction of each node of the largest network.
+pub const TABLE_ENTRIES: usize = (DIRECTIONS * MOST_NODES) as usize;
 
-// One byte more: the neighbour of node n in direction d, where its coordinate in that dimension is c.
-fn fill_byte(near: &mut [u8], s: Sizes, d: u64, n: u64, c: u64)
+// One entry more: the neighbour of node n in direction d, where its coordinate in that dimension is c.
+fn fill_entry(near: &mut [u16], s: Sizes, d: u64, n: u64, c: u64)
     requires { ⌜ T (sizesInRange (shapeOf s)) × (d < directions) × (n < nodes (shapeOf s)) × (c ≡ coordinate (shapeOf s) (dimensionOf d) n) ⌝ }
     requires { ⌜ (n < mostNodes) × NearTo (shapeOf s) (directions * n + d) (now near) ⌝ }
     ensures { λ _. ⌜ NearTo (shapeOf s) (directions * n + d + 1) (now (near .exit)) ⌝ }
 {
     let there = step_from(s, d, n, c);
-    near[(DIRECTIONS * n + d) as usize] = there as u8;
+    near[(DIRECTIONS * n + d) as usize] = there as u16;
 }
 
-// The bytes of node n, which stands there.
-fn fill_node(near: &mut [u8], s: Sizes, n: u64, place: Place)
+// The entries of node n, which stands there.
+fn fill_node(near: &mut [u16], s: Sizes, n: u64, place: Place)
     requires { ⌜ OnTorus s place × (nodeAt s place ≡ n) × NearTo (shapeOf s) (directions * n) (now near) ⌝ }
     ensures { λ _. ⌜ NearTo (shapeOf s) (directions * (n + 1)) (now (near .exit)) ⌝ }
 {
     let at = place.at;
     let mut d = 0;
     while d < DIRECTIONS {
-        fill_byte(near, s, d, n, at[(d / 2) as usize]);
+        fill_entry(near, s, d, n, at[(d / 2) as usize]);
         d += 1;
     }
 }
 
 // The neighbours of all nodes.
-pub fn fill(near: &mut [u8], s: Sizes)
+pub fn fill(near: &mut [u16], s: Sizes)
     requires { ⌜ T (sizesInRange (shapeOf s)) × (length (now near) ≡ directions * mostNodes) ⌝ }
     ensures { λ _. ⌜ Near (shapeOf s) (now (near .exit)) ⌝ }
 {
@@ -61,7 +61,7 @@ pub fn fill(near: &mut [u8], s: Sizes)
 }
 
 // The neighbour of node n in direction d, out of the table.
-pub fn look_up(near: &[u8], d: u64, n: u64) -> u64
+pub fn look_up(near: &[u16], d: u64, n: u64) -> u64
     requires { ⌜ (d < directions) × (n < mostNodes) × (length (now near) ≡ directions * mostNodes) ⌝ }
     ensures { λ r. ⌜ ((S : Shape) → Near S (now (near .entry)) → n < nodes S → r ≡ neighbour S d n) ⌝ }
 {

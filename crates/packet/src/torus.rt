@@ -32,7 +32,7 @@ pub fn size(s: Sizes, i: u64) -> u64
 
 // By how much the numbers of two nodes differ that are one step apart in dimension i.
 pub fn weight(s: Sizes, i: u64) -> u64
-    requires { ⌜ i < dimensions ⌝ }
+    requires { ⌜ T (sizesInRange (shapeOf s)) × (i < dimensions) ⌝ }
     ensures { λ r. ⌜ r ≡ weight (shapeOf s .sizes) i ⌝ }
 {
     if i == 0 { 1 } else { s.x }

@@ -23,7 +23,7 @@ fn mark_head(ready: &mut [u64], s: Sizes, n: u64, q: u64)
 }
 
 // The head of the queue at which a packet that left node n by output o has arrived becomes a member.
-fn mark_arrival(ready: &mut [u64], s: Sizes, near: &[u8], n: u64, o: u64)
+fn mark_arrival(ready: &mut [u64], s: Sizes, near: &[u16], n: u64, o: u64)
     requires { ⌜ IsSet (now ready) ⌝ }
     requires { ⌜ T (sizesInRange (shapeOf s)) × (n < nodes (shapeOf s)) × (o < queues) ⌝ }
     requires { ⌜ Near (shapeOf s) (now near) ⌝ }
@@ -37,7 +37,7 @@ fn mark_arrival(ready: &mut [u64], s: Sizes, near: &[u8], n: u64, o: u64)
 }
 
 // The heads of the node whose output leads into queue q of node n, where a slot is free now, become members.
-fn mark_feeder(ready: &mut [u64], s: Sizes, near: &[u8], n: u64, q: u64)
+fn mark_feeder(ready: &mut [u64], s: Sizes, near: &[u16], n: u64, q: u64)
     requires { ⌜ IsSet (now ready) ⌝ }
     requires { ⌜ T (sizesInRange (shapeOf s)) × (n < nodes (shapeOf s)) ⌝ }
     requires { ⌜ Near (shapeOf s) (now near) ⌝ }
@@ -53,7 +53,7 @@ fn mark_feeder(ready: &mut [u64], s: Sizes, near: &[u8], n: u64, q: u64)
 }
 
 // The heads that a move may have given a permitted move become members.
-pub fn mark(ready: &mut [u64], s: Sizes, near: &[u8], n: u64, q: u64, o: u64)
+pub fn mark(ready: &mut [u64], s: Sizes, near: &[u16], n: u64, q: u64, o: u64)
     requires { ⌜ IsSet (now ready) ⌝ }
     requires { ⌜ T (sizesInRange (shapeOf s)) × (n < nodes (shapeOf s)) × (q < queues) × (o < queues) ⌝ }
     requires { ⌜ Near (shapeOf s) (now near) ⌝ }
@@ -65,7 +65,7 @@ pub fn mark(ready: &mut [u64], s: Sizes, near: &[u8], n: u64, q: u64, o: u64)
 }
 
 // First's move, found from the lowest head of the set on. Heads of the set that have none are taken out of it.
-pub fn next_move(words: &[u64], s: Sizes, near: &[u8], ready: &mut [u64]) -> Found
+pub fn next_move(words: &[u64], s: Sizes, near: &[u16], ready: &mut [u64]) -> Found
     requires { ⌜ Network (shapeOf s) (now words) ⌝ }
     requires { ⌜ Near (shapeOf s) (now near) ⌝ }
     requires { ⌜ Covered (shapeOf s) (now words) (now ready) ⌝ }

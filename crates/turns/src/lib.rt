@@ -26,7 +26,7 @@ pub enum Turn {
 fn turn_by_move(
     words: &mut [u64],
     s: Sizes,
-    near: &[u8],
+    near: &[u16],
     ready: &mut [u64],
     room: u64,
     n: u64,
@@ -58,7 +58,7 @@ fn turn_by_move(
 pub fn take_turn(
     words: &mut [u64],
     s: Sizes,
-    near: &[u8],
+    near: &[u16],
     ready: &mut [u64],
     budget: u64,
     room: u64,

@@ -85,7 +85,7 @@ look-up-requires c κs =
     let places = asked (a .s) (a .words .now) (a .n) (a .o) (f .pre .0) in
     let h = places .1 in
     let few = sizes-nodes (a .s) (places .0) in
-    (omega arith, omega arith, f .pre .1 .bytes)
+    (omega arith, omega arith, f .pre .1 .entries)
 
 capacity-requires : tie.Need-capacity-requires
 capacity-requires c κs = search needs

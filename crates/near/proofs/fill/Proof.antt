@@ -1,4 +1,4 @@
--- `near::fill` meets its contract. The loop's invariant: the bytes of the nodes before n are there, and the walk has come to n. Assumes nothing.
+-- `near::fill` meets its contract. The loop's invariant: the entries of the nodes before n are there, and the walk has come to n. Assumes nothing.
 use borrow.Author.Needs.{needs}
 use mathlib.Core.Path.{_≡_, subst}
 use Prim.Native.Nat.{ℕ, _*_, _-_, _<_, _≤_}

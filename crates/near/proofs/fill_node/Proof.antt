@@ -1,4 +1,4 @@
--- `near::fill_node` meets its contract. The loop's invariant: the bytes of the directions before d are there. Assumes nothing.
+-- `near::fill_node` meets its contract. The loop's invariant: the entries of the directions before d are there. Assumes nothing.
 use borrow.Author.Needs.{needs}
 use mathlib.Core.Path.{_≡_, ap, subst, _∙_}
 use mathlib.Core.List.{List}
@@ -31,21 +31,21 @@ coordinate-at : (c : tie.Start Inv-loop μ-loop) (d : ℕ) → d < directions
     → getD (c .args .place .at) (dimensionOf d) 0 ≡ coordinate (shapeOf (c .args .s)) (dimensionOf d) (c .args .n)
 coordinate-at c d h = place-coordinate (c .pre .0) (dimensionOf d) (dimension-lt d h) ∙ ap (coordinate (shapeOf (c .args .s)) (dimensionOf d)) (c .pre .1)
 
--- the same bytes, counted otherwise
+-- the same entries, counted otherwise
 counted : {S : Shape} {a b : ℕ} {near : List ℕ} → a ≡ b → NearTo S a near → NearTo S b near
 counted {S} {near = near} e t = subst (λ (k : ℕ). NearTo S k near) e t
 
 loop-holds : tie.Need-loop-holds Inv-loop μ-loop
 loop-holds c = (counted (omega arith) (c .before .before .pre .2), omega arith)
 
-mul-fill-byte : tie.Need-mul-fill-byte Inv-loop μ-loop
-mul-fill-byte c = search needs
+mul-fill-entry : tie.Need-mul-fill-entry Inv-loop μ-loop
+mul-fill-entry c = search needs
 
-array-read-fill-byte : tie.Need-array-read-fill-byte Inv-loop μ-loop
-array-read-fill-byte c = search needs
+array-read-fill-entry : tie.Need-array-read-fill-entry Inv-loop μ-loop
+array-read-fill-entry c = search needs
 
-fill-byte-requires : tie.Need-fill-byte-requires Inv-loop μ-loop
-fill-byte-requires c κs =
+fill-entry-requires : tie.Need-fill-entry-requires Inv-loop μ-loop
+fill-entry-requires c κs =
     let st = c .before .before .before .before .before in
     let h = c .before .loop-test .taken in
     ((st .pre .0 .sizes, h, is-node st, coordinate-at st (c .before .before .loop .d) h), (few st, c .before .before .loop .inv .0))
@@ -59,12 +59,12 @@ loop-less c = search needs
 loop-again : tie.Need-loop-again Inv-loop μ-loop
 loop-again c =
     let h = c .before .before .before .before .loop-test .taken in
-    (counted (omega arith) (c .before .before .fill-byte .ensures), omega arith)
+    (counted (omega arith) (c .before .before .fill-entry .ensures), omega arith)
 
 same-length : tie.Need-same-length Inv-loop μ-loop
 same-length c =
-    let a = c .before .loop .inv .0 .bytes in
-    let b = c .before .before .before .before .pre .2 .bytes in
+    let a = c .before .loop .inv .0 .entries in
+    let b = c .before .before .before .before .pre .2 .entries in
     omega arith
 
 returns : tie.Need-returns Inv-loop μ-loop
@@ -76,4 +76,4 @@ returns c =
 pub fill-node-spec : {M : Type 1} → statement M
 fill-node-spec =
     tie.close
-    (tie.spec Inv-loop μ-loop loop-holds mul-fill-byte array-read-fill-byte fill-byte-requires add-d loop-less loop-again same-length returns)
+    (tie.spec Inv-loop μ-loop loop-holds mul-fill-entry array-read-fill-entry fill-entry-requires add-d loop-less loop-again same-length returns)

@@ -10,26 +10,24 @@ use Rattle.near.proofs.look_up.Tie as tie
 use Rattle.near.proofs.look_up.Reads as reads
 use Rattle.near.proofs.look_up.Lts as lts
 
--- src/near.rt:57:11
 mul-result : tie.Need-mul-result
 mul-result c = search needs
 
--- src/near.rt:57:11
 add-result : tie.Need-add-result
 add-result c = search needs
 
--- src/near.rt:57:5
+mul-result-2 : tie.Need-mul-result-2
+mul-result-2 c = search needs
+
 shared-slice-read-result : tie.Need-shared-slice-read-result
 shared-slice-read-result c = search needs
 
--- src/near.rt:57:5
 cast-result : tie.Need-cast-result
 cast-result c = omega (arith, c .shared-slice-known .given (directions * c .before .args .n + c .before .args .d))
 
--- src/near.rt:53:1
 returns : tie.Need-returns
 returns c S t h = near-at S (now (c .before .args .near)) (c .before .args .n) (c .before .args .d) t h (c .before .pre .0)
 
 pub look-up-spec : {M : Type 1} → statement M
 look-up-spec =
-    tie.close (tie.spec mul-result add-result shared-slice-read-result cast-result returns)
+    tie.close (tie.spec mul-result add-result mul-result-2 shared-slice-read-result cast-result returns)

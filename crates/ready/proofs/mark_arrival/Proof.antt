@@ -28,7 +28,7 @@ sub-look-up c = search needs
 look-up-requires : tie.Need-look-up-requires
 look-up-requires c κs =
     let a = c .before .before .before in
-    (omega arith, lt-of-lt-of-le (a .pre .1 .0 .1) (sizes-nodes (a .args .s) (a .pre .1 .0 .0)), a .pre .1 .1 .bytes)
+    (omega arith, lt-of-lt-of-le (a .pre .1 .0 .1) (sizes-nodes (a .args .s) (a .pre .1 .0 .0)), a .pre .1 .1 .entries)
 
 -- the neighbour that was looked up
 abbrev start : tie.After-look-up → tie.Start

@@ -8,7 +8,7 @@ returns : tie.Need-returns
 returns c = let a = c .before .args in weight-x (a .s) (a .i) (c .if1 .taken)
 
 returns-2 : tie.Need-returns-2
-returns-2 c = let a = c .before .args in weight-y (a .s) (a .i) (other-dimension (a .i) (c .before .pre) (c .if1 .left))
+returns-2 c = let a = c .before .args in weight-y (a .s) (a .i) (other-dimension (a .i) (c .before .pre .1) (c .if1 .left))
 
 pub weight-spec : {M : Type 1} → statement M
 weight-spec = tie.close (tie.spec returns returns-2)

@@ -1,4 +1,4 @@
--- `near::fill_byte` meets its contract. Assumes nothing.
+-- `near::fill_entry` meets its contract. Assumes nothing.
 use borrow.Author.Needs.{needs}
 use mathlib.Core.Path.{refl}
 use Prim.Native.Nat.{_+_, _*_}
@@ -6,17 +6,15 @@ use native.Mathlib.Omega.{arith}
 use Rattle.network.specs.Sizes.{shapeOf, directions}
 use Rattle.network.specs.TorusLaws.{sizes-torus, sizes-nodes, neighbour-lt}
 use Rattle.near.specs.Table.{near-more}
-use Rattle.near.proofs.fill_byte.Statement.{statement}
-use Rattle.near.proofs.fill_byte.Tie as tie
-use Rattle.near.proofs.fill_byte.Reads as reads
-use Rattle.near.proofs.fill_byte.Lts as lts
+use Rattle.near.proofs.fill_entry.Statement.{statement}
+use Rattle.near.proofs.fill_entry.Tie as tie
+use Rattle.near.proofs.fill_entry.Reads as reads
+use Rattle.near.proofs.fill_entry.Lts as lts
 use Rattle.packet.proofs.torus.step_from.Reads as step-from-reads
 
--- src/near.rt:22:9
 step-from-requires : tie.Need-step-from-requires
 step-from-requires c κs = search needs
 
--- src/near.rt:23:34
 cast-near : tie.Need-cast-near
 cast-near c =
     let a = c .before .before in
@@ -25,29 +23,27 @@ cast-near c =
     let m = sizes-nodes (a .args .s) (a .pre .0 .0) in
     omega arith
 
--- src/near.rt:23:11
 mul-near : tie.Need-mul-near
 mul-near c = search needs
 
--- src/near.rt:23:11
 add-near : tie.Need-add-near
 add-near c = search needs
 
--- src/near.rt:23:5
+mul-near-2 : tie.Need-mul-near-2
+mul-near-2 c = search needs
+
 slice-write-near : tie.Need-slice-write-near
 slice-write-near c = search needs
 
--- src/near.rt:17:1
 same-length : tie.Need-same-length
 same-length c = search needs
 
--- src/near.rt:17:1
 returns : tie.Need-returns
 returns c =
     let a = c .before .before in
     near-more (directions * a .args .n + a .args .d) (c .step-from .result) (a .args .d) (a .args .n) (a .pre .1 .1) (omega arith) refl (a .pre .0 .1) (c .step-from .ensures)
 
-pub fill-byte-spec : {M : Type 1} → statement M
-fill-byte-spec =
+pub fill-entry-spec : {M : Type 1} → statement M
+fill-entry-spec =
     tie.close
-    (tie.spec step-from-requires cast-near mul-near add-near slice-write-near same-length returns)
+    (tie.spec step-from-requires cast-near mul-near add-near mul-near-2 slice-write-near same-length returns)
