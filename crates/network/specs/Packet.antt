@@ -33,10 +33,7 @@ tag p = p / product fields
 unfoldable pub destination : ℕ → ℕ
 destination p = digit fields destinationField p
 
--- R62, two's complement: the number that an offset's field stands for, half of the values below 0, and the field of a number
-abbrev pub halfOffsets : ℕ
-halfOffsets = offsetValues / 2
-
+-- R62, two's complement: the number that an offset's field stands for, and the field of a number
 unfoldable pub signed : ℕ → ℤ
 signed b = cond (ltb (2 * b) offsetValues) (pos b) (negsuc (offsetValues - 1 - b))
 

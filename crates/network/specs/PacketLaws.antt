@@ -15,7 +15,7 @@ use Rattle.base.specs.Tests.{allOf}
 use Rattle.base.specs.Sums.{sumBelow, sum-change, sum-most, term-le}
 use Rattle.network.specs.Sizes.{dimensions, directions, dimensionOf, isPlus, plus, minus}
 use Rattle.base.specs.Digits.{product, digit, putDigit, weight, Positive, positive-by, digit-weight, digit-lt, digit-put-same, digit-put-other, put-put, put-comm, put-digit, above-put}
-use Rattle.network.specs.Packet.{offsetValues, destinationValues, halfOffsets, fields, offsetField, destinationField, withOffsets, signed, unsigned, packetWord, tag, destination, offset, withOffset, distance, forward, backward, hops, heading, hopsLeft, work, shrunk, hop, label, shorterWay}
+use Rattle.network.specs.Packet.{offsetValues, destinationValues, fields, offsetField, destinationField, withOffsets, signed, unsigned, packetWord, tag, destination, offset, withOffset, distance, forward, backward, hops, heading, hopsLeft, work, shrunk, hop, label, shorterWay}
 
 -- a choice whose test is known
 chosen : {A : Type 0} (b : Bool) (x y : A) → b ≡ true → cond b x y ≡ x
@@ -26,7 +26,10 @@ passed-over b x y e = ap (λ c. cond c x y) e
 
 -- Signed offsets ----------------------------------------------------------------------------------------------------------------------
 
--- the numbers that an offset's field stands for
+-- the numbers that an offset's field stands for: half of them are below 0
+abbrev pub halfOffsets : ℕ
+halfOffsets = offsetValues / 2
+
 pub record OffsetRange (z : ℤ) : Type 0 where
   pub most : forward z < halfOffsets
   pub least : backward z ≤ halfOffsets

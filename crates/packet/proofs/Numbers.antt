@@ -14,8 +14,8 @@ use mir.Syntax.{w64}
 use mir.Val.{Fits, SFits, toZ, ofZ}
 use mir.Facts.{toZ-ofZ, toZ-pos}
 use borrow.Author.Tests.{ltb-true, ltb-false, lt-ltb, le-ltb}
-use Rattle.network.specs.Packet.{signed, unsigned, forward, backward, shrunk, halfOffsets, offsetValues}
-use Rattle.network.specs.PacketLaws.{OffsetRange, signed-small, signed-large, signed-range, shrunk-range}
+use Rattle.network.specs.Packet.{signed, unsigned, forward, backward, shrunk, offsetValues}
+use Rattle.network.specs.PacketLaws.{halfOffsets, OffsetRange, signed-small, signed-large, signed-range, shrunk-range}
 
 -- the number that the bits of z stand for
 abbrev pub again : ℤ → ℤ

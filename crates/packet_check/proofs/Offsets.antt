@@ -11,8 +11,8 @@ use Rattle.base.specs.Tests.{and-l, and-r, and-i}
 use Rattle.base.specs.Bools.{same-test, and-stop}
 use Rattle.network.specs.Sizes.{plus, minus, largestRing}
 use Rattle.base.specs.Digits.{digit}
-use Rattle.network.specs.Packet.{fields, offsetField, signed, forward, backward, offset, hops, halfOffsets, offsetValues}
-use Rattle.network.specs.PacketLaws.{signed-small, signed-large, hops-plus, hops-minus}
+use Rattle.network.specs.Packet.{fields, offsetField, signed, forward, backward, offset, hops, offsetValues}
+use Rattle.network.specs.PacketLaws.{halfOffsets, signed-small, signed-large, hops-plus, hops-minus}
 use Rattle.packet.specs.GeometryLaws.{moved-is}
 use Rattle.packet_check.specs.PacketLimits.{OneWay}
 

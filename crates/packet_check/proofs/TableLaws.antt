@@ -9,7 +9,7 @@ use native.Mathlib.Omega.{arith}
 use lib.Dec.{T}
 use lib.ListN.{length, getD, set, length-set}
 use lib.Seq.{getD-set-same, getD-set-other}
-use Rattle.network.specs.Packet.{halfOffsets}
+use Rattle.network.specs.PacketLaws.{halfOffsets}
 use Rattle.base.specs.Digits.{weight}
 use Rattle.network.specs.Sizes.{shapeOf, sizesInRange, size, dimensions}
 use Rattle.network.specs.TorusLaws.{inRange-size}

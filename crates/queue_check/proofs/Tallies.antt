@@ -16,8 +16,8 @@ use Rattle.base.specs.Tests.{allBelow, allOf}
 use Rattle.base.specs.Sums.{sumBelow, sumOf}
 use Rattle.base.specs.Bools.{and-stop, and-on, fails-at}
 use Rattle.network.specs.Sizes.{dimensions, largestCapacity}
-use Rattle.network.specs.Packet.{halfOffsets, work}
-use Rattle.network.specs.PacketLaws.{hopsLeft-most}
+use Rattle.network.specs.Packet.{work}
+use Rattle.network.specs.PacketLaws.{halfOffsets, hopsLeft-most}
 use Rattle.network.specs.Layout.{countOf, packetsOf}
 use Rattle.network.specs.LayoutLaws.{length-packetsOf}
 use Rattle.queue_check.specs.declared.Tally.{Tally}

@@ -11,17 +11,5 @@ slice-aggregate-write-all c =
     let a = c .before .before in
     sym (length-take-le (a .args .at) (now (a .args .out)) (a .pre))
 
-write-all-requires : tie.Need-write-all-requires
-write-all-requires c κs = search needs
-
-tell-unwritten-requires : tie.Need-tell-unwritten-requires
-tell-unwritten-requires c κs = search needs
-
-returns : tie.Need-returns
-returns c = search needs
-
-returns-2 : tie.Need-returns-2
-returns-2 c = search needs
-
 pub write-first-spec : {M : Type 1} → statement M
-write-first-spec = tie.close (tie.spec slice-aggregate-write-all write-all-requires tell-unwritten-requires returns returns-2)
+write-first-spec = tie.close (tie.spec slice-aggregate-write-all (λ c κs. search needs) (λ c κs. search needs) (λ c. search needs) (λ c. search needs))

@@ -13,15 +13,6 @@ use Rattle.bench_c.specs.OutLaws.{look-cleared, look-told}
 use Rattle.bench_c.proofs.bench_look.Statement.{statement}
 use Rattle.bench_c.proofs.bench_look.Tie as tie
 
-open-requires : tie.Need-open-requires
-open-requires c κs = search needs
-
-enum-known-opened : tie.Need-enum-known-opened
-enum-known-opened c = search needs
-
-enum-known-opened-2 : tie.Need-enum-known-opened-2
-enum-known-opened-2 c = search needs
-
 look-rules-requires : tie.Need-look-rules-requires
 look-rules-requires c κs =
     let o = c .before in
@@ -86,9 +77,9 @@ pub bench-look-spec : {M : Type 1} → statement M
 bench-look-spec =
     tie.close
     (tie.spec
-    open-requires
-    enum-known-opened
-    enum-known-opened-2
+    (λ c κs. search needs)
+    (λ c. search needs)
+    (λ c. search needs)
     look-rules-requires
     returns
     queue-start-requires

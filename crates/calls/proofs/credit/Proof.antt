@@ -16,15 +16,6 @@ use Rattle.calls.proofs.credit.Tie as tie
 with-values : {w : List ℕ} {n o : ℕ} {said : Credit} → said ≡ creditAnswer w n o → (said ≡ creditAnswer w n o) × CreditTells w n o said
 with-values {w} {n} {o} e = (e, subst (λ (r : Credit). CreditTells w n o r) (sym e) (credit-tells w n o))
 
-open-requires : tie.Need-open-requires
-open-requires c κs = search needs
-
-enum-known-opened : tie.Need-enum-known-opened
-enum-known-opened c = search needs
-
-enum-known-opened-2 : tie.Need-enum-known-opened-2
-enum-known-opened-2 c = search needs
-
 credit-rules-requires : tie.Need-credit-rules-requires
 credit-rules-requires c κs =
     let o = c .before in
@@ -71,9 +62,9 @@ pub credit-spec : {M : Type 1} → statement M
 credit-spec =
     tie.close
     (tie.spec
-    open-requires
-    enum-known-opened
-    enum-known-opened-2
+    (λ c κs. search needs)
+    (λ c. search needs)
+    (λ c. search needs)
     credit-rules-requires
     returns
     free-slots-requires

@@ -16,23 +16,11 @@ use Rattle.calls.proofs.drain.Tie as tie
 told : (w : List ℕ) (budget room : ℕ) (said : Drained) → said ≡ drainAnswer w budget room → DrainTells w budget room said
 told w budget room said e = subst (λ (r : Drained). DrainTells w budget room r) (sym e) (drain-tells w budget room)
 
-open-requires : tie.Need-open-requires
-open-requires c κs = search needs
-
-enum-known-opened : tie.Need-enum-known-opened
-enum-known-opened c = search needs
-
-enum-known-opened-2 : tie.Need-enum-known-opened-2
-enum-known-opened-2 c = search needs
-
 drain-network-requires : tie.Need-drain-network-requires
 drain-network-requires c κs =
     let o = c .before .before .before in
     let k = is-open (o .before .before .«open» .ensures) (o .opened2 .given .1) in
     k .network
-
-same-length : tie.Need-same-length
-same-length c = search needs
 
 returns : tie.Need-returns
 returns c =
@@ -42,12 +30,6 @@ returns c =
     let x = drain-broken (now (a .words)) (a .budget) (now (a .ledger)) (broken k) in
     let says = ap Drained.Refused (sym (k .says)) ∙ x .says in
     (says, (x .leaves, (x .writes, told _ _ _ _ says)))
-
-same-length-2 : tie.Need-same-length-2
-same-length-2 c = search needs
-
-same-length-3 : tie.Need-same-length-3
-same-length-3 c = search needs
 
 returns-2 : tie.Need-returns-2
 returns-2 c =
@@ -63,12 +45,12 @@ pub drain-spec : {M : Type 1} → statement M
 drain-spec =
     tie.close
     (tie.spec
-    open-requires
-    enum-known-opened
-    enum-known-opened-2
+    (λ c κs. search needs)
+    (λ c. search needs)
+    (λ c. search needs)
     drain-network-requires
-    same-length
+    (λ c. search needs)
     returns
-    same-length-2
-    same-length-3
+    (λ c. search needs)
+    (λ c. search needs)
     returns-2)

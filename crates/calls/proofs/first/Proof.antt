@@ -16,15 +16,6 @@ use Rattle.calls.proofs.first.Tie as tie
 with-values : {w : List ℕ} {said : Found} → said ≡ firstAnswer w → (said ≡ firstAnswer w) × FirstTells w said
 with-values {w} e = (e, subst (λ (r : Found). FirstTells w r) (sym e) (first-tells w))
 
-open-requires : tie.Need-open-requires
-open-requires c κs = search needs
-
-enum-known-opened : tie.Need-enum-known-opened
-enum-known-opened c = search needs
-
-enum-known-opened-2 : tie.Need-enum-known-opened-2
-enum-known-opened-2 c = search needs
-
 first-move-requires : tie.Need-first-move-requires
 first-move-requires c κs =
     let o = c .before in
@@ -47,9 +38,9 @@ pub first-spec : {M : Type 1} → statement M
 first-spec =
     tie.close
     (tie.spec
-    open-requires
-    enum-known-opened
-    enum-known-opened-2
+    (λ c κs. search needs)
+    (λ c. search needs)
+    (λ c. search needs)
     first-move-requires
     returns
     returns-2)

@@ -8,15 +8,6 @@ use Rattle.checker.specs.Opening.{broken, is-open, is-shut}
 use Rattle.calls.proofs.look_refusal.Statement.{statement}
 use Rattle.calls.proofs.look_refusal.Tie as tie
 
-open-requires : tie.Need-open-requires
-open-requires c κs = search needs
-
-enum-known-opened : tie.Need-enum-known-opened
-enum-known-opened c = search needs
-
-enum-known-opened-2 : tie.Need-enum-known-opened-2
-enum-known-opened-2 c = search needs
-
 look-rules-requires : tie.Need-look-rules-requires
 look-rules-requires c κs =
     let o = c .before in
@@ -41,9 +32,9 @@ pub look-refusal-spec : {M : Type 1} → statement M
 look-refusal-spec =
     tie.close
     (tie.spec
-    open-requires
-    enum-known-opened
-    enum-known-opened-2
+    (λ c κs. search needs)
+    (λ c. search needs)
+    (λ c. search needs)
     look-rules-requires
     returns
     returns-2)

@@ -12,9 +12,6 @@ use Rattle.calls.specs.Returns.{make-wrong-size, make-short, make-made}
 use Rattle.calls.proofs.make.Statement.{statement}
 use Rattle.calls.proofs.make.Tie as tie
 
-in-range-requires : tie.Need-in-range-requires
-in-range-requires c κs = search needs
-
 returns : tie.Need-returns
 returns c =
     let a = c .before .before .before .args in
@@ -42,9 +39,6 @@ write-empty-requires c κs =
     let d = c .before .before .need in
     (true-T _ (ranged (c .before .before .before)), subst (λ (n : ℕ). n ≤ length (now (a .words))) (d .ensures) (c .before .if2 .left))
 
-same-length : tie.Need-same-length
-same-length c = search needs
-
 returns-3 : tie.Need-returns-3
 returns-3 c =
     let a = c .before .before .before .before .before .before .before .before .before .args in
@@ -57,10 +51,10 @@ pub make-spec : {M : Type 1} → statement M
 make-spec =
     tie.close
     (tie.spec
-    in-range-requires
+    (λ c κs. search needs)
     returns
     need-requires
     returns-2
     write-empty-requires
-    same-length
+    (λ c. search needs)
     returns-3)

@@ -17,23 +17,11 @@ use Rattle.calls.proofs.move_packet.Tie as tie
 told : (w : List ℕ) (n q o : ℕ) (said : Moved) → said ≡ moveAnswer w n q o → MoveTells w n q o said
 told w n q o said e = subst (λ (r : Moved). MoveTells w n q o r) (sym e) (move-tells w n q o)
 
-open-requires : tie.Need-open-requires
-open-requires c κs = search needs
-
-enum-known-opened : tie.Need-enum-known-opened
-enum-known-opened c = search needs
-
-enum-known-opened-2 : tie.Need-enum-known-opened-2
-enum-known-opened-2 c = search needs
-
 move-rules-requires : tie.Need-move-rules-requires
 move-rules-requires c κs =
     let o = c .before .before in
     let k = is-open (o .before .before .«open» .ensures) (o .opened2 .given .1) in
     k .network
-
-same-length : tie.Need-same-length
-same-length c = search needs
 
 returns : tie.Need-returns
 returns c =
@@ -53,9 +41,6 @@ make-move-requires c κs =
     let k = is-open (o .before .before .«open» .ensures) (o .opened2 .given .1) in
     (k .network, permitted-of (shapeOf (o .opened2 .given .0 .0)) (now (a .words)) (a .node) (a .queue) (a .output) (sym (t .ensures) ∙ c .before .if1 .left))
 
-same-length-2 : tie.Need-same-length-2
-same-length-2 c = search needs
-
 returns-2 : tie.Need-returns-2
 returns-2 c =
     let m = c .before .before .before .make-move in
@@ -68,9 +53,6 @@ returns-2 c =
     (sym (t .ensures) ∙ e .if1 .left) (c .if2 .taken) (m .ensures .1) in
     (x .says, (m .ensures .0 ∙ x .leaves, told _ _ _ _ _ (x .says)))
 
-same-length-3 : tie.Need-same-length-3
-same-length-3 c = search needs
-
 returns-3 : tie.Need-returns-3
 returns-3 c =
     let o = c .before in
@@ -79,9 +61,6 @@ returns-3 c =
     let x = move-refused (now (a .words)) (a .node) (a .queue) (a .output) (o .opened .given .0 .0)
     (move-broken (now (a .words)) (a .node) (a .queue) (a .output) (broken k) ∙ k .says) (k .refused) in
     (x .says, (x .leaves, told _ _ _ _ _ (x .says)))
-
-same-length-4 : tie.Need-same-length-4
-same-length-4 c = search needs
 
 returns-4 : tie.Need-returns-4
 returns-4 c =
@@ -99,16 +78,16 @@ pub move-packet-spec : {M : Type 1} → statement M
 move-packet-spec =
     tie.close
     (tie.spec
-    open-requires
-    enum-known-opened
-    enum-known-opened-2
+    (λ c κs. search needs)
+    (λ c. search needs)
+    (λ c. search needs)
     move-rules-requires
-    same-length
+    (λ c. search needs)
     returns
     make-move-requires
-    same-length-2
+    (λ c. search needs)
     returns-2
-    same-length-3
+    (λ c. search needs)
     returns-3
-    same-length-4
+    (λ c. search needs)
     returns-4)

@@ -9,23 +9,11 @@ use Rattle.checker.specs.Opening.{broken, is-open, is-shut}
 use Rattle.calls.proofs.offer.Statement.{statement}
 use Rattle.calls.proofs.offer.Tie as tie
 
-open-requires : tie.Need-open-requires
-open-requires c κs = search needs
-
-enum-known-opened : tie.Need-enum-known-opened
-enum-known-opened c = search needs
-
-enum-known-opened-2 : tie.Need-enum-known-opened-2
-enum-known-opened-2 c = search needs
-
 offer-rules-requires : tie.Need-offer-rules-requires
 offer-rules-requires c κs =
     let o = c .before .before in
     let k = is-open (o .before .before .«open» .ensures) (o .opened2 .given .1) in
     k .network
-
-same-length : tie.Need-same-length
-same-length c = search needs
 
 returns : tie.Need-returns
 returns c =
@@ -46,9 +34,6 @@ accept-requires c κs =
     let p = accepting (shapeOf (o .opened2 .given .0 .0)) (now (a .words)) (a .node) (a .destination) (k .network) (sym (t .ensures) ∙ c .before .if1 .left) in
     (k .network, (p .node, (p .addressed, p .free)))
 
-same-length-2 : tie.Need-same-length-2
-same-length-2 c = search needs
-
 returns-2 : tie.Need-returns-2
 returns-2 c =
     let o = c .before in
@@ -57,9 +42,6 @@ returns-2 c =
     let x = offer-refused (now (a .words)) (a .node) (a .destination) (a .tag) (o .opened .given .0 .0)
     (offer-broken (now (a .words)) (a .node) (a .destination) (broken k) ∙ k .says) (k .refused) in
     (x .says, x .leaves)
-
-same-length-3 : tie.Need-same-length-3
-same-length-3 c = search needs
 
 returns-3 : tie.Need-returns-3
 returns-3 c =
@@ -75,14 +57,14 @@ pub offer-spec : {M : Type 1} → statement M
 offer-spec =
     tie.close
     (tie.spec
-    open-requires
-    enum-known-opened
-    enum-known-opened-2
+    (λ c κs. search needs)
+    (λ c. search needs)
+    (λ c. search needs)
     offer-rules-requires
-    same-length
+    (λ c. search needs)
     returns
     accept-requires
-    same-length-2
+    (λ c. search needs)
     returns-2
-    same-length-3
+    (λ c. search needs)
     returns-3)

@@ -30,9 +30,6 @@ raise-requires c κs =
     arrives-may S (a .words .now) (u .push .last .0) (a .n) injectionQueue (p .offered .result) acceptedAt (u .push .ensures)
     (checked-fits S (a .words .now) (a .n) injectionQueue (injection-checked s)) (s .pre .1 .1 .1) (omega arith) (accepted-may (s .pre .0))
 
-same-length : tie.Need-same-length
-same-length c = search needs
-
 returns : tie.Need-returns
 returns c =
     let x = c .before .before in
@@ -43,4 +40,4 @@ returns c =
     (p .offered .ensures) (u .push .ensures) (x .raise .ensures)
 
 pub accept-spec : {M : Type 1} → statement M
-accept-spec = tie.close (tie.spec offered-requires push-requires raise-requires same-length returns)
+accept-spec = tie.close (tie.spec offered-requires push-requires raise-requires (λ c. search needs) returns)

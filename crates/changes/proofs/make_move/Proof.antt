@@ -36,9 +36,6 @@ raise-requires-2 c κs =
     let taken = u .before .before in
     moves-handed (left (taken .before .before .before)) (u .raise .last .0) (u .raise .ensures)
 
-same-length : tie.Need-same-length
-same-length c = search needs
-
 returns : tie.Need-returns
 returns c =
     let x = c .before .before in
@@ -47,16 +44,10 @@ returns c =
     let v = taken .before .before .before in
     (handed-words (left v) (u .raise .last .0) (x .raise2 .last .0) (taken .if1 .taken) (u .raise .ensures) (x .raise2 .ensures), v .pop .ensures .1)
 
-sub-d : tie.Need-sub-d
-sub-d c = search needs
-
 neighbour-requires : tie.Need-neighbour-requires
 neighbour-requires c κs =
     let s = c .before .before .before .before .before .before in
     (s .pre .0 .in-range, omega arith, s .pre .1 .node)
-
-hop-requires : tie.Need-hop-requires
-hop-requires c κs = search needs
 
 push-requires : tie.Need-push-requires
 push-requires c κs =
@@ -74,9 +65,6 @@ raise-requires-3 c κs =
     let else = t .before in
     moves-arrived (left (else .before .before .before)) (t .neighbour .result) (else .if1 .left) (t .neighbour .ensures) (h .hop .result)
     (u .push .last .0) (u .push .ensures)
-
-same-length-2 : tie.Need-same-length-2
-same-length-2 c = search needs
 
 returns-2 : tie.Need-returns-2
 returns-2 c =
@@ -98,12 +86,12 @@ make-move-spec =
     pop-requires
     raise-requires
     raise-requires-2
-    same-length
+    (λ c. search needs)
     returns
-    sub-d
+    (λ c. search needs)
     neighbour-requires
-    hop-requires
+    (λ c κs. search needs)
     push-requires
     raise-requires-3
-    same-length-2
+    (λ c. search needs)
     returns-2)

@@ -12,9 +12,6 @@ use Rattle.changes.proofs.write_empty.Tie as tie
 need-requires : tie.Need-need-requires
 need-requires c κs = c .before .pre .0
 
-clear-requires : tie.Need-clear-requires
-clear-requires c κs = search needs
-
 long : (c : tie.After-clear) → headerWords ≤ length (c .clear .last .0)
 long c =
     let s = c .before .before .before .before in
@@ -38,9 +35,6 @@ slice-write-words-4 c = let l = long (c .before .before) in simp length-set (ome
 slice-write-words-5 : tie.Need-slice-write-words-5
 slice-write-words-5 c = let l = long (c .before .before) in simp length-set (omega arith)
 
-same-length : tie.Need-same-length
-same-length c = search needs
-
 returns : tie.Need-returns
 returns c =
     let k = c .before .before in
@@ -53,11 +47,11 @@ write-empty-spec =
     tie.close
     (tie.spec
     need-requires
-    clear-requires
+    (λ c κs. search needs)
     slice-write-words
     slice-write-words-2
     slice-write-words-3
     slice-write-words-4
     slice-write-words-5
-    same-length
+    (λ c. search needs)
     returns)

@@ -38,15 +38,6 @@ rest m b w v l e = go (decLe w (b - m))
     go (yes h) = le-leb w (b - m) h ∙ sym (le-leb (m + v) b (omega arith))
     go (no g) = lt-leb w (b - m) (omega arith) ∙ sym (lt-leb (m + v) b (omega arith))
 
-shared-slice-read-accepted : tie.Need-shared-slice-read-accepted
-shared-slice-read-accepted c = search needs
-
-shared-slice-read-delivered : tie.Need-shared-slice-read-delivered
-shared-slice-read-delivered c = search needs
-
-shared-slice-read-moves : tie.Need-shared-slice-read-moves
-shared-slice-read-moves c = search needs
-
 returns : tie.Need-returns
 unfolding countersFit accepted
 returns c S eh ew = sym (and-stop _ _ (lt-leb _ _ (c .if1 .taken)))
@@ -59,9 +50,6 @@ returns-3 : tie.Need-returns-3
 unfolding countersFit accepted delivered
 returns-3 c S eh ew =
     sym (and-on _ _ (le-leb _ _ (c .before .before .if1 .left)) ∙ and-stop _ _ (other _ _ _ _ (c .before .if2 .left) (c .if3 .taken) eh))
-
-mul-most : tie.Need-mul-most
-mul-most c = search needs
 
 returns-4 : tie.Need-returns-4
 unfolding countersFit accepted delivered movesMade
@@ -83,12 +71,12 @@ pub counters-fit-spec : {M : Type 1} → statement M
 counters-fit-spec =
     tie.close
     (tie.spec
-    shared-slice-read-accepted
-    shared-slice-read-delivered
-    shared-slice-read-moves
+    (λ c. search needs)
+    (λ c. search needs)
+    (λ c. search needs)
     returns
     returns-2
     returns-3
-    mul-most
+    (λ c. search needs)
     returns-4
     returns-5)

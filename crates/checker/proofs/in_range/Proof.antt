@@ -21,9 +21,6 @@ in-a-row : (c : tie.Start) → sizesInRange (shapeOf (c .args .s))
 unfolding sizesInRange allOf shapeOf
 in-a-row c = and-all (within 1 16 (c .args .s .x)) (within 1 16 (c .args .s .y)) _
 
-within-requires : tie.Need-within-requires
-within-requires c κs = search needs
-
 returns : tie.Need-returns
 returns c =
     sym
@@ -32,9 +29,6 @@ returns c =
 
 passed1 : (c : tie.Else1) → within 1 16 (c .before .before .args .s .x) ≡ true
 passed1 c = sym (c .before .within .ensures) ∙ not-false _ (c .if1 .left)
-
-within-requires-2 : tie.Need-within-requires-2
-within-requires-2 c κs = search needs
 
 returns-2 : tie.Need-returns-2
 returns-2 c =
@@ -45,9 +39,6 @@ returns-2 c =
 
 passed2 : (c : tie.Else2) → within 1 16 (c .before .before .before .before .args .s .y) ≡ true
 passed2 c = sym (c .before .within2 .ensures) ∙ not-false _ (c .if2 .left)
-
-within-requires-3 : tie.Need-within-requires-3
-within-requires-3 c κs = search needs
 
 returns-3 : tie.Need-returns-3
 returns-3 c =
@@ -60,9 +51,6 @@ returns-3 c =
 passed3 : (c : tie.Else3) → within 2 8 (c .before .before .before .before .before .before .args .s .escape) ≡ true
 passed3 c = sym (c .before .within3 .ensures) ∙ not-false _ (c .if3 .left)
 
-within-requires-4 : tie.Need-within-requires-4
-within-requires-4 c κs = search needs
-
 returns-4 : tie.Need-returns-4
 returns-4 c =
     sym
@@ -74,9 +62,6 @@ returns-4 c =
 
 passed4 : (c : tie.Else4) → within 1 8 (c .before .before .before .before .before .before .before .before .args .s .adaptive) ≡ true
 passed4 c = sym (c .before .within4 .ensures) ∙ not-false _ (c .if4 .left)
-
-within-requires-5 : tie.Need-within-requires-5
-within-requires-5 c κs = search needs
 
 returns-5 : tie.Need-returns-5
 returns-5 c =
@@ -92,13 +77,13 @@ pub in-range-spec : {M : Type 1} → statement M
 in-range-spec =
     tie.close
     (tie.spec
-    within-requires
+    (λ c κs. search needs)
     returns
-    within-requires-2
+    (λ c κs. search needs)
     returns-2
-    within-requires-3
+    (λ c κs. search needs)
     returns-3
-    within-requires-4
+    (λ c κs. search needs)
     returns-4
-    within-requires-5
+    (λ c κs. search needs)
     returns-5)

@@ -22,9 +22,6 @@ left : (S : Shape) (w : List ℕ) → EnoughWords S w → isNetwork S w ≡ queu
 unfolding isNetwork
 left S w enough = and-on _ _ (T-true (sizesInRange S) (enough .sizes)) ∙ and-on _ _ (le-leb (need S) (length w) (enough .long))
 
-queues-fit-requires : tie.Need-queues-fit-requires
-queues-fit-requires c κs = search needs
-
 returns : tie.Need-returns
 returns c = sym (left _ _ (c .before .before .before .before .pre) ∙ and-stop _ _ (tally-no _ _ _ _ (c .before .before .queues-fit .ensures) (not-true _ (c .if1 .taken))))
 
@@ -34,9 +31,6 @@ fitting : (c : tie.Else1)
     (packetsHeld (shapeOf (c .before .before .before .before .args .s)) (c .before .before .before .before .args .words .now))
     (workLeft (shapeOf (c .before .before .before .before .args .s)) (c .before .before .before .before .args .words .now))
 fitting c = tally-yes _ _ _ _ (c .before .before .queues-fit .ensures) (not-false _ (c .if1 .left))
-
-rings-have-room-requires : tie.Need-rings-have-room-requires
-rings-have-room-requires c κs = search needs
 
 returns-2 : tie.Need-returns-2
 returns-2 c =
@@ -62,9 +56,9 @@ pub is-network-spec : {M : Type 1} → statement M
 is-network-spec =
     tie.close
     (tie.spec
-    queues-fit-requires
+    (λ c κs. search needs)
     returns
-    rings-have-room-requires
+    (λ c κs. search needs)
     returns-2
     counters-fit-requires
     returns-3)

@@ -59,12 +59,6 @@ begin c = ap shapeOf (c .sizes-of .ensures) ∙ sizes-shape _
 returns : tie.Need-returns
 returns c = sym (first _ _ refl (c .if1 .taken))
 
-sizes-of-requires : tie.Need-sizes-of-requires
-sizes-of-requires c κs = search needs
-
-in-range-requires : tie.Need-in-range-requires
-in-range-requires c κs = search needs
-
 returns-2 : tie.Need-returns-2
 returns-2 c =
     sym (second _ _ (begin (c .before .before)) (c .before .before .before .if1 .left) (sym (c .before .in-range .ensures) ∙ not-true _ (c .if2 .taken)))
@@ -104,8 +98,8 @@ network-refusal-spec =
     tie.close
     (tie.spec
     returns
-    sizes-of-requires
-    in-range-requires
+    (λ c κs. search needs)
+    (λ c κs. search needs)
     returns-2
     need-requires
     returns-3

@@ -5,9 +5,6 @@ use Rattle.checker.specs.Opening.{opened-shut, opened-open, header-long}
 use Rattle.checker.proofs.open.Statement.{statement}
 use Rattle.checker.proofs.open.Tie as tie
 
-network-refusal-requires : tie.Need-network-refusal-requires
-network-refusal-requires c κs = search needs
-
 returns : tie.Need-returns
 returns c = let r = c .before .network-refusal in opened-shut _ _ (r .ensures) (c .if1 .taken)
 
@@ -18,4 +15,4 @@ returns-2 : tie.Need-returns-2
 returns-2 c = let r = c .before .before .network-refusal in opened-open _ _ (sym (r .ensures) ∙ c .before .if1 .left) (c .sizes-of .ensures)
 
 pub open-spec : {M : Type 1} → statement M
-open-spec = tie.close (tie.spec network-refusal-requires returns sizes-of-requires returns-2)
+open-spec = tie.close (tie.spec (λ c κs. search needs) returns sizes-of-requires returns-2)

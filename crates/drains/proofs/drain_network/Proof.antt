@@ -15,12 +15,6 @@ use Rattle.network.specs.TorusLaws.{sizes-torus, sizes-nodes}
 use Rattle.drains.specs.SoFar.{so-far-start, so-far-end}
 use Rattle.drains.proofs.drain_network.Statement.{statement}
 use Rattle.drains.proofs.drain_network.Tie as tie
-use Rattle.drains.proofs.drain_network.Reads as reads
-use Rattle.drains.proofs.drain_network.Lts as lts
-use Rattle.headset.proofs.fill.Reads as fill-reads
-use Rattle.near.proofs.fill.Reads as near-fill-reads
-use Rattle.packet.proofs.torus.nodes.Reads as nodes-reads
-use Rattle.drains.proofs.take_turns.Reads as take-turns-reads
 
 slice-read-accepted : tie.Need-slice-read-accepted
 slice-read-accepted c =
@@ -28,14 +22,12 @@ slice-read-accepted c =
     let h = header-long (shapeOf (a .args .s)) (now (a .args .words)) (a .pre) in
     omega arith
 
--- src/lib.rt:226:20
 slice-read-delivered : tie.Need-slice-read-delivered
 slice-read-delivered c =
     let a = c .before .before .before .before in
     let h = header-long (shapeOf (a .args .s)) (now (a .args .words)) (a .pre) in
     omega arith
 
--- src/lib.rt:227:9
 returns : tie.Need-returns
 unfolding accepted delivered
 returns c =
@@ -46,41 +38,21 @@ returns c =
     so-far-end S (sizes-torus (a .args .s) (a .pre .in-range)) w (a .args .budget) l w l 0 0 Stop.Emptied (so-far-start S w (a .args .budget) l (a .pre))
     (turn-emptied S w _ _ (none-held S w (a .pre) (c .if1 .taken)))
 
--- src/lib.rt:234:24
-slice-aggregate-fill : tie.Need-slice-aggregate-fill
-slice-aggregate-fill c = search needs
-
--- src/lib.rt:234:5
 fill-requires : tie.Need-fill-requires
 fill-requires c κs =
     let a = c .before .before .before .before .before .before in
     (a .pre .in-range, refl)
 
--- src/lib.rt:236:19
-slice-aggregate-fill-2 : tie.Need-slice-aggregate-fill-2
-slice-aggregate-fill-2 c = search needs
-
--- src/lib.rt:236:31
 nodes-requires : tie.Need-nodes-requires
 nodes-requires c κs =
     let a = c .before .before .before .before .before .before .before .before .before in
     a .pre .in-range
 
--- src/lib.rt:236:5
 fill-requires-2 : tie.Need-fill-requires-2
 fill-requires-2 c κs =
     let a = c .before .before .before .before .before .before .before .before .before .before in
     (refl, subst (λ (x : ℕ). x ≤ mostNodes) (sym (c .nodes .ensures)) (sizes-nodes (a .args .s) (a .pre .in-range)))
 
--- src/lib.rt:237:26
-slice-aggregate-take-turns : tie.Need-slice-aggregate-take-turns
-slice-aggregate-take-turns c = search needs
-
--- src/lib.rt:237:33
-slice-aggregate-take-turns-2 : tie.Need-slice-aggregate-take-turns-2
-slice-aggregate-take-turns-2 c = search needs
-
--- src/lib.rt:237:5
 take-turns-requires : tie.Need-take-turns-requires
 take-turns-requires c κs =
     let r = c .before .before .before .before .before in
@@ -95,18 +67,6 @@ take-turns-requires c κs =
       ),
     )
 
--- src/lib.rt:222:1
-same-length : tie.Need-same-length
-same-length c = search needs
-
--- src/lib.rt:222:1
-same-length-2 : tie.Need-same-length-2
-same-length-2 c = search needs
-
--- src/lib.rt:222:1
-returns-2 : tie.Need-returns-2
-returns-2 c = search needs
-
 pub drain-network-spec : {M : Type 1} → statement M
 drain-network-spec =
     tie.close
@@ -114,14 +74,14 @@ drain-network-spec =
     slice-read-accepted
     slice-read-delivered
     returns
-    slice-aggregate-fill
+    (λ c. search needs)
     fill-requires
-    slice-aggregate-fill-2
+    (λ c. search needs)
     nodes-requires
     fill-requires-2
-    slice-aggregate-take-turns
-    slice-aggregate-take-turns-2
+    (λ c. search needs)
+    (λ c. search needs)
     take-turns-requires
-    same-length
-    same-length-2
-    returns-2)
+    (λ c. search needs)
+    (λ c. search needs)
+    (λ c. search needs))

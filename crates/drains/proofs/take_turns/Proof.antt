@@ -14,9 +14,6 @@ use Rattle.network.specs.TorusLaws.{sizes-torus}
 use Rattle.drains.specs.SoFar.{SoFar, so-far-start, next-passed, next-delivered, end-of-it, passed-budget, delivered-budget}
 use Rattle.drains.proofs.take_turns.Statement.{statement}
 use Rattle.drains.proofs.take_turns.Tie as tie
-use Rattle.drains.proofs.take_turns.Reads as reads
-use Rattle.drains.proofs.take_turns.Lts as lts
-use Rattle.turns.proofs.take_turn.Reads as take-turn-reads
 
 abbrev Inv-loop : tie.InvT-loop
 Inv-loop words₀ s near ready₀ budget ledger₀ limit total moves₀ delivered₀ words ready ledger moves delivered =
@@ -30,7 +27,6 @@ abbrev μ-loop : tie.MeasureT-loop
 less : (b m : ℕ) → m < b → b - (m + 1) < b - m
 less b m h = omega arith
 
--- src/lib.rt:172:5
 loop-holds : tie.Need-loop-holds Inv-loop μ-loop
 loop-holds c =
     let a = c .before .before .before .before in (
@@ -38,35 +34,6 @@ loop-holds c =
       (a .pre .1 .1, (refl, refl)),
     )
 
--- src/lib.rt:173:21
-sub-room : tie.Need-sub-room Inv-loop μ-loop
-sub-room c = search needs
-
--- src/lib.rt:174:52
-sub-take-turn : tie.Need-sub-take-turn Inv-loop μ-loop
-sub-take-turn c = search needs
-
--- src/lib.rt:174:13
-take-turn-requires : tie.Need-take-turn-requires Inv-loop μ-loop
-take-turn-requires c κs = search needs
-
--- src/lib.rt:176:27
-enum-known-turn : tie.Need-enum-known-turn Inv-loop μ-loop
-enum-known-turn c = search needs
-
--- src/lib.rt:177:17
-same-length : tie.Need-same-length Inv-loop μ-loop
-same-length c = search needs
-
--- src/lib.rt:177:17
-same-length-2 : tie.Need-same-length-2 Inv-loop μ-loop
-same-length-2 c = search needs
-
--- src/lib.rt:177:17
-same-length-3 : tie.Need-same-length-3 Inv-loop μ-loop
-same-length-3 c = search needs
-
--- src/lib.rt:177:17
 returns : tie.Need-returns Inv-loop μ-loop
 returns c =
     let a = c .before .before .before .before .before .before .before .before .before .before .before .before .before .before .before in
@@ -75,18 +42,6 @@ returns c =
     end-of-it (shapeOf (a .args .s)) (sizes-torus (a .args .s) (a .pre .0 .in-range)) (now (a .args .words)) (a .args .budget) (now (a .args .ledger))
     (l .words) (l .ledger) (l .moves) (l .delivered) (c .before .turn .given .0 .0) (t .result) (t .last .0) (l .inv .0) (t .ensures .0) (t .ensures .1 .0) (c .before .turn .given .1)
 
-enum-told : tie.Need-enum-told Inv-loop μ-loop
-enum-told c = search needs
-
--- src/lib.rt:184:29
-enum-known-turn-2 : tie.Need-enum-known-turn-2 Inv-loop μ-loop
-enum-known-turn-2 c = search needs
-
--- src/lib.rt:185:17
-mul-ledger : tie.Need-mul-ledger Inv-loop μ-loop
-mul-ledger c = search needs
-
--- src/lib.rt:185:17
 slice-write-ledger : tie.Need-slice-write-ledger Inv-loop μ-loop
 slice-write-ledger c =
     let a = c .before .before .before .before .before .before .before .before .before .before .before .before .before .before .before in
@@ -96,15 +51,6 @@ slice-write-ledger c =
     (now (a .args .ledger)) (l .words) (l .ledger) (l .moves) (l .delivered) (c .before .turn2 .given .0 .0) (l .inv .0) (sym (t .ensures .0) ∙ c .before .turn2 .given .1) in
     subst (λ (x : ℕ). l .delivered < x) (sym (l .inv .1 .1 .1)) (r .1)
 
--- src/lib.rt:186:17
-add-delivered : tie.Need-add-delivered Inv-loop μ-loop
-add-delivered c = search needs
-
--- src/lib.rt:189:9
-add-moves : tie.Need-add-moves Inv-loop μ-loop
-add-moves c = search needs
-
--- src/lib.rt:172:5
 loop-less : tie.Need-loop-less Inv-loop μ-loop
 loop-less c =
     let a = c .before .before .before .before .before .before .before .before .before .before .before .before .before in
@@ -119,7 +65,6 @@ loop-less c =
     (x .1 .given .0 .0) (l .inv .0) (sym (t .ensures .0) ∙ x .1 .given .1) .0)
     (c .match .came))
 
--- src/lib.rt:172:5
 loop-again : tie.Need-loop-again Inv-loop μ-loop
 loop-again c =
     let a = c .before .before .before .before .before .before .before .before .before .before .before .before .before in
@@ -148,19 +93,19 @@ take-turns-spec =
     Inv-loop
     μ-loop
     loop-holds
-    sub-room
-    sub-take-turn
-    take-turn-requires
-    enum-known-turn
-    same-length
-    same-length-2
-    same-length-3
+    (λ c. search needs)
+    (λ c. search needs)
+    (λ c κs. search needs)
+    (λ c. search needs)
+    (λ c. search needs)
+    (λ c. search needs)
+    (λ c. search needs)
     returns
-    enum-told
-    enum-known-turn-2
-    mul-ledger
+    (λ c. search needs)
+    (λ c. search needs)
+    (λ c. search needs)
     slice-write-ledger
-    add-delivered
-    add-moves
+    (λ c. search needs)
+    (λ c. search needs)
     loop-less
     loop-again)

@@ -5,19 +5,10 @@ use Rattle.sheet.specs.Puts.{put-behind}
 use Rattle.fields.proofs.put_end.Statement.{statement}
 use Rattle.fields.proofs.put_end.Tie as tie
 
-put-byte-requires : tie.Need-put-byte-requires
-put-byte-requires c κs = search needs
-
-put-byte-requires-2 : tie.Need-put-byte-requires-2
-put-byte-requires-2 c κs = search needs
-
-same-length : tie.Need-same-length
-same-length c = search needs
-
 returns : tie.Need-returns
 returns c =
     let first = c .before .before .before .before .before .before in
     put-behind (first .put-byte .ensures) (c .before .before .put-byte2 .ensures) (omega arith)
 
 pub put-end-spec : {M : Type 1} → statement M
-put-end-spec = tie.close (tie.spec put-byte-requires put-byte-requires-2 same-length returns)
+put-end-spec = tie.close (tie.spec (λ c κs. search needs) (λ c κs. search needs) (λ c. search needs) returns)

@@ -36,9 +36,6 @@ put-end-requires c κs =
     let s = byte .before .before .before in
     third-room (s .args .out .now) (s .args .at) xs (stopWord (s .args .stop)) zs (room s) (byte .put-byte .ensures) (word .put-stop .ensures)
 
-same-length : tie.Need-same-length
-same-length c = search needs
-
 returns : tie.Need-returns
 unfolding fieldsAndEnd
 returns c =
@@ -51,4 +48,4 @@ returns c =
 
 pub put-last-spec : {M : Type 1} → statement M
 put-last-spec =
-    tie.close (tie.spec put-byte-requires put-stop-requires put-end-requires same-length returns)
+    tie.close (tie.spec put-byte-requires put-stop-requires put-end-requires (λ c. search needs) returns)

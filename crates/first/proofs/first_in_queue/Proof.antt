@@ -69,9 +69,6 @@ mul-routes c = let f = c .before .before in omega (arith, two-words f, f .before
 shared-slice-read-routes : tie.Need-shared-slice-read-routes Inv-loop μ-loop
 shared-slice-read-routes c = two-words (c .before .before .before)
 
-routes-requires : tie.Need-routes-requires Inv-loop μ-loop
-routes-requires c κs = search needs
-
 loop-holds : tie.Need-loop-holds Inv-loop μ-loop
 loop-holds c =
     let a = c .before .before .before .before .before .before .before .before .args in
@@ -132,7 +129,7 @@ first-in-queue-spec =
     add-routes
     mul-routes
     shared-slice-read-routes
-    routes-requires
+    (λ c κs. search needs)
     loop-holds
     mul-o
     array-read-o

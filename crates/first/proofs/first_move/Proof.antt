@@ -107,9 +107,6 @@ mul-routes c = let f = c .before .before in omega (arith, two-words f, entry (f 
 shared-slice-read-routes : tie.Need-shared-slice-read-routes Inv-loop2 μ-loop2 Inv-loop μ-loop Inv-search μ-search
 shared-slice-read-routes c = two-words (c .before .before .before)
 
-routes-requires : tie.Need-routes-requires Inv-loop2 μ-loop2 Inv-loop μ-loop Inv-search μ-search
-routes-requires c κs = search needs
-
 -- A queue's routes --------------------------------------------------------------------------------------------------------------------
 
 loop2-holds : tie.Need-loop2-holds Inv-loop2 μ-loop2 Inv-loop μ-loop Inv-search μ-search
@@ -177,9 +174,6 @@ next-start c =
     let f = c .before .before .before in
     let a = entry (f .before .before .before) .args in
     end-at (a .s) (a .words .now) (f .before .before .before .search .n) (f .before .loop .q) (queue-of f) (f .before .loop .start) (c .capacity .result) (f .before .loop .inv .place) (c .capacity .ensures)
-
-capacity-requires : tie.Need-capacity-requires Inv-loop2 μ-loop2 Inv-loop μ-loop Inv-search μ-search
-capacity-requires c κs = search needs
 
 add-start : tie.Need-add-start Inv-loop2 μ-loop2 Inv-loop μ-loop Inv-search μ-search
 add-start c = omega (arith, next-start c, entry (c .before .before .before .before .before .before) .good)
@@ -287,7 +281,7 @@ first-move-spec =
     add-routes
     mul-routes
     shared-slice-read-routes
-    routes-requires
+    (λ c κs. search needs)
     loop2-holds
     mul-o
     array-read-o
@@ -295,7 +289,7 @@ first-move-spec =
     add-k
     loop2-less
     loop2-again
-    capacity-requires
+    (λ c κs. search needs)
     add-start
     add-start-2
     add-q

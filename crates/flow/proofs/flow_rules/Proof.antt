@@ -25,18 +25,12 @@ returns c =
     let w = a .words .now in
     tested S w (a .n) (a .q) (a .o) (freeSlots S w (a .n) (a .o)) (slotsNeeded (a .q) (a .o)) true _ _ refl refl (eq-eqb (a .o) 0 (c .if1 .taken)) refl refl
 
-free-slots-requires : tie.Need-free-slots-requires
-free-slots-requires c κs = search needs
-
 returns-2 : tie.Need-returns-2
 returns-2 c =
     let a = c .before .before .before .before .args in
     let free = c .before .free-slots in
     tested (shapeOf (a .s)) (a .words .now) (a .n) (a .q) (a .o) (free .result) (slotsNeeded (a .q) (a .o)) false true _
     (free .ensures) refl (ne-eqb (a .o) 0 (c .before .before .if1 .left)) (eq-eqb (free .result) 0 (c .if2 .taken)) refl
-
-slots-needed-requires : tie.Need-slots-needed-requires
-slots-needed-requires c κs = search needs
 
 returns-3 : tie.Need-returns-3
 returns-3 c =
@@ -57,4 +51,4 @@ returns-4 c =
     (free .ensures) (needed .ensures) (ne-eqb (a .o) 0 (f .before .before .if1 .left)) (ne-eqb (free .result) 0 (f .if2 .left)) (le-ltb (free .result) (needed .result) (c .if3 .left))
 
 pub flow-rules-spec : {M : Type 1} → statement M
-flow-rules-spec = tie.close (tie.spec returns free-slots-requires returns-2 slots-needed-requires returns-3 returns-4)
+flow-rules-spec = tie.close (tie.spec returns (λ c κs. search needs) returns-2 (λ c κs. search needs) returns-3 returns-4)

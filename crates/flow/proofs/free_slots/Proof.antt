@@ -4,9 +4,6 @@ use Rattle.flow.proofs.Targets.{at-target, target-few, target-free}
 use Rattle.flow.proofs.free_slots.Statement.{statement}
 use Rattle.flow.proofs.free_slots.Tie as tie
 
-capacity-requires : tie.Need-capacity-requires
-capacity-requires c κs = search needs
-
 target-requires : tie.Need-target-requires
 target-requires c κs =
     let f = c .before .before in
@@ -34,4 +31,4 @@ returns c =
     (c .before .before .capacity .result) (c .held-count .result) (c .before .before .capacity .ensures) (c .held-count .ensures)
 
 pub free-slots-spec : {M : Type 1} → statement M
-free-slots-spec = tie.close (tie.spec capacity-requires target-requires held-count-requires sub-result returns)
+free-slots-spec = tie.close (tie.spec (λ c κs. search needs) target-requires held-count-requires sub-result returns)

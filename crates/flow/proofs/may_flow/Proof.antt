@@ -75,9 +75,6 @@ returns c =
     let S = shapeOf (a .s) in
     sym (eq-eqb (flowRules S (a .words .now) (a .n) (a .q) (a .o)) 0 (flow-by S (a .words .now) (a .n) (a .q) (a .o) (λ ne. absurd (ne (c .if1 .taken)))))
 
-sub-look-up : tie.Need-sub-look-up
-sub-look-up c = search needs
-
 look-up-requires : tie.Need-look-up-requires
 look-up-requires c κs =
     let f = c .before .before .before in
@@ -87,17 +84,11 @@ look-up-requires c κs =
     let few = sizes-nodes (a .s) (places .0) in
     (omega arith, omega arith, f .pre .1 .entries)
 
-capacity-requires : tie.Need-capacity-requires
-capacity-requires c κs = search needs
-
 held-count-requires : tie.Need-held-count-requires
 held-count-requires c κs =
     let f = c .before .before .before .before .before in
     let a = f .args in
     at-target (a .s) (a .words .now) (a .n) (a .o) (c .before .look-up .result) (f .pre .0) (is-target (c .before))
-
-slots-needed-requires : tie.Need-slots-needed-requires
-slots-needed-requires c κs = search needs
 
 add-result : tie.Need-add-result
 add-result c =
@@ -123,10 +114,10 @@ may-flow-spec =
     tie.close
     (tie.spec
     returns
-    sub-look-up
+    (λ c. search needs)
     look-up-requires
-    capacity-requires
+    (λ c κs. search needs)
     held-count-requires
-    slots-needed-requires
+    (λ c κs. search needs)
     add-result
     returns-2)

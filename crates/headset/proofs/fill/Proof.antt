@@ -21,12 +21,6 @@ loop-holds c = (filled-none (c .before .args .set .now) (c .before .pre .0), ome
 insert-node-requires : tie.Need-insert-node-requires Inv-loop μ-loop
 insert-node-requires c κs = (c .before .before .loop .inv .0 .set, omega arith)
 
-add-n : tie.Need-add-n Inv-loop μ-loop
-add-n c = omega arith
-
-loop-less : tie.Need-loop-less Inv-loop μ-loop
-loop-less c = omega arith
-
 loop-again : tie.Need-loop-again Inv-loop μ-loop
 loop-again c =
     let turn = c .before .before .before .before .before .loop in
@@ -48,8 +42,8 @@ fill-spec =
     μ-loop
     loop-holds
     insert-node-requires
-    add-n
-    loop-less
+    (λ c. omega arith)
+    (λ c. omega arith)
     loop-again
     same-length
     returns)

@@ -7,14 +7,8 @@ use Rattle.headset.proofs.Sets.{inserted}
 use Rattle.headset.proofs.insert.Statement.{statement}
 use Rattle.headset.proofs.insert.Tie as tie
 
-shl-head : tie.Need-shl-head
-shl-head c = search needs
-
 unite-requires : tie.Need-unite-requires
 unite-requires c κs = (c .before .before .pre .0, (omega arith, shifted-some _ 1 _ (lit< tt) (lit< tt) (omega arith)))
-
-same-length : tie.Need-same-length
-same-length c = search needs
 
 returns : tie.Need-returns
 returns c =
@@ -22,4 +16,4 @@ returns c =
     inserted (start .args .set .now) (c .before .before .unite .last .0) (start .args .h) (c .before .before .unite .ensures)
 
 pub insert-spec : {M : Type 1} → statement M
-insert-spec = tie.close (tie.spec shl-head unite-requires same-length returns)
+insert-spec = tie.close (tie.spec (λ c. search needs) unite-requires (λ c. search needs) returns)

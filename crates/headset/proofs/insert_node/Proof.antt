@@ -8,17 +8,8 @@ use Rattle.headset.proofs.Sets.{node-inserted}
 use Rattle.headset.proofs.insert_node.Statement.{statement}
 use Rattle.headset.proofs.insert_node.Tie as tie
 
-mul-heads : tie.Need-mul-heads
-mul-heads c = search needs
-
-shl-heads : tie.Need-shl-heads
-shl-heads c = search needs
-
 unite-requires : tie.Need-unite-requires
 unite-requires c κs = (c .before .before .pre .0, (omega arith, shifted-some _ queues _ (lit< tt) (lit< tt) (omega arith)))
-
-same-length : tie.Need-same-length
-same-length c = search needs
 
 returns : tie.Need-returns
 returns c =
@@ -26,4 +17,4 @@ returns c =
     node-inserted (start .args .set .now) (c .before .before .unite .last .0) (start .args .n) (c .before .before .unite .ensures)
 
 pub insert-node-spec : {M : Type 1} → statement M
-insert-node-spec = tie.close (tie.spec mul-heads shl-heads unite-requires same-length returns)
+insert-node-spec = tie.close (tie.spec (λ c. search needs) (λ c. search needs) unite-requires (λ c. search needs) returns)

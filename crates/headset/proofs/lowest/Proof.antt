@@ -5,35 +5,14 @@ use Rattle.headset.proofs.Sets.{lowest-empty, lowest-at}
 use Rattle.headset.proofs.lowest.Statement.{statement}
 use Rattle.headset.proofs.lowest.Tie as tie
 
-shared-slice-read-top : tie.Need-shared-slice-read-top
-shared-slice-read-top c = search needs
-
 returns : tie.Need-returns
 returns c =
     let start = c .before .before .before in
     lowest-empty (start .args .set .now) (start .pre) (c .if1 .taken)
 
-lowest-bit-requires : tie.Need-lowest-bit-requires
-lowest-bit-requires c κs = search needs
-
-mul-result : tie.Need-mul-result
-mul-result c = search needs
-
-add-lowest-bit : tie.Need-add-lowest-bit
-add-lowest-bit c = search needs
-
-mul-lowest-bit : tie.Need-mul-lowest-bit
-mul-lowest-bit c = search needs
-
 shared-slice-read-lowest-bit : tie.Need-shared-slice-read-lowest-bit
 shared-slice-read-lowest-bit c =
     omega (arith, c .before .lowest-bit .ensures .some (c .before .before .if1 .left), c .before .before .before .before .before .pre .words)
-
-lowest-bit-requires-2 : tie.Need-lowest-bit-requires-2
-lowest-bit-requires-2 c κs = search needs
-
-add-result : tie.Need-add-result
-add-result c = search needs
 
 returns-2 : tie.Need-returns-2
 returns-2 c =
@@ -46,13 +25,13 @@ pub lowest-spec : {M : Type 1} → statement M
 lowest-spec =
     tie.close
     (tie.spec
-    shared-slice-read-top
+    (λ c. search needs)
     returns
-    lowest-bit-requires
-    mul-result
-    add-lowest-bit
-    mul-lowest-bit
+    (λ c κs. search needs)
+    (λ c. search needs)
+    (λ c. search needs)
+    (λ c. search needs)
     shared-slice-read-lowest-bit
-    lowest-bit-requires-2
-    add-result
+    (λ c κs. search needs)
+    (λ c. search needs)
     returns-2)

@@ -11,12 +11,6 @@ returns c = sym (ended-empty (c .before .args .buf .now) (c .before .args .count
 returns-2 : tie.Need-returns-2
 returns-2 c = sym (ended-over (c .before .before .args .buf .now) (c .before .before .args .count) (c .if2 .taken))
 
-sub-last : tie.Need-sub-last
-sub-last c = search needs
-
-shared-slice-read-if3 : tie.Need-shared-slice-read-if3
-shared-slice-read-if3 c = search needs
-
 returns-3 : tie.Need-returns-3
 returns-3 c =
     let held = c .before .before in
@@ -38,4 +32,4 @@ returns-5 c =
 pub ended-spec : {M : Type 1} → statement M
 ended-spec =
     tie.close
-    (tie.spec returns returns-2 sub-last shared-slice-read-if3 returns-3 returns-4 returns-5)
+    (tie.spec returns returns-2 (λ c. search needs) (λ c. search needs) returns-3 returns-4 returns-5)

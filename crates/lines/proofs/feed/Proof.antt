@@ -5,35 +5,17 @@ use borrow.Author.Needs.{needs}
 use Rattle.lines.proofs.feed.Statement.{statement}
 use Rattle.lines.proofs.feed.Tie as tie
 
-ended-requires : tie.Need-ended-requires
-ended-requires c κs = search needs
-
-same-length : tie.Need-same-length
-same-length c = search needs
-
 returns : tie.Need-returns
 returns c =
     let s = c .before .before .before .before in
     let e = fed-end (s .args .buf .now) (s .args .pending .count) (s .args .b) (c .before .before .if1 .taken) in
     record { leaves = sym (e .1); answers = c .ended .ensures ∙ sym (e .0) }
 
-slice-write-buf : tie.Need-slice-write-buf
-slice-write-buf c = search needs
-
-add-t9 : tie.Need-add-t9
-add-t9 c = search needs
-
-same-length-2 : tie.Need-same-length-2
-same-length-2 c = search needs
-
 returns-2 : tie.Need-returns-2
 returns-2 c =
     let s = c .before .before .before in
     let e = fed-held (s .args .buf .now) (s .args .pending .count) (s .args .b) (c .before .if1 .left) (c .if2 .taken) in
     record { leaves = sym (e .1); answers = sym (e .0) }
-
-add-t11 : tie.Need-add-t11
-add-t11 c = search needs
 
 returns-3 : tie.Need-returns-3
 returns-3 c =
@@ -45,12 +27,12 @@ pub feed-spec : {M : Type 1} → statement M
 feed-spec =
     tie.close
     (tie.spec
-    ended-requires
-    same-length
+    (λ c κs. search needs)
+    (λ c. search needs)
     returns
-    slice-write-buf
-    add-t9
-    same-length-2
+    (λ c. search needs)
+    (λ c. search needs)
+    (λ c. search needs)
     returns-2
-    add-t11
+    (λ c. search needs)
     returns-3)

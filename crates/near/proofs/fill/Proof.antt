@@ -17,9 +17,6 @@ Inv-loop near₀ s count place₀ n₀ near place n = NearTo (shapeOf s) (direct
 abbrev μ-loop : tie.MeasureT-loop
 μ-loop near₀ s count place₀ n₀ near place n = count - n
 
-nodes-requires : tie.Need-nodes-requires Inv-loop μ-loop
-nodes-requires c κs = search needs
-
 -- n is a node
 is-node : (c : tie.In-loop Inv-loop μ-loop) → c .before .loop .n < nodes (shapeOf (c .before .before .before .before .args .s))
 is-node c = let e = c .before .before .nodes .ensures in let h = c .loop-test .taken in omega arith
@@ -52,9 +49,6 @@ loop-again c =
     let h = is-node (c .before .before .before .before .before) in
     (c .before .before .before .fill-node .ensures, walk-next _ _ _ _ (l .inv .1) h (c .next-place .ensures .0) (c .next-place .ensures .1), omega arith)
 
-same-length : tie.Need-same-length Inv-loop μ-loop
-same-length c = search needs
-
 returns : tie.Need-returns Inv-loop μ-loop
 returns c =
     let e = c .before .before .nodes .ensures in
@@ -69,12 +63,12 @@ fill-spec =
     (tie.spec
     Inv-loop
     μ-loop
-    nodes-requires
+    (λ c κs. search needs)
     loop-holds
     fill-node-requires
     next-place-requires
     add-n
     loop-less
     loop-again
-    same-length
+    (λ c. search needs)
     returns)

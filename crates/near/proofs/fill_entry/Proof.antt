@@ -8,12 +8,6 @@ use Rattle.network.specs.TorusLaws.{sizes-torus, sizes-nodes, neighbour-lt}
 use Rattle.near.specs.Table.{near-more}
 use Rattle.near.proofs.fill_entry.Statement.{statement}
 use Rattle.near.proofs.fill_entry.Tie as tie
-use Rattle.near.proofs.fill_entry.Reads as reads
-use Rattle.near.proofs.fill_entry.Lts as lts
-use Rattle.packet.proofs.torus.step_from.Reads as step-from-reads
-
-step-from-requires : tie.Need-step-from-requires
-step-from-requires c κs = search needs
 
 cast-near : tie.Need-cast-near
 cast-near c =
@@ -23,21 +17,6 @@ cast-near c =
     let m = sizes-nodes (a .args .s) (a .pre .0 .0) in
     omega arith
 
-mul-near : tie.Need-mul-near
-mul-near c = search needs
-
-add-near : tie.Need-add-near
-add-near c = search needs
-
-mul-near-2 : tie.Need-mul-near-2
-mul-near-2 c = search needs
-
-slice-write-near : tie.Need-slice-write-near
-slice-write-near c = search needs
-
-same-length : tie.Need-same-length
-same-length c = search needs
-
 returns : tie.Need-returns
 returns c =
     let a = c .before .before in
@@ -46,4 +25,4 @@ returns c =
 pub fill-entry-spec : {M : Type 1} → statement M
 fill-entry-spec =
     tie.close
-    (tie.spec step-from-requires cast-near mul-near add-near mul-near-2 slice-write-near same-length returns)
+    (tie.spec (λ c κs. search needs) cast-near (λ c. search needs) (λ c. search needs) (λ c. search needs) (λ c. search needs) (λ c. search needs) returns)

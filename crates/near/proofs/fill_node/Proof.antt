@@ -38,23 +38,11 @@ counted {S} {near = near} e t = subst (λ (k : ℕ). NearTo S k near) e t
 loop-holds : tie.Need-loop-holds Inv-loop μ-loop
 loop-holds c = (counted (omega arith) (c .before .before .pre .2), omega arith)
 
-mul-fill-entry : tie.Need-mul-fill-entry Inv-loop μ-loop
-mul-fill-entry c = search needs
-
-array-read-fill-entry : tie.Need-array-read-fill-entry Inv-loop μ-loop
-array-read-fill-entry c = search needs
-
 fill-entry-requires : tie.Need-fill-entry-requires Inv-loop μ-loop
 fill-entry-requires c κs =
     let st = c .before .before .before .before .before in
     let h = c .before .loop-test .taken in
     ((st .pre .0 .sizes, h, is-node st, coordinate-at st (c .before .before .loop .d) h), (few st, c .before .before .loop .inv .0))
-
-add-d : tie.Need-add-d Inv-loop μ-loop
-add-d c = search needs
-
-loop-less : tie.Need-loop-less Inv-loop μ-loop
-loop-less c = search needs
 
 loop-again : tie.Need-loop-again Inv-loop μ-loop
 loop-again c =
@@ -76,4 +64,4 @@ returns c =
 pub fill-node-spec : {M : Type 1} → statement M
 fill-node-spec =
     tie.close
-    (tie.spec Inv-loop μ-loop loop-holds mul-fill-entry array-read-fill-entry fill-entry-requires add-d loop-less loop-again same-length returns)
+    (tie.spec Inv-loop μ-loop loop-holds (λ c. search needs) (λ c. search needs) fill-entry-requires (λ c. search needs) (λ c. search needs) loop-again same-length returns)

@@ -7,20 +7,6 @@ use Rattle.network.specs.Sizes.{directions}
 use Rattle.near.specs.Table.{near-at}
 use Rattle.near.proofs.look_up.Statement.{statement}
 use Rattle.near.proofs.look_up.Tie as tie
-use Rattle.near.proofs.look_up.Reads as reads
-use Rattle.near.proofs.look_up.Lts as lts
-
-mul-result : tie.Need-mul-result
-mul-result c = search needs
-
-add-result : tie.Need-add-result
-add-result c = search needs
-
-mul-result-2 : tie.Need-mul-result-2
-mul-result-2 c = search needs
-
-shared-slice-read-result : tie.Need-shared-slice-read-result
-shared-slice-read-result c = search needs
 
 cast-result : tie.Need-cast-result
 cast-result c = omega (arith, c .shared-slice-known .given (directions * c .before .args .n + c .before .args .d))
@@ -30,4 +16,4 @@ returns c S t h = near-at S (now (c .before .args .near)) (c .before .args .n) (
 
 pub look-up-spec : {M : Type 1} → statement M
 look-up-spec =
-    tie.close (tie.spec mul-result add-result mul-result-2 shared-slice-read-result cast-result returns)
+    tie.close (tie.spec (λ c. search needs) (λ c. search needs) (λ c. search needs) (λ c. search needs) cast-result returns)

@@ -8,9 +8,6 @@ use Rattle.packet.proofs.Numbers.{back, range-back}
 use Rattle.packet.proofs.distance.Statement.{statement}
 use Rattle.packet.proofs.distance.Tie as tie
 
-offset-requires : tie.Need-offset-requires
-offset-requires c κs = search needs
-
 nat-abs-requires : tie.Need-nat-abs-requires
 nat-abs-requires c κs = let a = c .before .args in range-back (c .offset .ensures) (offset-range (a .i) (a .p))
 
@@ -21,4 +18,4 @@ returns c =
     c .nat-abs .ensures ∙ ap natAbs (back (c .before .offset .ensures) (offset-range (a .i) (a .p)))
 
 pub distance-spec : {M : Type 1} → statement M
-distance-spec = tie.close (tie.spec offset-requires nat-abs-requires returns)
+distance-spec = tie.close (tie.spec (λ c κs. search needs) nat-abs-requires returns)

@@ -17,9 +17,6 @@ shrunk-is c =
     let a = c .before .before .args in
     c .shrunk .ensures ∙ ap shrunk (back (c .before .offset .ensures) (offset-range (a .i) (a .p)))
 
-offset-requires : tie.Need-offset-requires
-offset-requires c κs = search needs
-
 shrunk-requires : tie.Need-shrunk-requires
 shrunk-requires c κs = let a = c .before .args in range-back (c .offset .ensures) (offset-range (a .i) (a .p))
 
@@ -34,4 +31,4 @@ returns c =
     c .with-offset .ensures ∙ ap (λ z. withOffset (a .i) z (a .p)) (back (shrunk-is (c .before)) (hop-range (a .i) (a .p)))
 
 pub hop-spec : {M : Type 1} → statement M
-hop-spec = tie.close (tie.spec offset-requires shrunk-requires with-offset-requires returns)
+hop-spec = tie.close (tie.spec (λ c κs. search needs) shrunk-requires with-offset-requires returns)

@@ -5,8 +5,8 @@ use native.Mathlib.Omega.{arith}
 use borrow.Author.Needs.{needs}
 use Rattle.base.specs.Sums.{sumBelow, sum-next, sum-most}
 use Rattle.network.specs.Sizes.{dimensions}
-use Rattle.network.specs.Packet.{halfOffsets, distance, hopsLeft}
-use Rattle.network.specs.PacketLaws.{distance-most}
+use Rattle.network.specs.Packet.{distance, hopsLeft}
+use Rattle.network.specs.PacketLaws.{halfOffsets, distance-most}
 use Rattle.packet.proofs.hops_left.Statement.{statement}
 use Rattle.packet.proofs.hops_left.Tie as tie
 
@@ -32,21 +32,12 @@ loop-holds : tie.Need-loop-holds Inv-loop μ-loop
 unfolding hopsBelow sumBelow
 loop-holds c = (refl, omega arith)
 
-distance-requires : tie.Need-distance-requires Inv-loop μ-loop
-distance-requires c κs = search needs
-
 add-hops : tie.Need-add-hops Inv-loop μ-loop
 add-hops c =
     let p = c .before .before .before .args .p in
     let i = c .before .before .loop .i in
     let e = c .distance .ensures in
     omega (arith, c .before .before .loop .inv .0, few p i, distance-most i p, c .before .loop-test .taken)
-
-add-i : tie.Need-add-i Inv-loop μ-loop
-add-i c = search needs
-
-loop-less : tie.Need-loop-less Inv-loop μ-loop
-loop-less c = search needs
 
 loop-again : tie.Need-loop-again Inv-loop μ-loop
 loop-again c =
@@ -67,4 +58,4 @@ returns c =
     c .before .loop .inv .0 ∙ ap (hopsBelow (c .before .before .args .p)) e
 
 pub hops-left-spec : {M : Type 1} → statement M
-hops-left-spec = tie.close (tie.spec Inv-loop μ-loop loop-holds distance-requires add-hops add-i loop-less loop-again returns)
+hops-left-spec = tie.close (tie.spec Inv-loop μ-loop loop-holds (λ c κs. search needs) add-hops (λ c. search needs) (λ c. search needs) loop-again returns)

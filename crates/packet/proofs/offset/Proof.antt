@@ -8,9 +8,6 @@ use Rattle.packet.proofs.Numbers.{back}
 use Rattle.packet.proofs.offset.Statement.{statement}
 use Rattle.packet.proofs.offset.Tie as tie
 
-offset-field-requires : tie.Need-offset-field-requires
-offset-field-requires c κs = search needs
-
 signed-requires : tie.Need-signed-requires
 signed-requires c κs =
     let e = c .offset-field .ensures in
@@ -22,4 +19,4 @@ unfolding offset
 returns c = back (c .signed .ensures) (signed-range (c .before .offset-field .result)) ∙ ap signed (c .before .offset-field .ensures)
 
 pub offset-spec : {M : Type 1} → statement M
-offset-spec = tie.close (tie.spec offset-field-requires signed-requires returns)
+offset-spec = tie.close (tie.spec (λ c κs. search needs) signed-requires returns)

@@ -15,26 +15,11 @@ use Rattle.packet.proofs.shorter_way.Tie as tie
 ahead-lt : (size from to : ℕ) → from < size → (to + (size - from)) % size < size
 ahead-lt size from to h = mod-lt (to + (size - from)) (omega arith)
 
-sub-ahead : tie.Need-sub-ahead
-sub-ahead c = search needs
-
-add-ahead : tie.Need-add-ahead
-add-ahead c = search needs
-
-rem-ahead : tie.Need-rem-ahead
-rem-ahead c = search needs
-
 mul-if1 : tie.Need-mul-if1
 mul-if1 c = let a = c .args in omega (arith, ahead-lt (a .size) (a .from) (a .to) (c .pre .0))
 
-cast-result : tie.Need-cast-result
-cast-result c = search needs
-
 sub-result : tie.Need-sub-result
 sub-result c = let a = c .before .args in omega (arith, ahead-lt (a .size) (a .from) (a .to) (c .before .pre .0))
-
-cast-result-2 : tie.Need-cast-result-2
-cast-result-2 c = search needs
 
 sub-result-2 : tie.Need-sub-result-2
 sub-result-2 c =
@@ -58,13 +43,13 @@ pub shorter-way-spec : {M : Type 1} → statement M
 shorter-way-spec =
     tie.close
     (tie.spec
-    sub-ahead
-    add-ahead
-    rem-ahead
+    (λ c. search needs)
+    (λ c. search needs)
+    (λ c. search needs)
     mul-if1
-    cast-result
+    (λ c. search needs)
     sub-result
-    cast-result-2
+    (λ c. search needs)
     sub-result-2
     returns
     returns-2)

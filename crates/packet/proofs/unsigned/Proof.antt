@@ -9,18 +9,12 @@ use Rattle.packet.proofs.Numbers.{back, natAbs-most, minus-of, plus-of}
 use Rattle.packet.proofs.unsigned.Statement.{statement}
 use Rattle.packet.proofs.unsigned.Tie as tie
 
-nat-abs-requires : tie.Need-nat-abs-requires
-nat-abs-requires c κs = search needs
-
 sub-result : tie.Need-sub-result
 sub-result c =
     let z = c .before .before .args .z in
     let e : c .nat-abs .result ≡ natAbs z = c .nat-abs .ensures ∙ ap natAbs (back refl (c .before .before .pre)) in
     let l = natAbs-most z (c .before .before .pre) in
     omega arith
-
-nat-abs-requires-2 : tie.Need-nat-abs-requires-2
-nat-abs-requires-2 c κs = search needs
 
 returns : tie.Need-returns
 returns c =
@@ -34,4 +28,4 @@ returns-2 c =
     ∙ sym (plus-of refl (c .before .before .pre) (c .before .if1 .left) .unsigned-is)
 
 pub unsigned-spec : {M : Type 1} → statement M
-unsigned-spec = tie.close (tie.spec nat-abs-requires sub-result nat-abs-requires-2 returns returns-2)
+unsigned-spec = tie.close (tie.spec (λ c κs. search needs) sub-result (λ c κs. search needs) returns returns-2)

@@ -20,12 +20,6 @@ unsigned-small c = let e = unsigned-is c in let l = unsigned-lt (c .before .befo
 unsigned2-is : (c : tie.After-unsigned2) → c .unsigned2 .result ≡ unsigned (c .before .before .args .z)
 unsigned2-is c = c .unsigned2 .ensures ∙ ap unsigned (back refl (c .before .before .pre .1))
 
-mul-result : tie.Need-mul-result
-mul-result c = search needs
-
-unsigned-requires : tie.Need-unsigned-requires
-unsigned-requires c κs = search needs
-
 mul-result-2 : tie.Need-mul-result-2
 mul-result-2 c = omega (arith, unsigned-small c)
 
@@ -34,12 +28,6 @@ add-result c = omega (arith, unsigned-small c)
 
 add-result-2 : tie.Need-add-result-2
 add-result-2 c = omega (arith, unsigned-small c)
-
-mul-result-3 : tie.Need-mul-result-3
-mul-result-3 c = search needs
-
-unsigned-requires-2 : tie.Need-unsigned-requires-2
-unsigned-requires-2 c κs = search needs
 
 add-result-3 : tie.Need-add-result-3
 add-result-3 c = omega (arith, unsigned2-is c, unsigned-lt (c .before .before .pre .1))
@@ -58,13 +46,13 @@ pub with-offset-spec : {M : Type 1} → statement M
 with-offset-spec =
     tie.close
     (tie.spec
-    mul-result
-    unsigned-requires
+    (λ c. search needs)
+    (λ c κs. search needs)
     mul-result-2
     add-result
     add-result-2
-    mul-result-3
-    unsigned-requires-2
+    (λ c. search needs)
+    (λ c κs. search needs)
     add-result-3
     returns
     returns-2)

@@ -7,9 +7,6 @@ use Rattle.network.specs.PacketLaws.{hopsLeft-most}
 use Rattle.packet.proofs.work.Statement.{statement}
 use Rattle.packet.proofs.work.Tie as tie
 
-hops-left-requires : tie.Need-hops-left-requires
-hops-left-requires c κs = search needs
-
 add-result : tie.Need-add-result
 add-result c =
     let p = c .before .args .p in
@@ -21,4 +18,4 @@ unfolding work
 returns c = let e : c .hops-left .result ≡ hopsLeft (c .before .args .p) = c .hops-left .ensures in omega arith
 
 pub work-spec : {M : Type 1} → statement M
-work-spec = tie.close (tie.spec hops-left-requires add-result returns)
+work-spec = tie.close (tie.spec (λ c κs. search needs) add-result returns)

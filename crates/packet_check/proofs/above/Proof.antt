@@ -6,9 +6,6 @@ use Rattle.packet_check.proofs.Offsets.{above-is}
 use Rattle.packet_check.proofs.above.Statement.{statement}
 use Rattle.packet_check.proofs.above.Tie as tie
 
-offset-field-requires : tie.Need-offset-field-requires
-offset-field-requires c κs = search needs
-
 add-result : tie.Need-add-result
 add-result c =
     let e = c .offset-field .ensures in
@@ -23,4 +20,4 @@ returns c =
     (omega arith, above-is (a .i) (a .p) _ e (omega arith))
 
 pub above-spec : {M : Type 1} → statement M
-above-spec = tie.close (tie.spec offset-field-requires add-result returns)
+above-spec = tie.close (tie.spec (λ c κs. search needs) add-result returns)

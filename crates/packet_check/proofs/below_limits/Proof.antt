@@ -23,30 +23,6 @@ loop-holds : tie.Need-loop-holds Inv-loop μ-loop
 unfolding allBelow
 loop-holds c = (refl, omega arith)
 
-mul-forward : tie.Need-mul-forward Inv-loop μ-loop
-mul-forward c = search needs
-
-mul-forward-2 : tie.Need-mul-forward-2 Inv-loop μ-loop
-mul-forward-2 c = search needs
-
-array-read-forward : tie.Need-array-read-forward Inv-loop μ-loop
-array-read-forward c = search needs
-
-mul-back : tie.Need-mul-back Inv-loop μ-loop
-mul-back c = search needs
-
-add-back : tie.Need-add-back Inv-loop μ-loop
-add-back c = search needs
-
-mul-back-2 : tie.Need-mul-back-2 Inv-loop μ-loop
-mul-back-2 c = search needs
-
-array-read-back : tie.Need-array-read-back Inv-loop μ-loop
-array-read-back c = search needs
-
-above-requires : tie.Need-above-requires Inv-loop μ-loop
-above-requires c κs = search needs
-
 between-requires : tie.Need-between-requires Inv-loop μ-loop
 between-requires c κs =
     let st = c .before .before .before in
@@ -65,12 +41,6 @@ returns c =
     sym
     (fails-at dimensions _ (c .before .before .before .before .loop .i) (c .before .before .before .loop-test .taken)
     (sym (along (c .before)) ∙ not-true _ (c .if1 .taken)))
-
-add-i : tie.Need-add-i Inv-loop μ-loop
-add-i c = search needs
-
-loop-less : tie.Need-loop-less Inv-loop μ-loop
-loop-less c = search needs
 
 loop-again : tie.Need-loop-again Inv-loop μ-loop
 loop-again c =
@@ -92,17 +62,17 @@ below-limits-spec =
     Inv-loop
     μ-loop
     loop-holds
-    mul-forward
-    mul-forward-2
-    array-read-forward
-    mul-back
-    add-back
-    mul-back-2
-    array-read-back
-    above-requires
+    (λ c. search needs)
+    (λ c. search needs)
+    (λ c. search needs)
+    (λ c. search needs)
+    (λ c. search needs)
+    (λ c. search needs)
+    (λ c. search needs)
+    (λ c κs. search needs)
     between-requires
     returns
-    add-i
-    loop-less
+    (λ c. search needs)
+    (λ c. search needs)
     loop-again
     returns-2)

@@ -15,25 +15,10 @@ returns-2 c =
     let a = c .before .before .args in
     λ f b way e. none-back (a .forward) (a .back) (a .above) f b (omega arith)
 
-add-result : tie.Need-add-result
-add-result c = search needs
-
-add-result-2 : tie.Need-add-result-2
-add-result-2 c = search needs
-
-add-result-3 : tie.Need-add-result-3
-add-result-3 c = search needs
-
-sub-result : tie.Need-sub-result
-sub-result c = search needs
-
-sub-result-2 : tie.Need-sub-result-2
-sub-result-2 c = search needs
-
 returns-3 : tie.Need-returns-3
 returns-3 c =
     let a = c .before .before .args in
     λ f b way e. one-test (a .forward) (a .back) (a .above) f b (omega arith) (omega arith) (omega arith) (omega arith) (omega arith) way e
 
 pub between-spec : {M : Type 1} → statement M
-between-spec = tie.close (tie.spec returns returns-2 add-result add-result-2 sub-result add-result-3 sub-result-2 returns-3)
+between-spec = tie.close (tie.spec returns returns-2 (λ c. search needs) (λ c. search needs) (λ c. search needs) (λ c. search needs) (λ c. search needs) returns-3)

@@ -21,9 +21,6 @@ loop-holds c = filling-start _ _ _ _ (c .before .pre .0)
 small : (c : tie.In-loop Inv-loop μ-loop) → c .before .loop .c < c .before .before .before .args .k
 small c = let st = c .before .before .before in filling-small _ _ _ _ _ _ _ (st .pre .2) (c .before .loop .inv)
 
-mul-loop : tie.Need-mul-loop Inv-loop μ-loop
-mul-loop c = omega arith
-
 mul-tables : tie.Need-mul-tables Inv-loop μ-loop
 mul-tables c =
     let st = c .before .before .before in
@@ -32,26 +29,11 @@ mul-tables c =
     let m = mul-le-mul (st .pre .4) h in
     omega arith
 
-mul-tables-2 : tie.Need-mul-tables-2 Inv-loop μ-loop
-mul-tables-2 c = omega arith
-
-add-tables : tie.Need-add-tables Inv-loop μ-loop
-add-tables c = omega arith
-
-mul-tables-3 : tie.Need-mul-tables-3 Inv-loop μ-loop
-mul-tables-3 c = omega arith
-
 slice-write-tables : tie.Need-slice-write-tables Inv-loop μ-loop
 slice-write-tables c = let w = c .before .loop .inv .words in omega arith
 
 next-on-ring-requires : tie.Need-next-on-ring-requires Inv-loop μ-loop
 next-on-ring-requires c κs = (small c, c .before .before .before .pre .3)
-
-add-j : tie.Need-add-j Inv-loop μ-loop
-add-j c = omega arith
-
-loop-less : tie.Need-loop-less Inv-loop μ-loop
-loop-less c = omega arith
 
 loop-again : tie.Need-loop-again Inv-loop μ-loop
 loop-again c =
@@ -71,15 +53,15 @@ fill-ring-spec =
     Inv-loop
     μ-loop
     loop-holds
-    mul-loop
+    (λ c. omega arith)
     mul-tables
-    mul-tables-2
-    add-tables
-    mul-tables-3
+    (λ c. omega arith)
+    (λ c. omega arith)
+    (λ c. omega arith)
     slice-write-tables
     next-on-ring-requires
-    add-j
-    loop-less
+    (λ c. omega arith)
+    (λ c. omega arith)
     loop-again
     same-length
     returns)

@@ -19,12 +19,6 @@ abbrev μ-loop : tie.MeasureT-loop
 loop-holds : tie.Need-loop-holds Inv-loop μ-loop
 loop-holds c = (tables-none _ _ (c .before .pre .1), omega arith)
 
-size-requires : tie.Need-size-requires Inv-loop μ-loop
-size-requires c κs = search needs
-
-weight-requires : tie.Need-weight-requires Inv-loop μ-loop
-weight-requires c κs = search needs
-
 fill-ring-requires : tie.Need-fill-ring-requires Inv-loop μ-loop
 unfolding nodes
 fill-ring-requires c κs =
@@ -42,12 +36,6 @@ fill-ring-requires c κs =
     let w = weight-most (shapeOf s .sizes) i (torus .positive) in
     let n = sizes-nodes s t in
     (at .loop .inv .0 .words, h, omega arith, omega arith, omega arith)
-
-add-i : tie.Need-add-i Inv-loop μ-loop
-add-i c = search needs
-
-loop-less : tie.Need-loop-less Inv-loop μ-loop
-loop-less c = search needs
 
 loop-again : tie.Need-loop-again Inv-loop μ-loop
 loop-again c =
@@ -74,4 +62,4 @@ returns c =
 pub fill-tables-spec : {M : Type 1} → statement M
 fill-tables-spec =
     tie.close
-    (tie.spec Inv-loop μ-loop loop-holds size-requires weight-requires fill-ring-requires add-i loop-less loop-again same-length returns)
+    (tie.spec Inv-loop μ-loop loop-holds (λ c κs. search needs) (λ c κs. search needs) fill-ring-requires (λ c. search needs) (λ c. search needs) loop-again same-length returns)

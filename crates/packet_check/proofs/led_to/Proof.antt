@@ -17,12 +17,6 @@ abbrev μ-loop : tie.MeasureT-loop
 loop-holds : tie.Need-loop-holds Inv-loop μ-loop
 loop-holds c = (sym (led-none _ _ _), omega arith)
 
-mul-moved : tie.Need-mul-moved Inv-loop μ-loop
-mul-moved c = search needs
-
-array-read-moved : tie.Need-array-read-moved Inv-loop μ-loop
-array-read-moved c = search needs
-
 moved-requires : tie.Need-moved-requires Inv-loop μ-loop
 moved-requires c κs =
     let p = c .before .before .before .before .pre in
@@ -45,12 +39,6 @@ add-node c =
     let l = led-small _ _ (st .args .p) (st .pre .0) (c .before .before .loop .i + 1) in
     omega arith
 
-add-i : tie.Need-add-i Inv-loop μ-loop
-add-i c = search needs
-
-loop-less : tie.Need-loop-less Inv-loop μ-loop
-loop-less c = search needs
-
 loop-again : tie.Need-loop-again Inv-loop μ-loop
 loop-again c = let h = c .before .loop-test .taken in (more c, omega arith)
 
@@ -59,4 +47,4 @@ returns c = c .before .loop .inv .0 ∙ led-all _ _ _ (c .before .before .before
 
 pub led-to-spec : {M : Type 1} → statement M
 led-to-spec =
-    tie.close (tie.spec Inv-loop μ-loop loop-holds mul-moved array-read-moved moved-requires add-node add-i loop-less loop-again returns)
+    tie.close (tie.spec Inv-loop μ-loop loop-holds (λ c. search needs) (λ c. search needs) moved-requires add-node (λ c. search needs) (λ c. search needs) loop-again returns)

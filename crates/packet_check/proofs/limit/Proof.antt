@@ -17,19 +17,10 @@ half-is c = ap (λ (k : ℕ). k / 2) (c .size .ensures)
 more-is : (c : tie.After-size) → c .size .result / 2 + 1 ≡ longest (shapeOf (c .before .args .s)) (dimensionOf (c .before .args .d)) + 1
 more-is c = ap (λ (k : ℕ). k + 1) (half-is c)
 
-size-requires : tie.Need-size-requires
-size-requires c κs = search needs
-
-add-result : tie.Need-add-result
-add-result c = search needs
-
 returns : tie.Need-returns
 returns c =
     let a = c .before .before .args in
     more-is (c .before) ∙ sym (limit-injection (shapeOf (a .s)) (a .q) (a .d) (c .if1 .taken))
-
-sub-own : tie.Need-sub-own
-sub-own c = search needs
 
 returns-2 : tie.Need-returns-2
 returns-2 c =
@@ -41,17 +32,11 @@ returns-3 c =
     let a = c .before .before .before .before .args in
     sym (limit-back (shapeOf (a .s)) (a .q) (a .d) (c .before .before .if1 .left) (c .before .if2 .left) (c .if3 .taken))
 
-add-result-2 : tie.Need-add-result-2
-add-result-2 c = search needs
-
 returns-4 : tie.Need-returns-4
 returns-4 c =
     let a = c .before .before .before .before .before .args in
     more-is (c .before .before .before .before)
     ∙ sym (limit-adaptive (shapeOf (a .s)) (a .q) (a .d) (c .before .before .before .if1 .left) (c .before .if3 .left) (le-ltb directions (a .q) (c .if4 .taken)))
-
-add-result-3 : tie.Need-add-result-3
-add-result-3 c = search needs
 
 returns-5 : tie.Need-returns-5
 returns-5 c =
@@ -68,14 +53,14 @@ pub limit-spec : {M : Type 1} → statement M
 limit-spec =
     tie.close
     (tie.spec
-    size-requires
-    add-result
+    (λ c κs. search needs)
+    (λ c. search needs)
     returns
-    sub-own
+    (λ c. search needs)
     returns-2
     returns-3
-    add-result-2
+    (λ c. search needs)
     returns-4
-    add-result-3
+    (λ c. search needs)
     returns-5
     returns-6)

@@ -16,21 +16,6 @@ abbrev μ-loop : tie.MeasureT-loop
 loop-holds : tie.Need-loop-holds Inv-loop μ-loop
 loop-holds c = limits-none _ _
 
-limit-requires : tie.Need-limit-requires Inv-loop μ-loop
-limit-requires c κs = search needs
-
-mul-limits : tie.Need-mul-limits Inv-loop μ-loop
-mul-limits c = search needs
-
-array-write-limits : tie.Need-array-write-limits Inv-loop μ-loop
-array-write-limits c = search needs
-
-add-d : tie.Need-add-d Inv-loop μ-loop
-add-d c = search needs
-
-loop-less : tie.Need-loop-less Inv-loop μ-loop
-loop-less c = search needs
-
 loop-again : tie.Need-loop-again Inv-loop μ-loop
 loop-again c = limits-more _ _ _ _ _ (c .before .before .loop .inv) (c .before .loop-test .taken) (c .limit .ensures)
 
@@ -38,4 +23,4 @@ returns : tie.Need-returns Inv-loop μ-loop
 returns c = λ e h. c .before .loop .inv .at e (let l = c .loop-test .left in omega arith)
 
 pub limits-of-spec : {M : Type 1} → statement M
-limits-of-spec = tie.close (tie.spec Inv-loop μ-loop loop-holds limit-requires mul-limits array-write-limits add-d loop-less loop-again returns)
+limits-of-spec = tie.close (tie.spec Inv-loop μ-loop loop-holds (λ c κs. search needs) (λ c. search needs) (λ c. search needs) (λ c. search needs) (λ c. search needs) loop-again returns)

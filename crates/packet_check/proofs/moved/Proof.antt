@@ -3,23 +3,15 @@ use borrow.Author.Needs.{needs}
 use mathlib.Core.Path.{_≡_, ap, _∙_}
 use Prim.Native.Nat.{ℕ, _+_, _*_, _-_, _%_, _<_, _≤_}
 use native.Mathlib.Omega.{arith}
+use Rattle.network.specs.PacketLaws.{halfOffsets}
 use Rattle.base.specs.Digits.{weight}
 use Rattle.network.specs.Sizes.{shapeOf, size, dimensions, dimensionOf, largestRing, plus, minus}
-use Rattle.network.specs.Packet.{hops, halfOffsets}
+use Rattle.network.specs.Packet.{hops}
 use Rattle.network.specs.TorusLaws.{inRange-size}
 use Rattle.packet_check.specs.Tables.{ringWords, RingTable}
 use Rattle.packet_check.proofs.TableLaws.{moved-read}
 use Rattle.packet_check.proofs.moved.Statement.{statement}
 use Rattle.packet_check.proofs.moved.Tie as tie
-
-size-requires : tie.Need-size-requires
-size-requires c κs = search needs
-
-mul-result : tie.Need-mul-result
-mul-result c = search needs
-
-above-requires : tie.Need-above-requires
-above-requires c κs = search needs
 
 -- the hops go less than once round, either way
 record Short (i c k above : ℕ) : Type 0 where
@@ -81,9 +73,9 @@ pub moved-spec : {M : Type 1} → statement M
 moved-spec =
     tie.close
     (tie.spec
-    size-requires
-    mul-result
-    above-requires
+    (λ c κs. search needs)
+    (λ c. search needs)
+    (λ c κs. search needs)
     add-result
     add-result-2
     sub-result

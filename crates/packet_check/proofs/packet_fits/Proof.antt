@@ -33,9 +33,6 @@ start c = c .before .before .before
 below : (c : tie.Else1) → belowLimits (start c .args .l) (start c .args .p) ≡ true
 below c = sym (c .before .below-limits .ensures) ∙ not-false _ (c .if1 .left)
 
-destination-requires : tie.Need-destination-requires
-destination-requires c κs = search needs
-
 led-to-requires : tie.Need-led-to-requires
 led-to-requires c κs =
     let st = start (c .before) in
@@ -49,4 +46,4 @@ returns-2 c =
 pub packet-fits-spec : {M : Type 1} → statement M
 packet-fits-spec =
     tie.close
-    (tie.spec below-limits-requires returns destination-requires led-to-requires returns-2)
+    (tie.spec below-limits-requires returns (λ c κs. search needs) led-to-requires returns-2)

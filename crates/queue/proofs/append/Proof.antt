@@ -7,9 +7,6 @@ use Rattle.queue.proofs.StoreLaws.{appended}
 use Rattle.queue.proofs.append.Statement.{statement}
 use Rattle.queue.proofs.append.Tie as tie
 
-slice-read-count : tie.Need-slice-read-count
-slice-read-count c = search needs
-
 add-at : tie.Need-add-at
 unfolding countOf
 add-at c = omega arith
@@ -30,9 +27,6 @@ slice-write-q-2 : tie.Need-slice-write-q-2
 unfolding countOf
 slice-write-q-2 c = simp length-set (omega arith)
 
-same-length : tie.Need-same-length
-same-length c = search needs
-
 returns : tie.Need-returns
 unfolding countOf
 returns c = appended (c .before .args .q .now) (c .before .args .p) (c .before .pre .0) (c .before .pre .1)
@@ -41,11 +35,11 @@ pub append-spec : {M : Type 1} → statement M
 append-spec =
     tie.close
     (tie.spec
-    slice-read-count
+    (λ c. search needs)
     add-at
     mul-q
     slice-write-q
     add-q
     slice-write-q-2
-    same-length
+    (λ c. search needs)
     returns)

@@ -10,12 +10,6 @@ use Rattle.queue.proofs.ClosedForms.{mostNodeWords, product-small, node
 use Rattle.queue.proofs.need.Statement.{statement}
 use Rattle.queue.proofs.need.Tie as tie
 
-nodes-requires : tie.Need-nodes-requires
-nodes-requires c κs = search needs
-
-node-words-requires : tie.Need-node-words-requires
-node-words-requires c κs = search needs
-
 words-small : (c : tie.After-node-words) → c .before .nodes .result * c .node-words .result ≤ mostNodes * mostNodeWords
 words-small c =
     let s = c .before .before .args .s in
@@ -37,4 +31,4 @@ unfolding need
 returns c = ap (λ (k : ℕ). headerWords + k) (ap₂ (λ (k m : ℕ). k * m) (c .before .nodes .ensures) (c .node-words .ensures))
 
 pub need-spec : {M : Type 1} → statement M
-need-spec = tie.close (tie.spec nodes-requires node-words-requires mul-result add-result returns)
+need-spec = tie.close (tie.spec (λ c κs. search needs) (λ c κs. search needs) mul-result add-result returns)

@@ -19,9 +19,6 @@ remove-at-requires c κs =
     let at = placed (s .pre .0) (c .before .before .queue-start .ensures) (c .before .queue-end .ensures) in
     (queue-at at, some-at at (s .pre .1))
 
-same-length : tie.Need-same-length
-same-length c = search needs
-
 returns : tie.Need-returns
 unfolding headLeaves
 returns c =
@@ -32,4 +29,4 @@ returns c =
     (put-at at (drop 1) (c .before .before .remove-at .ensures .0), head-at at (c .before .before .remove-at .ensures .1))
 
 pub pop-spec : {M : Type 1} → statement M
-pop-spec = tie.close (tie.spec queue-start-requires queue-end-requires remove-at-requires same-length returns)
+pop-spec = tie.close (tie.spec queue-start-requires queue-end-requires remove-at-requires (λ c. search needs) returns)

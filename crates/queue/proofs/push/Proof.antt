@@ -20,9 +20,6 @@ append-at-requires c κs =
     let at = placed (s .pre .0) (c .before .before .queue-start .ensures) (c .before .queue-end .ensures) in
     (queue-at at, room-at at (s .pre .1))
 
-same-length : tie.Need-same-length
-same-length c = search needs
-
 returns : tie.Need-returns
 unfolding packetArrives
 returns c =
@@ -33,4 +30,4 @@ returns c =
     put-at at (λ (ps : List ℕ). ps ++ (a .p ∷ [])) (c .before .before .append-at .ensures)
 
 pub push-spec : {M : Type 1} → statement M
-push-spec = tie.close (tie.spec queue-start-requires queue-end-requires append-at-requires same-length returns)
+push-spec = tie.close (tie.spec queue-start-requires queue-end-requires append-at-requires (λ c. search needs) returns)

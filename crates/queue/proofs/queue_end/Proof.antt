@@ -7,12 +7,6 @@ use Rattle.queue.proofs.ClosedForms.{mostWords, end-small}
 use Rattle.queue.proofs.queue_end.Statement.{statement}
 use Rattle.queue.proofs.queue_end.Tie as tie
 
-queue-start-requires : tie.Need-queue-start-requires
-queue-start-requires c κs = search needs
-
-capacity-requires : tie.Need-capacity-requires
-capacity-requires c κs = search needs
-
 sum-small : (c : tie.After-capacity) → c .before .queue-start .result + (1 + c .capacity .result) ≤ mostWords
 unfolding queueEnd queueLength
 sum-small c =
@@ -38,4 +32,4 @@ returns c =
 
 pub queue-end-spec : {M : Type 1} → statement M
 queue-end-spec =
-    tie.close (tie.spec queue-start-requires capacity-requires add-result add-result-2 returns)
+    tie.close (tie.spec (λ c κs. search needs) (λ c κs. search needs) add-result add-result-2 returns)

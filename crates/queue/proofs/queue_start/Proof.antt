@@ -10,12 +10,6 @@ use Rattle.queue.proofs.ClosedForms.{mostNodeWords, mostWords, product-
 use Rattle.queue.proofs.queue_start.Statement.{statement}
 use Rattle.queue.proofs.queue_start.Tie as tie
 
-node-words-requires : tie.Need-node-words-requires
-node-words-requires c κs = search needs
-
-words-before-requires : tie.Need-words-before-requires
-words-before-requires c κs = search needs
-
 sum-small : (c : tie.After-words-before) → c .before .before .args .n * c .before .node-words .result + c .words-before .result ≤ mostWords
 sum-small c =
     let a = c .before .before .args in
@@ -48,4 +42,4 @@ returns c =
 pub queue-start-spec : {M : Type 1} → statement M
 queue-start-spec =
     tie.close
-    (tie.spec node-words-requires words-before-requires mul-result add-result add-result-2 returns)
+    (tie.spec (λ c κs. search needs) (λ c κs. search needs) mul-result add-result add-result-2 returns)

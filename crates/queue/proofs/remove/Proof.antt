@@ -16,12 +16,6 @@ Inv-loop q₀ count oldest i₀ q i = (q ≡ movedUp q₀ i) × (i + 1 ≤ count
 abbrev μ-loop : tie.MeasureT-loop
 μ-loop q₀ count oldest i₀ q i = count - i
 
-slice-read-count : tie.Need-slice-read-count Inv-loop μ-loop
-slice-read-count c = omega arith
-
-slice-read-oldest : tie.Need-slice-read-oldest Inv-loop μ-loop
-slice-read-oldest c = omega arith
-
 loop-holds : tie.Need-loop-holds Inv-loop μ-loop
 unfolding countOf
 loop-holds c = (moved-none (c .before .before .args .q .now), omega arith, refl)
@@ -57,9 +51,6 @@ slice-write-q c = omega arith
 add-i : tie.Need-add-i Inv-loop μ-loop
 unfolding countOf
 add-i c = omega arith
-
-loop-less : tie.Need-loop-less Inv-loop μ-loop
-loop-less c = omega arith
 
 loop-again : tie.Need-loop-again Inv-loop μ-loop
 unfolding countOf
@@ -107,8 +98,8 @@ remove-spec =
     (tie.spec
     Inv-loop
     μ-loop
-    slice-read-count
-    slice-read-oldest
+    (λ c. omega arith)
+    (λ c. omega arith)
     loop-holds
     add-loop
     add-q
@@ -118,7 +109,7 @@ remove-spec =
     mul-q-2
     slice-write-q
     add-i
-    loop-less
+    (λ c. omega arith)
     loop-again
     mul-q-3
     slice-write-q-2

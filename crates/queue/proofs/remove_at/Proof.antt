@@ -7,24 +7,6 @@ use borrow.Author.Needs.{needs}
 use Rattle.queue.proofs.remove_at.Statement.{statement}
 use Rattle.queue.proofs.remove_at.Tie as tie
 
-mul-remove : tie.Need-mul-remove
-mul-remove c = search needs
-
-sub-remove : tie.Need-sub-remove
-sub-remove c = search needs
-
-part-remove-start : tie.Need-part-remove-start
-part-remove-start c = search needs
-
-part-remove-end : tie.Need-part-remove-end
-part-remove-end c = search needs
-
-remove-requires : tie.Need-remove-requires
-remove-requires c κs = search needs
-
-same-length : tie.Need-same-length
-same-length c = search needs
-
 returns : tie.Need-returns
 returns c =
     let a = c .before .before .before .before .before .args in
@@ -34,10 +16,10 @@ pub remove-at-spec : {M : Type 1} → statement M
 remove-at-spec =
     tie.close
     (tie.spec
-    mul-remove
-    sub-remove
-    part-remove-start
-    part-remove-end
-    remove-requires
-    same-length
+    (λ c. search needs)
+    (λ c. search needs)
+    (λ c. search needs)
+    (λ c. search needs)
+    (λ c κs. search needs)
+    (λ c. search needs)
     returns)

@@ -19,9 +19,6 @@ returns c =
 add-result : tie.Need-add-result
 add-result c = omega (arith, few (c .before .before .before) .injection)
 
-sub-result : tie.Need-sub-result
-sub-result c = search needs
-
 adaptive : (c : tie.Then2) → (c .before .before .args .q - 1) * c .before .before .args .s .adaptive ≤ 2 * directions * largestCapacity
 adaptive c =
     let a = c .before .before .args in
@@ -48,9 +45,6 @@ mul-result-2 c = omega (arith, few (c .before .before .before .before) .adaptive
 add-result-4 : tie.Need-add-result-4
 add-result-4 c = let k = few (c .before .before .before .before) in omega (arith, k .injection, k .adaptive)
 
-sub-result-2 : tie.Need-sub-result-2
-sub-result-2 c = search needs
-
 escape : (c : tie.Else2) → (c .before .before .args .q - escapeQueue 0) * c .before .before .args .s .escape ≤ 2 * directions * largestCapacity
 escape c =
     let a = c .before .before .args in
@@ -74,14 +68,14 @@ words-before-spec =
     (tie.spec
     returns
     add-result
-    sub-result
+    (λ c. search needs)
     mul-result
     add-result-2
     returns-2
     add-result-3
     mul-result-2
     add-result-4
-    sub-result-2
+    (λ c. search needs)
     mul-result-3
     add-result-5
     returns-3)

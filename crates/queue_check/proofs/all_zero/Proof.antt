@@ -15,69 +15,24 @@ Inv-loop part from i₀ i = (allOf (eqb 0) (drop i part) ≡ allOf (eqb 0) (drop
 abbrev μ-loop : tie.MeasureT-loop
 μ-loop part from i₀ i = length part - i
 
--- src/lib.rt:49:5
 loop-holds : tie.Need-loop-holds Inv-loop μ-loop
 loop-holds c = (refl, c .pre)
 
--- src/lib.rt:49:11
-add-loop : tie.Need-add-loop Inv-loop μ-loop
-add-loop c = omega arith
-
--- src/lib.rt:50:19
-mul-two : tie.Need-mul-two Inv-loop μ-loop
-mul-two c = omega arith
-
--- src/lib.rt:50:19
-shared-slice-read-two : tie.Need-shared-slice-read-two Inv-loop μ-loop
-shared-slice-read-two c = omega arith
-
--- src/lib.rt:50:34
-add-two : tie.Need-add-two Inv-loop μ-loop
-add-two c = omega arith
-
--- src/lib.rt:50:29
-mul-two-2 : tie.Need-mul-two-2 Inv-loop μ-loop
-mul-two-2 c = omega arith
-
--- src/lib.rt:50:29
-shared-slice-read-two-2 : tie.Need-shared-slice-read-two-2 Inv-loop μ-loop
-shared-slice-read-two-2 c = omega arith
-
--- src/lib.rt:52:13
 returns : tie.Need-returns Inv-loop μ-loop
 returns c =
     let l = c .before .before .before .before in
     pair-stop (l .before .args .part .now) (l .loop .i) (c .before .before .before .loop-test .taken) (c .if1 .taken) ∙ l .loop .inv .0
 
--- src/lib.rt:54:9
-add-i : tie.Need-add-i Inv-loop μ-loop
-add-i c = omega arith
-
--- src/lib.rt:49:5
-loop-less : tie.Need-loop-less Inv-loop μ-loop
-loop-less c = omega arith
-
--- src/lib.rt:49:5
 loop-again : tie.Need-loop-again Inv-loop μ-loop
 loop-again c =
     let l = c .before .before .before .before in
     (pair-on (l .before .args .part .now) (l .loop .i) (c .before .before .before .loop-test .taken) (c .if1 .left) ∙ l .loop .inv .0, omega arith)
 
--- src/lib.rt:57:16
-mul-result : tie.Need-mul-result Inv-loop μ-loop
-mul-result c = omega arith
-
--- src/lib.rt:57:16
-shared-slice-read-result : tie.Need-shared-slice-read-result Inv-loop μ-loop
-shared-slice-read-result c = omega arith
-
--- src/lib.rt:57:9
 returns-2 : tie.Need-returns-2 Inv-loop μ-loop
 returns-2 c =
     let l = c .before .before .before in
     last-word (l .before .args .part .now) (l .loop .i) (c .before .if2 .taken) (c .before .before .loop-test .left) ∙ l .loop .inv .0
 
--- src/lib.rt:44:1
 returns-3 : tie.Need-returns-3 Inv-loop μ-loop
 returns-3 c =
     let l = c .before .before in
@@ -90,17 +45,17 @@ all-zero-spec =
     Inv-loop
     μ-loop
     loop-holds
-    add-loop
-    mul-two
-    shared-slice-read-two
-    add-two
-    mul-two-2
-    shared-slice-read-two-2
+    (λ c. omega arith)
+    (λ c. omega arith)
+    (λ c. omega arith)
+    (λ c. omega arith)
+    (λ c. omega arith)
+    (λ c. omega arith)
     returns
-    add-i
-    loop-less
+    (λ c. omega arith)
+    (λ c. omega arith)
     loop-again
-    mul-result
-    shared-slice-read-result
+    (λ c. omega arith)
+    (λ c. omega arith)
     returns-2
     returns-3)

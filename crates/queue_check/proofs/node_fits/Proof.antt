@@ -26,9 +26,6 @@ abbrev μ-loop : tie.MeasureT-loop
 loop-holds : tie.Need-loop-holds Inv-loop μ-loop
 loop-holds c = node-start _ _ _ _ (c .before .before .pre .2)
 
-capacity-requires : tie.Need-capacity-requires Inv-loop μ-loop
-capacity-requires c κs = search needs
-
 -- where the function starts, the sizes, the words and the node, and what is known of queue q
 abbrev start : tie.At-loop Inv-loop μ-loop → tie.Start Inv-loop μ-loop
 start c = c .before .before .before
@@ -73,12 +70,6 @@ add-end-2 c = omega (arith, ends c)
 mul-queue-fits : tie.Need-mul-queue-fits Inv-loop μ-loop
 mul-queue-fits c = omega (arith, ends c)
 
-sub-queue-fits : tie.Need-sub-queue-fits Inv-loop μ-loop
-sub-queue-fits c = omega arith
-
-part-queue-fits-start : tie.Need-part-queue-fits-start Inv-loop μ-loop
-part-queue-fits-start c = omega arith
-
 part-queue-fits-end : tie.Need-part-queue-fits-end Inv-loop μ-loop
 part-queue-fits-end c = omega (arith, ends c)
 
@@ -96,9 +87,6 @@ queue-fits-requires c κs =
       subst (λ (l : List ℕ). length l ≤ largestCapacity + 1) (sym (part (c .before))) (part-small (S st) (w st) (st .pre .1) (n st) (is-node st) q h),
       st .pre .3,
     )
-
-unfit-requires : tie.Need-unfit-requires Inv-loop μ-loop
-unfit-requires c κs = search needs
 
 found : (c : tie.After-queue-fits Inv-loop μ-loop) → Found (start (c .before .before .before .before)) (c .before .before .before .before .loop .q) (c .queue-fits .result)
 found c = node-tally _ _ _ _ _ _ (part (c .before .before)) (c .queue-fits .ensures)
@@ -152,15 +140,15 @@ node-fits-spec =
     Inv-loop
     μ-loop
     loop-holds
-    capacity-requires
+    (λ c κs. search needs)
     add-end
     add-end-2
     mul-queue-fits
-    sub-queue-fits
-    part-queue-fits-start
+    (λ c. omega arith)
+    (λ c. omega arith)
     part-queue-fits-end
     queue-fits-requires
-    unfit-requires
+    (λ c κs. search needs)
     returns
     add-held
     add-work

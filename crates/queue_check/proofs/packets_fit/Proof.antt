@@ -53,12 +53,6 @@ shared-slice-read-p : tie.Need-shared-slice-read-p Inv-loop μ-loop
 unfolding countOf
 shared-slice-read-p c = omega arith
 
-packet-fits-requires : tie.Need-packet-fits-requires Inv-loop μ-loop
-packet-fits-requires c κs = search needs
-
-unfit-requires : tie.Need-unfit-requires Inv-loop μ-loop
-unfit-requires c κs = search needs
-
 -- the packet has failed, or passed
 abbrev word : tie.After-packet-fits Inv-loop μ-loop → ℕ
 word c = getD (part (start (c .before .before .before))) (c .before .before .before .loop .i + 1) 0
@@ -76,9 +70,6 @@ returns c =
     tally-fails _ _ _ _ (c .unfit .ensures)
     (packets-stop (test st) (part st) (st .pre .2) _ _ (c .before .before .before .before .before .loop .inv .0) (c .before .before .before .before .loop-test .taken)
     (failed (c .before)))
-
-work-requires : tie.Need-work-requires Inv-loop μ-loop
-work-requires c κs = search needs
 
 add-work : tie.Need-add-work Inv-loop μ-loop
 unfolding countOf
@@ -122,10 +113,10 @@ packets-fit-spec =
     add-p
     mul-p
     shared-slice-read-p
-    packet-fits-requires
-    unfit-requires
+    (λ c κs. search needs)
+    (λ c κs. search needs)
     returns
-    work-requires
+    (λ c κs. search needs)
     add-work
     add-i
     loop-less

@@ -35,23 +35,11 @@ shared-slice-read-count : tie.Need-shared-slice-read-count
 unfolding queueLength
 shared-slice-read-count c = let l = start c .pre .1 in omega arith
 
-unfit-requires : tie.Need-unfit-requires
-unfit-requires c κs = search needs
-
 returns : tie.Need-returns
 unfolding countOf
 returns c =
     let st = start (c .before .before) in
     tally-fails _ _ _ _ (c .unfit .ensures) (part-over (S st) (n st) (st .args .q) (st .args .part .now) (st .pre .1) (c .before .if1 .taken))
-
-add-all-zero : tie.Need-add-all-zero
-add-all-zero c = search needs
-
-all-zero-requires : tie.Need-all-zero-requires
-all-zero-requires c κs = search needs
-
-unfit-requires-2 : tie.Need-unfit-requires-2
-unfit-requires-2 c κs = search needs
 
 returns-2 : tie.Need-returns-2
 unfolding countOf
@@ -71,9 +59,6 @@ unfolding countOf
 returns-3 c =
     let st = start (c .before .before .before .before) in
     part-empty (S st) (n st) (st .args .q) (st .args .part .now) (st .pre .1) (c .if3 .taken) (c .before .before .before .if1 .left) (zeros (c .before))
-
-limits-of-requires : tie.Need-limits-of-requires
-limits-of-requires c κs = search needs
 
 packets-fit-requires : tie.Need-packets-fit-requires
 unfolding countOf
@@ -107,13 +92,13 @@ queue-fits-spec =
     tie.close
     (tie.spec
     shared-slice-read-count
-    unfit-requires
+    (λ c κs. search needs)
     returns
-    add-all-zero
-    all-zero-requires
-    unfit-requires-2
+    (λ c. search needs)
+    (λ c κs. search needs)
+    (λ c κs. search needs)
     returns-2
     returns-3
-    limits-of-requires
+    (λ c κs. search needs)
     packets-fit-requires
     returns-4)

@@ -18,9 +18,6 @@ Inv-loop words s tables nodes node held₀ work₀ start₀ place₀ n₀ held w
 abbrev μ-loop : tie.MeasureT-loop
 μ-loop words s tables nodes node held₀ work₀ start₀ place₀ n₀ held work start place n = nodes - n
 
-slice-aggregate-fill-tables : tie.Need-slice-aggregate-fill-tables Inv-loop μ-loop
-slice-aggregate-fill-tables c = search needs
-
 fill-tables-requires : tie.Need-fill-tables-requires Inv-loop μ-loop
 fill-tables-requires c κs = (c .before .before .pre .sizes, refl)
 
@@ -40,9 +37,6 @@ node-words-requires c κs = start c .pre .sizes
 loop-holds : tie.Need-loop-holds Inv-loop μ-loop
 loop-holds c = net-start _ _ (start (c .before) .pre .sizes)
 
-slice-aggregate-node-fits : tie.Need-slice-aggregate-node-fits Inv-loop μ-loop
-slice-aggregate-node-fits c = search needs
-
 -- n is a node, and how many words it takes
 is-node : (c : tie.In-loop Inv-loop μ-loop) → c .before .loop .n < nodes (shapeOf (start (c .before .before .before) .args .s))
 is-node c = let e = c .before .before .before .nodes .ensures in let h = c .loop-test .taken in omega arith
@@ -55,9 +49,6 @@ node-fits-requires c κs =
     let at = c .before in
     let filled = at .before .before .before in
     (at .before .loop .inv .walk .on, start filled .pre, net-first _ _ _ _ _ _ _ (at .before .loop .inv) (is-node at), tables filled)
-
-unfit-requires : tie.Need-unfit-requires Inv-loop μ-loop
-unfit-requires c κs = search needs
 
 returns : tie.Need-returns Inv-loop μ-loop
 returns c =
@@ -119,14 +110,14 @@ queues-fit-spec =
     (tie.spec
     Inv-loop
     μ-loop
-    slice-aggregate-fill-tables
+    (λ c. search needs)
     fill-tables-requires
     nodes-requires
     node-words-requires
     loop-holds
-    slice-aggregate-node-fits
+    (λ c. search needs)
     node-fits-requires
-    unfit-requires
+    (λ c κs. search needs)
     returns
     add-held
     add-work

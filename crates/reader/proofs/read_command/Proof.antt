@@ -7,9 +7,6 @@ use Rattle.reader.proofs.read_command.Tie as tie
 returns : tie.Need-returns
 returns c = too-long (c .before .before .args .line .now) (c .if1 .taken)
 
-field-end-requires : tie.Need-field-end-requires
-field-end-requires c κs = search needs
-
 returns-2 : tie.Need-returns-2
 returns-2 c = no-first-letter (c .before .before .before .before .args .line .now) (c .before .field-end .result) (c .before .field-end .ensures) (c .if2 .taken)
 
@@ -20,9 +17,6 @@ shared-slice-read-command-with : tie.Need-shared-slice-read-command-with
 shared-slice-read-command-with c =
     let f = c .before .before .before .before in
     not-empty (f .before .before .before .args .line .now) (f .field-end .result) (f .field-end .ensures) (c .before .before .before .if2 .left)
-
-command-with-requires : tie.Need-command-with-requires
-command-with-requires c κs = search needs
 
 returns-3 : tie.Need-returns-3
 returns-3 c =
@@ -43,10 +37,10 @@ read-command-spec =
     tie.close
     (tie.spec
     returns
-    field-end-requires
+    (λ c κs. search needs)
     returns-2
     read-numbers-requires
     shared-slice-read-command-with
-    command-with-requires
+    (λ c κs. search needs)
     returns-3
     returns-4)

@@ -9,16 +9,10 @@ use Rattle.reader.proofs.read_number.Tie as tie
 returns : tie.Need-returns
 returns c = no-number (c .before .before .args .field .now) (empty (c .before .before .args .field .now) (c .if1 .taken))
 
-shared-slice-read-if3 : tie.Need-shared-slice-read-if3
-shared-slice-read-if3 c = search needs
-
 returns-2 : tie.Need-returns-2
 returns-2 c =
     let field = c .before .before .before .before .before .args .field .now in
     no-number field (leading field (c .before .before .if2 .taken) (c .if3 .taken))
-
-read-digits-requires : tie.Need-read-digits-requires
-read-digits-requires c κs = search needs
 
 returns-3 : tie.Need-returns-3
 returns-3 c =
@@ -29,4 +23,4 @@ returns-3 c =
 
 pub read-number-spec : {M : Type 1} → statement M
 read-number-spec =
-    tie.close (tie.spec returns shared-slice-read-if3 returns-2 read-digits-requires returns-3)
+    tie.close (tie.spec returns (λ c. search needs) returns-2 (λ c κs. search needs) returns-3)

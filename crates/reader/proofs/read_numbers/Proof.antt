@@ -17,46 +17,13 @@ abbrev μ-loop : tie.MeasureT-loop
 loop-holds : tie.Need-loop-holds Inv-loop μ-loop
 loop-holds c = none (c .before .args .line .now) (c .before .args .start) (c .before .pre)
 
-add-from : tie.Need-add-from Inv-loop μ-loop
-add-from c = omega arith
-
-field-end-requires : tie.Need-field-end-requires Inv-loop μ-loop
-field-end-requires c κs = omega arith
-
-sub-read-number : tie.Need-sub-read-number Inv-loop μ-loop
-sub-read-number c = omega arith
-
-part-read-number-start : tie.Need-part-read-number-start Inv-loop μ-loop
-part-read-number-start c = omega arith
-
 part-read-number-end : tie.Need-part-read-number-end Inv-loop μ-loop
 part-read-number-end c = omega (arith, end-within (c .before .before .before .before .args .line .now) (c .before .before .loop .at + 1) (omega arith))
-
-read-number-requires : tie.Need-read-number-requires Inv-loop μ-loop
-read-number-requires c κs = search needs
-
-enum-known-n : tie.Need-enum-known-n Inv-loop μ-loop
-enum-known-n c = search needs
-
-mul-values : tie.Need-mul-values Inv-loop μ-loop
-mul-values c = search needs
-
-array-write-values : tie.Need-array-write-values Inv-loop μ-loop
-array-write-values c = search needs
-
-enum-told : tie.Need-enum-told Inv-loop μ-loop
-enum-told c = search needs
 
 returns : tie.Need-returns Inv-loop μ-loop
 returns c =
     let f = c .before .before .before .before in
     broken (f .before .before .loop .inv) (f .before .loop-test .taken) (f .field-end .result) (f .field-end .ensures) (c .before .before .read-number .result) (c .before .before .read-number .ensures) (c .enum-told .given .1)
-
-add-count : tie.Need-add-count Inv-loop μ-loop
-add-count c = omega arith
-
-loop-less : tie.Need-loop-less Inv-loop μ-loop
-loop-less c = omega arith
 
 loop-again : tie.Need-loop-again Inv-loop μ-loop
 loop-again c =
@@ -83,18 +50,18 @@ read-numbers-spec =
     Inv-loop
     μ-loop
     loop-holds
-    add-from
-    field-end-requires
-    sub-read-number
-    part-read-number-start
+    (λ c. omega arith)
+    (λ c κs. omega arith)
+    (λ c. omega arith)
+    (λ c. omega arith)
     part-read-number-end
-    read-number-requires
-    enum-known-n
-    mul-values
-    array-write-values
-    enum-told
+    (λ c κs. search needs)
+    (λ c. search needs)
+    (λ c. search needs)
+    (λ c. search needs)
+    (λ c. search needs)
     returns
-    add-count
-    loop-less
+    (λ c. omega arith)
+    (λ c. omega arith)
     loop-again
     returns-2)

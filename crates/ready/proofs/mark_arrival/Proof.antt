@@ -11,20 +11,7 @@ use Rattle.network.specs.TorusLaws.{sizes-torus, sizes-nodes}
 use Rattle.ready.specs.ReadyHeads.{neighbour-node, target-is, arrival-marked}
 use Rattle.ready.proofs.mark_arrival.Statement.{statement}
 use Rattle.ready.proofs.mark_arrival.Tie as tie
-use Rattle.ready.proofs.mark_arrival.Reads as reads
-use Rattle.ready.proofs.mark_arrival.Lts as lts
-use Rattle.near.proofs.look_up.Reads as look-up-reads
-use Rattle.ready.proofs.mark_head.Reads as mark-head-reads
 
--- src/lib.rt:47:9
-returns : tie.Need-returns
-returns c = search needs
-
--- src/lib.rt:49:46
-sub-look-up : tie.Need-sub-look-up
-sub-look-up c = search needs
-
--- src/lib.rt:49:9
 look-up-requires : tie.Need-look-up-requires
 look-up-requires c κs =
     let a = c .before .before .before in
@@ -40,7 +27,6 @@ there-is c =
     let a = start c in
     c .look-up .ensures (shapeOf (a .args .s)) (a .pre .1 .1) (a .pre .1 .0 .1)
 
--- src/lib.rt:50:5
 mark-head-requires : tie.Need-mark-head-requires
 mark-head-requires c κs =
     let l = c .before in
@@ -53,11 +39,6 @@ mark-head-requires c κs =
       ),
     )
 
--- src/lib.rt:40:1
-same-length : tie.Need-same-length
-same-length c = search needs
-
--- src/lib.rt:40:1
 returns-2 : tie.Need-returns-2
 returns-2 c =
     let m = c .before .before in
@@ -69,4 +50,4 @@ returns-2 c =
 pub mark-arrival-spec : {M : Type 1} → statement M
 mark-arrival-spec =
     tie.close
-    (tie.spec returns sub-look-up look-up-requires mark-head-requires same-length returns-2)
+    (tie.spec (λ c. search needs) (λ c. search needs) look-up-requires mark-head-requires (λ c. search needs) returns-2)

@@ -11,32 +11,7 @@ use Rattle.network.specs.TorusLaws.{sizes-torus, sizes-nodes}
 use Rattle.ready.specs.ReadyHeads.{neighbour-node, before-is, feeder-marked}
 use Rattle.ready.proofs.mark_feeder.Statement.{statement}
 use Rattle.ready.proofs.mark_feeder.Tie as tie
-use Rattle.ready.proofs.mark_feeder.Reads as reads
-use Rattle.ready.proofs.mark_feeder.Lts as lts
-use Rattle.headset.proofs.insert_node.Reads as insert-node-reads
-use Rattle.near.proofs.look_up.Reads as look-up-reads
 
--- src/lib.rt:61:9
-returns : tie.Need-returns
-returns c = search needs
-
--- src/lib.rt:63:14
-sub-d : tie.Need-sub-d
-sub-d c = search needs
-
--- src/lib.rt:64:16
-mul-back : tie.Need-mul-back
-mul-back c = search needs
-
--- src/lib.rt:64:29
-sub-back : tie.Need-sub-back
-sub-back c = search needs
-
--- src/lib.rt:64:16
-add-back : tie.Need-add-back
-add-back c = search needs
-
--- src/lib.rt:65:9
 look-up-requires : tie.Need-look-up-requires
 look-up-requires c κs =
     let a = c .before .before .before in
@@ -60,18 +35,12 @@ is-node c =
     let a = start c in
     neighbour-node (shapeOf (a .args .s)) (back (a .args .q)) (a .args .n) (c .look-up .result) (sizes-torus (a .args .s) (a .pre .1 .0 .0)) (a .pre .1 .0 .1) (omega arith) (there-is c)
 
--- src/lib.rt:66:5
 insert-node-requires : tie.Need-insert-node-requires
 insert-node-requires c κs =
     let l = c .before in
     let a = start l in
     (a .pre .0, lt-of-lt-of-le (is-node l) (sizes-nodes (a .args .s) (a .pre .1 .0 .0)))
 
--- src/lib.rt:54:1
-same-length : tie.Need-same-length
-same-length c = search needs
-
--- src/lib.rt:54:1
 returns-2 : tie.Need-returns-2
 returns-2 c =
     let i = c .before .before in
@@ -84,12 +53,12 @@ pub mark-feeder-spec : {M : Type 1} → statement M
 mark-feeder-spec =
     tie.close
     (tie.spec
-    returns
-    sub-d
-    mul-back
-    sub-back
-    add-back
+    (λ c. search needs)
+    (λ c. search needs)
+    (λ c. search needs)
+    (λ c. search needs)
+    (λ c. search needs)
     look-up-requires
     insert-node-requires
-    same-length
+    (λ c. search needs)
     returns-2)

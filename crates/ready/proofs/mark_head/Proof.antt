@@ -9,30 +9,19 @@ use Rattle.network.specs.TorusLaws.{sizes-nodes}
 use Rattle.ready.specs.ReadyHeads.{source-marked}
 use Rattle.ready.proofs.mark_head.Statement.{statement}
 use Rattle.ready.proofs.mark_head.Tie as tie
-use Rattle.ready.proofs.mark_head.Reads as reads
-use Rattle.ready.proofs.mark_head.Lts as lts
-use Rattle.headset.proofs.insert.Reads as insert-reads
 
 few : (c : tie.Start) → c .args .n < mostNodes
 few c = lt-of-lt-of-le (c .pre .1 .1) (sizes-nodes (c .args .s) (c .pre .1 .0))
 
--- src/lib.rt:36:28
 mul-insert : tie.Need-mul-insert
 mul-insert c = omega (arith, few (c .before .before))
 
--- src/lib.rt:36:28
 add-insert : tie.Need-add-insert
 add-insert c = let a = c .before .before in let q = a .pre .1 .2 in omega (arith, few a)
 
--- src/lib.rt:36:5
 insert-requires : tie.Need-insert-requires
 insert-requires c κs = let a = c .before .before in let q = a .pre .1 .2 in (a .pre .0, omega (arith, few a))
 
--- src/lib.rt:31:1
-same-length : tie.Need-same-length
-same-length c = search needs
-
--- src/lib.rt:31:1
 returns : tie.Need-returns
 returns c =
     let a = c .before .before .before .before .before in
@@ -40,4 +29,4 @@ returns c =
     (c .before .before .insert .ensures)
 
 pub mark-head-spec : {M : Type 1} → statement M
-mark-head-spec = tie.close (tie.spec mul-insert add-insert insert-requires same-length returns)
+mark-head-spec = tie.close (tie.spec mul-insert add-insert insert-requires (λ c. search needs) returns)

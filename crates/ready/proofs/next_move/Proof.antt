@@ -12,11 +12,6 @@ use Rattle.network.specs.TorusLaws.{sizes-nodes}
 use Rattle.ready.specs.ReadyHeads.{Searched, searched-start, searched-next, searched-up, searched-all, lowest-first, lowest-none, refused-some, move-some}
 use Rattle.ready.proofs.next_move.Statement.{statement}
 use Rattle.ready.proofs.next_move.Tie as tie
-use Rattle.ready.proofs.next_move.Reads as reads
-use Rattle.ready.proofs.next_move.Lts as lts
-use Rattle.headset.proofs.lowest.Reads as lowest-reads
-use Rattle.headset.proofs.remove.Reads as remove-reads
-use Rattle.first.proofs.first_in_queue.Reads as first-in-queue-reads
 
 abbrev Inv-loop : tie.InvT-loop
 Inv-loop words s near ready₀ from₀ ready from = Searched (shapeOf s) words ready from × (length ready ≡ length ready₀)
@@ -31,21 +26,11 @@ less t x n a b = omega arith
 few : (c : tie.Start Inv-loop μ-loop) → nodes (shapeOf (c .args .s)) ≤ mostNodes
 few c = sizes-nodes (c .args .s) (c .pre .0 .in-range)
 
--- src/lib.rt:77:5
 loop-holds : tie.Need-loop-holds Inv-loop μ-loop
 loop-holds c =
     let a = c .before .before .before in
     (searched-start (shapeOf (a .args .s)) (now (a .args .words)) (now (a .args .ready)) (a .pre .1 .1), refl)
 
--- src/lib.rt:78:13
-lowest-requires : tie.Need-lowest-requires Inv-loop μ-loop
-lowest-requires c κs = search needs
-
--- src/lib.rt:80:13
-same-length : tie.Need-same-length Inv-loop μ-loop
-same-length c = search needs
-
--- src/lib.rt:80:13
 returns : tie.Need-returns Inv-loop μ-loop
 returns c =
     let l = c .before .before .before .before in
@@ -54,7 +39,6 @@ returns c =
       l .loop .inv .0 .covers,
     )
 
--- src/lib.rt:82:13
 first-in-queue-requires : tie.Need-first-in-queue-requires Inv-loop μ-loop
 first-in-queue-requires c κs =
     let l = c .before .before .before .before in
@@ -62,15 +46,6 @@ first-in-queue-requires c κs =
     let h = l .loop .inv .0 .covers .heads (c .before .lowest .result) (c .before .lowest .ensures .found (c .if1 .left)) in
     (record { network = a .pre .0; node = h .0; queue = h .1 }, a .pre .1 .0)
 
--- src/lib.rt:85:17
-enum-told : tie.Need-enum-told Inv-loop μ-loop
-enum-told c = search needs
-
--- src/lib.rt:85:17
-same-length-2 : tie.Need-same-length-2 Inv-loop μ-loop
-same-length-2 c = search needs
-
--- src/lib.rt:85:17
 returns-2 : tie.Need-returns-2 Inv-loop μ-loop
 returns-2 c =
     let f = c .before .before in
@@ -82,18 +57,6 @@ returns-2 c =
       l .loop .inv .0 .covers,
     )
 
-enum-told-2 : tie.Need-enum-told-2 Inv-loop μ-loop
-enum-told-2 c = search needs
-
--- src/lib.rt:93:17
-enum-told-3 : tie.Need-enum-told-3 Inv-loop μ-loop
-enum-told-3 c = search needs
-
--- src/lib.rt:93:17
-same-length-3 : tie.Need-same-length-3 Inv-loop μ-loop
-same-length-3 c = search needs
-
--- src/lib.rt:93:17
 returns-3 : tie.Need-returns-3 Inv-loop μ-loop
 returns-3 c =
     let f = c .before .before in
@@ -105,7 +68,6 @@ returns-3 c =
       l .loop .inv .0 .covers,
     )
 
--- src/lib.rt:96:9
 remove-requires : tie.Need-remove-requires Inv-loop μ-loop
 remove-requires c κs =
     let f = c .before .before .before in
@@ -113,11 +75,6 @@ remove-requires c κs =
     let a = l .before .before .before .before in
     (l .loop .inv .0 .covers .set-of, f .before .if1 .left)
 
--- src/lib.rt:97:16
-add-from : tie.Need-add-from Inv-loop μ-loop
-add-from c = search needs
-
--- src/lib.rt:77:5
 loop-less : tie.Need-loop-less Inv-loop μ-loop
 loop-less c =
     let f = c .before .before .before .before .before .before in
@@ -128,7 +85,6 @@ loop-less c =
     searched-up (shapeOf (a .args .s)) (now (a .args .words)) (l .loop .ready) (l .loop .from) h (l .loop .inv .0) (f .before .before .lowest .ensures) (f .before .if1 .left) in
     less heads (l .loop .from) h up (f .before .if1 .left)
 
--- src/lib.rt:77:5
 loop-again : tie.Need-loop-again Inv-loop μ-loop
 loop-again c =
     let f = c .before .before .before .before .before .before in
@@ -141,11 +97,6 @@ loop-again c =
       r .remove .ensures .set .words ∙ sym (l .loop .inv .0 .covers .set-of .words) ∙ l .loop .inv .1,
     )
 
--- src/lib.rt:69:1
-same-length-4 : tie.Need-same-length-4 Inv-loop μ-loop
-same-length-4 c = search needs
-
--- src/lib.rt:69:1
 returns-4 : tie.Need-returns-4 Inv-loop μ-loop
 returns-4 c =
     let l = c .before in
@@ -159,20 +110,20 @@ next-move-spec =
     Inv-loop
     μ-loop
     loop-holds
-    lowest-requires
-    same-length
+    (λ c κs. search needs)
+    (λ c. search needs)
     returns
     first-in-queue-requires
-    enum-told
-    same-length-2
+    (λ c. search needs)
+    (λ c. search needs)
     returns-2
-    enum-told-2
-    enum-told-3
-    same-length-3
+    (λ c. search needs)
+    (λ c. search needs)
+    (λ c. search needs)
     returns-3
     remove-requires
-    add-from
+    (λ c. search needs)
     loop-less
     loop-again
-    same-length-4
+    (λ c. search needs)
     returns-4)

@@ -9,20 +9,8 @@ use Rattle.ring_check.proofs.RingWalks.{Found, made, found-in, found-ar
 use Rattle.ring_check.proofs.direction_has_room.Statement.{statement}
 use Rattle.ring_check.proofs.direction_has_room.Tie as tie
 
-node-words-requires : tie.Need-node-words-requires
-node-words-requires c κs = search needs
-
-weight-requires : tie.Need-weight-requires
-weight-requires c κs = search needs
-
-size-requires : tie.Need-size-requires
-size-requires c κs = search needs
-
 nodes-requires : tie.Need-nodes-requires
 nodes-requires c κs = c .before .before .before .before .pre .0 .sizes
-
-add-queue-start : tie.Need-add-queue-start
-add-queue-start c = search needs
 
 queue-start-requires : tie.Need-queue-start-requires
 queue-start-requires c κs =
@@ -74,11 +62,11 @@ pub direction-has-room-spec : {M : Type 1} → statement M
 direction-has-room-spec =
     tie.close
     (tie.spec
-    node-words-requires
-    weight-requires
-    size-requires
+    (λ c κs. search needs)
+    (λ c κs. search needs)
+    (λ c κs. search needs)
     nodes-requires
-    add-queue-start
+    (λ c. search needs)
     queue-start-requires
     mul-step
     mul-group

@@ -39,12 +39,6 @@ returns : tie.Need-returns Inv-loop μ-loop
 unfolding ringsHaveRoom rooms
 returns c = sym (fails-at directions (rooms _ _) (c .before .before .before .loop .d) (c .before .before .loop-test .taken) (sym (found (c .before)) ∙ not-true _ (c .if1 .taken)))
 
-add-d : tie.Need-add-d Inv-loop μ-loop
-add-d c = omega arith
-
-loop-less : tie.Need-loop-less Inv-loop μ-loop
-loop-less c = omega arith
-
 loop-again : tie.Need-loop-again Inv-loop μ-loop
 loop-again c =
     (all-more (rooms _ _) (c .before .before .before .loop .d) (c .before .before .before .loop .inv .0) (sym (found (c .before)) ∙ not-false _ (c .if1 .left)), omega arith)
@@ -64,7 +58,7 @@ rings-have-room-spec =
     loop-holds
     direction-has-room-requires
     returns
-    add-d
-    loop-less
+    (λ c. omega arith)
+    (λ c. omega arith)
     loop-again
     returns-2)

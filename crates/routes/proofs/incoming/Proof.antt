@@ -21,11 +21,8 @@ from-transit q ne = sym (ap (λ b. cond b 0 (dimensionOf (directionOf q))) (ne-e
 returns : tie.Need-returns
 returns c = from-injection (c .before .args .q) (c .if1 .taken)
 
-sub-result : tie.Need-sub-result
-sub-result c = search needs
-
 returns-2 : tie.Need-returns-2
 returns-2 c = from-transit (c .before .args .q) (c .if1 .left)
 
 pub incoming-spec : {M : Type 1} → statement M
-incoming-spec = tie.close (tie.spec returns sub-result returns-2)
+incoming-spec = tie.close (tie.spec returns (λ c. search needs) returns-2)

@@ -22,9 +22,6 @@ Inv-loop q p o outputs count k₀ k = (k ≤ count) × (elem o (drop k (routes q
 abbrev μ-loop : tie.MeasureT-loop
 μ-loop q p o outputs count k₀ k = count - k
 
-routes-requires : tie.Need-routes-requires Inv-loop μ-loop
-routes-requires c κs = search needs
-
 loop-holds : tie.Need-loop-holds Inv-loop μ-loop
 loop-holds c = (omega arith, refl)
 
@@ -59,9 +56,6 @@ returns c =
 add-k : tie.Need-add-k Inv-loop μ-loop
 add-k c = omega (arith, c .before .before .before .before .routes .ensures .few)
 
-loop-less : tie.Need-loop-less Inv-loop μ-loop
-loop-less c = omega arith
-
 loop-again : tie.Need-loop-again Inv-loop μ-loop
 loop-again c =
     let f = c .before .before in
@@ -80,12 +74,12 @@ is-route-spec =
     (tie.spec
     Inv-loop
     μ-loop
-    routes-requires
+    (λ c κs. search needs)
     loop-holds
     mul-if1
     array-read-if1
     returns
     add-k
-    loop-less
+    (λ c. omega arith)
     loop-again
     returns-2)

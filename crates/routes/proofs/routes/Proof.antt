@@ -95,20 +95,8 @@ offsets c = record {
   y-is = c .heading2 .ensures;
 }
 
-distance-requires : tie.Need-distance-requires
-distance-requires c κs = search needs
-
-distance-requires-2 : tie.Need-distance-requires-2
-distance-requires-2 c κs = search needs
-
-heading-requires : tie.Need-heading-requires
-heading-requires c κs = search needs
-
 add-adaptive-x : tie.Need-add-adaptive-x
 add-adaptive-x c = let l = small 0 (c .before .before .before .args .p) (omega arith) (c .heading .ensures) in omega arith
-
-heading-requires-2 : tie.Need-heading-requires-2
-heading-requires-2 c κs = search needs
 
 add-adaptive-y : tie.Need-add-adaptive-y
 add-adaptive-y c = let l = small 1 (c .before .before .before .before .args .p) (omega arith) (c .heading2 .ensures) in omega arith
@@ -128,9 +116,6 @@ returns-2 c = let f = c .before .before in only-y (offsets f) (f .before .before
 returns-3 : tie.Need-returns-3
 returns-3 c = let f = c .before .before in only-x (offsets f) (f .before .before .before .before .args .q) (c .before .if1 .left) (c .if3 .taken)
 
-incoming-requires : tie.Need-incoming-requires
-incoming-requires c κs = search needs
-
 returns-4 : tie.Need-returns-4
 returns-4 c =
     let g = c .before .before in
@@ -147,17 +132,17 @@ pub routes-spec : {M : Type 1} → statement M
 routes-spec =
     tie.close
     (tie.spec
-    distance-requires
-    distance-requires-2
-    heading-requires
+    (λ c κs. search needs)
+    (λ c κs. search needs)
+    (λ c κs. search needs)
     add-adaptive-x
-    heading-requires-2
+    (λ c κs. search needs)
     add-adaptive-y
     add-escape-x
     add-escape-y
     returns
     returns-2
     returns-3
-    incoming-requires
+    (λ c κs. search needs)
     returns-4
     returns-5)

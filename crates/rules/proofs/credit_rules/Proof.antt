@@ -16,9 +16,6 @@ tested : (S : Shape) (n o count : ℕ) (a b d : Bool) → count ≡ nodes S → 
 unfolding creditRules
 tested S n o count a b d e ea eb ed = cc
 
-nodes-requires : tie.Need-nodes-requires
-nodes-requires c κs = search needs
-
 returns : tie.Need-returns
 returns c =
     let a = c .before .before .args in
@@ -47,4 +44,4 @@ returns-4 c =
     (lt-leb (count .result) (a .n) (c .before .before .if1 .left)) (ne-eqb (a .o) 0 (c .before .if2 .left)) (lt-leb queues (a .o) (c .if3 .left))
 
 pub credit-rules-spec : {M : Type 1} → statement M
-credit-rules-spec = tie.close (tie.spec nodes-requires returns returns-2 returns-3 returns-4)
+credit-rules-spec = tie.close (tie.spec (λ c κs. search needs) returns returns-2 returns-3 returns-4)

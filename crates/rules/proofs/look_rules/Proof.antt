@@ -15,9 +15,6 @@ tested : (S : Shape) (n q count : ℕ) (a b : Bool) → count ≡ nodes S → le
 unfolding lookRules
 tested S n q count a b e ea eb = cc
 
-nodes-requires : tie.Need-nodes-requires
-nodes-requires c κs = search needs
-
 returns : tie.Need-returns
 returns c =
     let a = c .before .before .args in
@@ -39,4 +36,4 @@ returns-3 c =
     (lt-leb (count .result) (a .n) (c .before .if1 .left)) (lt-leb queues (a .q) (c .if2 .left))
 
 pub look-rules-spec : {M : Type 1} → statement M
-look-rules-spec = tie.close (tie.spec nodes-requires returns returns-2 returns-3)
+look-rules-spec = tie.close (tie.spec (λ c κs. search needs) returns returns-2 returns-3)

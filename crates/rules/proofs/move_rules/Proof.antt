@@ -55,9 +55,6 @@ returns-3 c =
     tested (shapeOf (a .s)) (a .words .now) (a .n) (a .q) (a .o) (count .result) _ _ _ _ false false true _ (count .ensures) refl refl refl refl
     (lt-leb (count .result) (a .n) (c .before .before .if1 .left)) (lt-leb queues (a .q) (c .before .if2 .left)) (le-leb queues (a .o) (c .if3 .taken)) refl
 
-held-count-requires : tie.Need-held-count-requires
-held-count-requires c κs = search needs
-
 returns-4 : tie.Need-returns-4
 returns-4 c =
     let f = c .before .before in
@@ -67,12 +64,6 @@ returns-4 c =
     let t = there f in
     tested (shapeOf (a .s)) (a .words .now) (a .n) (a .q) (a .o) (count .result) (k .result) _ _ _ false false false true
     (count .ensures) (k .ensures) refl refl refl (t .0) (t .1) (t .2) (eq-eqb (k .result) 0 (c .if4 .taken))
-
-head-requires : tie.Need-head-requires
-head-requires c κs = search needs
-
-is-route-requires : tie.Need-is-route-requires
-is-route-requires c κs = search needs
 
 returns-5 : tie.Need-returns-5
 returns-5 c =
@@ -85,9 +76,6 @@ returns-5 c =
     let t = there f in
     tested (shapeOf (a .s)) (a .words .now) (a .n) (a .q) (a .o) (count .result) (k .result) (p .result) _ false false false false false
     (count .ensures) (k .ensures) (p .ensures) (sym (not-true (c .before .is-route .result) (c .if5 .taken)) ∙ c .before .is-route .ensures) refl (t .0) (t .1) (t .2) (ne-eqb (k .result) 0 (h .if4 .left))
-
-flow-rules-requires : tie.Need-flow-rules-requires
-flow-rules-requires c κs = search needs
 
 returns-6 : tie.Need-returns-6
 returns-6 c =
@@ -110,10 +98,10 @@ move-rules-spec =
     returns
     returns-2
     returns-3
-    held-count-requires
+    (λ c κs. search needs)
     returns-4
-    head-requires
-    is-route-requires
+    (λ c κs. search needs)
+    (λ c κs. search needs)
     returns-5
-    flow-rules-requires
+    (λ c κs. search needs)
     returns-6)

@@ -49,12 +49,6 @@ shared-slice-read-accepted c =
     let l = header (shapeOf (f .args .s)) (f .args .words .now) (f .pre) in
     omega arith
 
-capacity-requires : tie.Need-capacity-requires
-capacity-requires c κs = search needs
-
-held-count-requires : tie.Need-held-count-requires
-held-count-requires c κs = search needs
-
 -- where both nodes are there, by the last two tests
 by-last : (c : tie.After-held-count) (d e : Bool)
     → eqb (accepted (c .before .before .before .before .before .before .before .args .words .now)) mostAccepted ≡ d
@@ -100,8 +94,8 @@ offer-rules-spec =
     returns
     returns-2
     shared-slice-read-accepted
-    capacity-requires
-    held-count-requires
+    (λ c κs. search needs)
+    (λ c κs. search needs)
     returns-3
     returns-4
     returns-5)

@@ -6,27 +6,12 @@ use borrow.Author.Needs.{needs}
 use Rattle.session.proofs.answer_byte.Statement.{statement}
 use Rattle.session.proofs.answer_byte.Tie as tie
 
-feed-requires : tie.Need-feed-requires
-feed-requires c κs = search needs
-
 answer-fed-requires : tie.Need-answer-fed-requires
 answer-fed-requires c κs =
     let feed = c .before .before .before .before .before in
     let a = feed .before .before .before .before .before in
     let took = feed .feed .ensures in
     (a .pre .1, rw (took .leaves, took .answers) (fed-within (now (a .args .line)) (a .args .pending) (a .args .b) (a .pre .0)))
-
-pending-after-requires : tie.Need-pending-after-requires
-pending-after-requires c κs = search needs
-
-same-length : tie.Need-same-length
-same-length c = search needs
-
-same-length-2 : tie.Need-same-length-2
-same-length-2 c = search needs
-
-same-length-3 : tie.Need-same-length-3
-same-length-3 c = search needs
 
 returns : tie.Need-returns
 returns c =
@@ -43,10 +28,10 @@ pub answer-byte-spec : {M : Type 1} → statement M
 answer-byte-spec =
     tie.close
     (tie.spec
-    feed-requires
+    (λ c κs. search needs)
     answer-fed-requires
-    pending-after-requires
-    same-length
-    same-length-2
-    same-length-3
+    (λ c κs. search needs)
+    (λ c. search needs)
+    (λ c. search needs)
+    (λ c. search needs)
     returns)

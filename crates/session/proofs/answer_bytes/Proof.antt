@@ -24,33 +24,6 @@ loop-holds c =
     let a = c .before .before .before .before in
     (search needs, (search needs, (search needs, answering-none (now (a .args .store)) (now (a .args .line)) (a .args .pending) (now (a .args .bytes)) (now (a .args .out)))))
 
-add-end : tie.Need-add-end Inv-loop μ-loop
-add-end c = search needs
-
-shared-slice-read-answer-byte : tie.Need-shared-slice-read-answer-byte Inv-loop μ-loop
-shared-slice-read-answer-byte c = search needs
-
-sub-answer-byte : tie.Need-sub-answer-byte Inv-loop μ-loop
-sub-answer-byte c = search needs
-
-part-answer-byte-start : tie.Need-part-answer-byte-start Inv-loop μ-loop
-part-answer-byte-start c = search needs
-
-part-answer-byte-end : tie.Need-part-answer-byte-end Inv-loop μ-loop
-part-answer-byte-end c = search needs
-
-answer-byte-requires : tie.Need-answer-byte-requires Inv-loop μ-loop
-answer-byte-requires c κs = search needs
-
-add-at : tie.Need-add-at Inv-loop μ-loop
-add-at c = search needs
-
-add-i : tie.Need-add-i Inv-loop μ-loop
-add-i c = search needs
-
-loop-less : tie.Need-loop-less Inv-loop μ-loop
-loop-less c = search needs
-
 loop-again : tie.Need-loop-again Inv-loop μ-loop
 loop-again c =
     let run = c .before .before .before .before .before .before .before in
@@ -72,15 +45,6 @@ loop-again c =
       ),
     )
 
-same-length : tie.Need-same-length Inv-loop μ-loop
-same-length c = search needs
-
-same-length-2 : tie.Need-same-length-2 Inv-loop μ-loop
-same-length-2 c = search needs
-
-same-length-3 : tie.Need-same-length-3 Inv-loop μ-loop
-same-length-3 c = search needs
-
 returns : tie.Need-returns Inv-loop μ-loop
 returns c = answering-all (c .before .loop .inv .1 .1 .1) (c .loop-test .left)
 
@@ -91,17 +55,17 @@ answer-bytes-spec =
     Inv-loop
     μ-loop
     loop-holds
-    add-end
-    shared-slice-read-answer-byte
-    sub-answer-byte
-    part-answer-byte-start
-    part-answer-byte-end
-    answer-byte-requires
-    add-at
-    add-i
-    loop-less
+    (λ c. search needs)
+    (λ c. search needs)
+    (λ c. search needs)
+    (λ c. search needs)
+    (λ c. search needs)
+    (λ c κs. search needs)
+    (λ c. search needs)
+    (λ c. search needs)
+    (λ c. search needs)
     loop-again
-    same-length
-    same-length-2
-    same-length-3
+    (λ c. search needs)
+    (λ c. search needs)
+    (λ c. search needs)
     returns)

@@ -7,20 +7,11 @@ use borrow.Author.Needs.{needs}
 use Rattle.session.proofs.answer_end.Statement.{statement}
 use Rattle.session.proofs.answer_end.Tie as tie
 
-finish-requires : tie.Need-finish-requires
-finish-requires c κs = search needs
-
 answer-fed-requires : tie.Need-answer-fed-requires
 answer-fed-requires c κs =
     let finish = c .before .before in
     let a = finish .before .before .before .before in
     (a .pre .1, rw (finish .finish .ensures) (finished-within (now (a .args .line)) _ (a .pre .0)))
-
-same-length : tie.Need-same-length
-same-length c = search needs
-
-same-length-2 : tie.Need-same-length-2
-same-length-2 c = search needs
 
 returns : tie.Need-returns
 returns c =
@@ -35,8 +26,8 @@ pub answer-end-spec : {M : Type 1} → statement M
 answer-end-spec =
     tie.close
     (tie.spec
-    finish-requires
+    (λ c κs. search needs)
     answer-fed-requires
-    same-length
-    same-length-2
+    (λ c. search needs)
+    (λ c. search needs)
     returns)

@@ -12,38 +12,17 @@ use borrow.Author.Needs.{needs}
 use Rattle.session.proofs.answer_fed.Statement.{statement}
 use Rattle.session.proofs.answer_fed.Tie as tie
 
-enum-told : tie.Need-enum-told
-enum-told c = search needs
-
-enum-known-fed : tie.Need-enum-known-fed
-enum-known-fed c = search needs
-
 slice-aggregate-run-line : tie.Need-slice-aggregate-run-line
 slice-aggregate-run-line c =
     let a = c .before .before .before .before .before .before .before .before in
     let f = c .before .before .before .fed .given in
     sym (length-take-le (f .0 .0) (now (a .args .line)) (line-within (a .args .fed) (f .0 .0) (now (a .args .line)) (f .1) (a .pre .1)))
 
-run-line-requires : tie.Need-run-line-requires
-run-line-requires c κs = search needs
-
-enum-told-2 : tie.Need-enum-told-2
-enum-told-2 c = search needs
-
-run-command-requires : tie.Need-run-command-requires
-run-command-requires c κs = search needs
-
 returns : tie.Need-returns
 unfolding pendingAfter
 returns c =
     let a = c .before .before .before .before .before in
     rw (c .enum-told .given .1) (gave-none (now (a .args .store)) (now (a .args .line)) _ (now (a .args .out)))
-
-same-length : tie.Need-same-length
-same-length c = search needs
-
-same-length-2 : tie.Need-same-length-2
-same-length-2 c = search needs
 
 returns-2 : tie.Need-returns-2
 unfolding fedCutting handedOn pendingAfter keptCommand
@@ -54,12 +33,6 @@ returns-2 c =
     rw (f .1)
     (gave-one (whole (take (f .0 .0) (now (a .args .line)))) (now (a .args .store)) (now (a .args .line)) (now (a .args .out))
     (run .run-line .last .0) (run .run-line .last .1 .1 .0) (run .run-line .result) (run .run-line .kept .1 .1 .0) (run .run-line .ensures .0) (run .run-line .ensures .1))
-
-same-length-3 : tie.Need-same-length-3
-same-length-3 c = search needs
-
-same-length-4 : tie.Need-same-length-4
-same-length-4 c = search needs
 
 returns-3 : tie.Need-returns-3
 unfolding fedCutting handedOn pendingAfter keptCommand
@@ -75,16 +48,16 @@ pub answer-fed-spec : {M : Type 1} → statement M
 answer-fed-spec =
     tie.close
     (tie.spec
-    enum-told
-    enum-known-fed
+    (λ c. search needs)
+    (λ c. search needs)
     slice-aggregate-run-line
-    run-line-requires
-    enum-told-2
-    run-command-requires
+    (λ c κs. search needs)
+    (λ c. search needs)
+    (λ c κs. search needs)
     returns
-    same-length
-    same-length-2
+    (λ c. search needs)
+    (λ c. search needs)
     returns-2
-    same-length-3
-    same-length-4
+    (λ c. search needs)
+    (λ c. search needs)
     returns-3)

@@ -6,24 +6,12 @@ use Rattle.session.specs.RunningLaws.{read-none, read-some, read-answere
 use Rattle.session.proofs.answer_read.Statement.{statement}
 use Rattle.session.proofs.answer_read.Tie as tie
 
-answer-end-requires : tie.Need-answer-end-requires
-answer-end-requires c κs = search needs
-
-same-length : tie.Need-same-length
-same-length c = search needs
-
 returns : tie.Need-returns
 returns c =
     let run = c .before .before in
     let a = c .before .before .before .before .before .before .before .before .before .before in
     let s = sheet (now (a .args .store)) (now (a .args .line)) (a .args .pending) in
     read-answered s (now (a .args .piece)) (now (a .args .out)) _ _ _ _ (read-none s (now (a .args .piece)) (search needs)) (run .answer-end .kept .1 .1 .1 .0) (run .answer-end .ensures)
-
-answer-bytes-requires : tie.Need-answer-bytes-requires
-answer-bytes-requires c κs = search needs
-
-same-length-2 : tie.Need-same-length-2
-same-length-2 c = search needs
 
 returns-2 : tie.Need-returns-2
 returns-2 c =
@@ -36,9 +24,9 @@ pub answer-read-spec : {M : Type 1} → statement M
 answer-read-spec =
     tie.close
     (tie.spec
-    answer-end-requires
-    same-length
+    (λ c κs. search needs)
+    (λ c. search needs)
     returns
-    answer-bytes-requires
-    same-length-2
+    (λ c κs. search needs)
+    (λ c. search needs)
     returns-2)

@@ -5,15 +5,6 @@ use borrow.Author.Needs.{needs}
 use Rattle.session.proofs.pending_after.Statement.{statement}
 use Rattle.session.proofs.pending_after.Tie as tie
 
-enum-known-fed : tie.Need-enum-known-fed
-enum-known-fed c = search needs
-
-enum-told : tie.Need-enum-told
-enum-told c = search needs
-
-enum-told-2 : tie.Need-enum-told-2
-enum-told-2 c = search needs
-
 returns : tie.Need-returns
 unfolding pendingAfter
 returns c = rw (c .before .fed .given .1) refl
@@ -28,4 +19,4 @@ returns-3 c = rw (c .enum-told2 .given .1) refl
 
 pub pending-after-spec : {M : Type 1} → statement M
 pending-after-spec =
-    tie.close (tie.spec enum-known-fed enum-told enum-told-2 returns returns-2 returns-3)
+    tie.close (tie.spec (λ c. search needs) (λ c. search needs) (λ c. search needs) returns returns-2 returns-3)

@@ -11,15 +11,6 @@ use Rattle.network.specs.DrainLaws.{delivered-within}
 use Rattle.session.proofs.run_drain.Statement.{statement}
 use Rattle.session.proofs.run_drain.Tie as tie
 
-slice-aggregate-drain : tie.Need-slice-aggregate-drain
-slice-aggregate-drain c = search needs
-
-drain-requires : tie.Need-drain-requires
-drain-requires c κs = search needs
-
-slice-aggregate-put-drained : tie.Need-slice-aggregate-put-drained
-slice-aggregate-put-drained c = search needs
-
 put-drained-requires : tie.Need-put-drained-requires
 put-drained-requires c κs =
     let d = c .before .before .before .before .before .drain in
@@ -29,12 +20,6 @@ put-drained-requires c κs =
     = rw (d .ensures .0) (delivered-within (now (a .args .store)) (a .args .budget) 64) in
     let room : 1314 ≤ length (now (a .args .out)) = a .pre in
     (rw k within, rw k (omega arith))
-
-same-length : tie.Need-same-length
-same-length c = search needs
-
-same-length-2 : tie.Need-same-length-2
-same-length-2 c = search needs
 
 returns : tie.Need-returns
 unfolding perform
@@ -47,10 +32,10 @@ pub run-drain-spec : {M : Type 1} → statement M
 run-drain-spec =
     tie.close
     (tie.spec
-    slice-aggregate-drain
-    drain-requires
-    slice-aggregate-put-drained
+    (λ c. search needs)
+    (λ c κs. search needs)
+    (λ c. search needs)
     put-drained-requires
-    same-length
-    same-length-2
+    (λ c. search needs)
+    (λ c. search needs)
     returns)

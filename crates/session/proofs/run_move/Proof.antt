@@ -5,18 +5,6 @@ use Rattle.session.specs.Session.{perform}
 use Rattle.session.proofs.run_move.Statement.{statement}
 use Rattle.session.proofs.run_move.Tie as tie
 
-move-packet-requires : tie.Need-move-packet-requires
-move-packet-requires c κs = search needs
-
-put-moved-requires : tie.Need-put-moved-requires
-put-moved-requires c κs = search needs
-
-same-length : tie.Need-same-length
-same-length c = search needs
-
-same-length-2 : tie.Need-same-length-2
-same-length-2 c = search needs
-
 returns : tie.Need-returns
 unfolding perform
 returns c =
@@ -26,4 +14,4 @@ returns c =
 
 pub run-move-spec : {M : Type 1} → statement M
 run-move-spec =
-    tie.close (tie.spec move-packet-requires put-moved-requires same-length same-length-2 returns)
+    tie.close (tie.spec (λ c κs. search needs) (λ c κs. search needs) (λ c. search needs) (λ c. search needs) returns)

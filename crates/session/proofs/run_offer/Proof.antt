@@ -5,18 +5,6 @@ use Rattle.session.specs.Session.{perform}
 use Rattle.session.proofs.run_offer.Statement.{statement}
 use Rattle.session.proofs.run_offer.Tie as tie
 
-offer-requires : tie.Need-offer-requires
-offer-requires c κs = search needs
-
-put-answer-requires : tie.Need-put-answer-requires
-put-answer-requires c κs = search needs
-
-same-length : tie.Need-same-length
-same-length c = search needs
-
-same-length-2 : tie.Need-same-length-2
-same-length-2 c = search needs
-
 returns : tie.Need-returns
 unfolding perform
 returns c =
@@ -26,4 +14,4 @@ returns c =
 
 pub run-offer-spec : {M : Type 1} → statement M
 run-offer-spec =
-    tie.close (tie.spec offer-requires put-answer-requires same-length same-length-2 returns)
+    tie.close (tie.spec (λ c κs. search needs) (λ c κs. search needs) (λ c. search needs) (λ c. search needs) returns)

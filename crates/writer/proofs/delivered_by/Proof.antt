@@ -5,12 +5,6 @@ use borrow.Author.Needs.{needs}
 use Rattle.writer.proofs.delivered_by.Statement.{statement}
 use Rattle.writer.proofs.delivered_by.Tie as tie
 
-enum-told : tie.Need-enum-told
-enum-told c = search needs
-
-enum-known-answer : tie.Need-enum-known-answer
-enum-known-answer c = search needs
-
 returns : tie.Need-returns
 unfolding drainedDelivered
 returns c = sym (ap drainedDelivered (c .enum-told .given .1))
@@ -20,4 +14,4 @@ unfolding drainedDelivered
 returns-2 c = sym (ap drainedDelivered (c .before .answer .given .1))
 
 pub delivered-by-spec : {M : Type 1} → statement M
-delivered-by-spec = tie.close (tie.spec enum-told enum-known-answer returns returns-2)
+delivered-by-spec = tie.close (tie.spec (λ c. search needs) (λ c. search needs) returns returns-2)

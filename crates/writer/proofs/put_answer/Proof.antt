@@ -13,11 +13,5 @@ put-line-requires c κs =
     (answer-length (s .args .letter) (s .args .refusal) (s .fits .refusal .fits))
     (s .pre)
 
-same-length : tie.Need-same-length
-same-length c = search needs
-
-returns : tie.Need-returns
-returns c = search needs
-
 pub put-answer-spec : {M : Type 1} → statement M
-put-answer-spec = tie.close (tie.spec put-line-requires same-length returns)
+put-answer-spec = tie.close (tie.spec put-line-requires (λ c. search needs) (λ c. search needs))

@@ -24,9 +24,6 @@ put-line-requires c κs =
     let packet = c .before .before .before in
     room-behind (answerLine 77 0) (packet .put-packet .ensures) (room (packet .before .before .before))
 
-same-length : tie.Need-same-length
-same-length c = search needs
-
 returns : tie.Need-returns
 unfolding movedLines
 returns c =
@@ -36,4 +33,4 @@ returns c =
 
 pub put-delivery-spec : {M : Type 1} → statement M
 put-delivery-spec =
-    tie.close (tie.spec put-packet-requires put-line-requires same-length returns)
+    tie.close (tie.spec put-packet-requires put-line-requires (λ c. search needs) returns)

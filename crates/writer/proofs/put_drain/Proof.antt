@@ -4,29 +4,11 @@ use Rattle.sheet.specs.Output.{drainLine}
 use Rattle.writer.proofs.put_drain.Statement.{statement}
 use Rattle.writer.proofs.put_drain.Tie as tie
 
-enum-known-answer : tie.Need-enum-known-answer
-enum-known-answer c = search needs
-
-put-answer-requires : tie.Need-put-answer-requires
-put-answer-requires c κs = search needs
-
-enum-known-answer-2 : tie.Need-enum-known-answer-2
-enum-known-answer-2 c = search needs
-
-put-stopped-requires : tie.Need-put-stopped-requires
-put-stopped-requires c κs = search needs
-
-same-length : tie.Need-same-length
-same-length c = search needs
-
 returns : tie.Need-returns
 unfolding drainLine
 returns c =
     let call = c .before .before in
     rw (call .before .before .before .answer .given .1) (call .put-answer .ensures)
-
-same-length-2 : tie.Need-same-length-2
-same-length-2 c = search needs
 
 returns-2 : tie.Need-returns-2
 unfolding drainLine
@@ -38,11 +20,11 @@ pub put-drain-spec : {M : Type 1} → statement M
 put-drain-spec =
     tie.close
     (tie.spec
-    enum-known-answer
-    put-answer-requires
-    enum-known-answer-2
-    put-stopped-requires
-    same-length
+    (λ c. search needs)
+    (λ c κs. search needs)
+    (λ c. search needs)
+    (λ c κs. search needs)
+    (λ c. search needs)
     returns
-    same-length-2
+    (λ c. search needs)
     returns-2)

@@ -24,9 +24,6 @@ room d =
     let s = d .before .before .before in
     packets-room (s .args .out .now) (s .args .at) (s .args .ledger .now) (d .delivered-by .result) (words d) (within d) (s .pre .1)
 
-delivered-by-requires : tie.Need-delivered-by-requires
-delivered-by-requires c κs = search needs
-
 slice-aggregate-put-packets : tie.Need-slice-aggregate-put-packets
 slice-aggregate-put-packets c =
     let d = c .before .before in
@@ -42,9 +39,6 @@ put-drain-requires c κs =
     let s = d .before .before .before in
     drain-room (s .args .out .now) (s .args .at) (s .args .ledger .now) (d .delivered-by .result) (words d) (within d) (s .pre .1) (packets .put-packets .ensures)
 
-same-length : tie.Need-same-length
-same-length c = search needs
-
 returns : tie.Need-returns
 unfolding drainedLines
 returns c =
@@ -57,9 +51,9 @@ pub put-drained-spec : {M : Type 1} → statement M
 put-drained-spec =
     tie.close
     (tie.spec
-    delivered-by-requires
+    (λ c κs. search needs)
     slice-aggregate-put-packets
     put-packets-requires
     put-drain-requires
-    same-length
+    (λ c. search needs)
     returns)

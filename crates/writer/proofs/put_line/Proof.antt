@@ -20,9 +20,6 @@ put-end-requires c κs =
     let head = c .before .before .before in
     room-behind (cr ∷ lf ∷ []) (head .put-head .ensures) (head .before .before .before .pre)
 
-same-length : tie.Need-same-length
-same-length c = search needs
-
 returns : tie.Need-returns
 unfolding answerLine line fieldsAndEnd
 returns c =
@@ -31,4 +28,4 @@ returns c =
     put-behind (head .put-head .ensures) (end .put-end .ensures) (room (head .before .before .before))
 
 pub put-line-spec : {M : Type 1} → statement M
-put-line-spec = tie.close (tie.spec put-head-requires put-end-requires same-length returns)
+put-line-spec = tie.close (tie.spec put-head-requires put-end-requires (λ c. search needs) returns)

@@ -44,9 +44,6 @@ put-end-requires c κs =
     let s = head .before .before .before in
     third-room (s .args .out .now) (s .args .at) (xs (s .args .p)) (ys (s .args .p)) zs (room s) (head .put-head .ensures) (field .put-field .ensures)
 
-same-length : tie.Need-same-length
-same-length c = search needs
-
 returns : tie.Need-returns
 returns c =
     let end = c .before .before in
@@ -60,4 +57,4 @@ returns c =
 pub put-packet-spec : {M : Type 1} → statement M
 put-packet-spec =
     tie.close
-    (tie.spec put-head-requires put-field-requires put-end-requires same-length returns)
+    (tie.spec put-head-requires put-field-requires put-end-requires (λ c. search needs) returns)

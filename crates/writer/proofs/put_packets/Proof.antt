@@ -27,22 +27,10 @@ abbrev μ-loop : tie.MeasureT-loop
 loop-holds : tie.Need-loop-holds Inv-loop μ-loop
 loop-holds c = putting-none packetLine packetLines none behind (c .before .before .pre)
 
-mul-put-packet : tie.Need-mul-put-packet Inv-loop μ-loop
-mul-put-packet c = search needs
-
-shared-slice-read-put-packet : tie.Need-shared-slice-read-put-packet Inv-loop μ-loop
-shared-slice-read-put-packet c = omega arith
-
 put-packet-requires : tie.Need-put-packet-requires Inv-loop μ-loop
 put-packet-requires c κs =
     let turn = c .before .before in
     putting-room packetLine packetLines none behind (turn .before .before .before .before .pre) (turn .before .loop .inv) (turn .loop-test .taken)
-
-add-i : tie.Need-add-i Inv-loop μ-loop
-add-i c = omega arith
-
-loop-less : tie.Need-loop-less Inv-loop μ-loop
-loop-less c = omega arith
 
 loop-again : tie.Need-loop-again Inv-loop μ-loop
 loop-again c =
@@ -67,11 +55,11 @@ put-packets-spec =
     Inv-loop
     μ-loop
     loop-holds
-    mul-put-packet
-    shared-slice-read-put-packet
+    (λ c. search needs)
+    (λ c. omega arith)
     put-packet-requires
-    add-i
-    loop-less
+    (λ c. omega arith)
+    (λ c. omega arith)
     loop-again
     same-length
     returns)

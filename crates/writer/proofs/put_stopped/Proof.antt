@@ -44,9 +44,6 @@ put-last-requires c κs =
     let s = head .before .before .before in
     third-room (s .args .out .now) (s .args .at) xs (ys (s .args .moves)) (zs (s .args .stop)) (room s) (head .put-head .ensures) (field .put-field .ensures)
 
-same-length : tie.Need-same-length
-same-length c = search needs
-
 returns : tie.Need-returns
 unfolding stoppedLine line fieldsAndEnd
 returns c =
@@ -60,4 +57,4 @@ returns c =
 pub put-stopped-spec : {M : Type 1} → statement M
 put-stopped-spec =
     tie.close
-    (tie.spec put-head-requires put-field-requires put-last-requires same-length returns)
+    (tie.spec put-head-requires put-field-requires put-last-requires (λ c. search needs) returns)

@@ -6,28 +6,11 @@ use Rattle.bench_c.specs.Outs.{drainedOut}
 use Rattle.bench_c.specs.OutLaws.{drained-told}
 use Rattle.bench_c.proofs.outs.drained.Statement.{statement}
 use Rattle.bench_c.proofs.outs.drained.Tie as tie
-use Rattle.bench_c.proofs.outs.drained.Reads as reads
-use Rattle.bench_c.proofs.outs.drained.Lts as lts
-use Rattle.bench_c.proofs.outs.stop_number.Reads as stop-number-reads
 
--- src/outs.rt:82:26
-enum-known-d : tie.Need-enum-known-d
-enum-known-d c = search needs
-
--- src/outs.rt:86:35
-enum-known-d-2 : tie.Need-enum-known-d-2
-enum-known-d-2 c = search needs
-
--- src/outs.rt:87:17
-stop-number-requires : tie.Need-stop-number-requires
-stop-number-requires c κs = search needs
-
--- src/outs.rt:77:1
 returns : tie.Need-returns
 unfolding drainedNumber drainedMoves drainedDelivered drainedStop drainedOut
 returns c = let e = c .before .before .d .given .1 in (sym (ap drainedNumber e), sym (ap drainedOut e))
 
--- src/outs.rt:77:1
 returns-2 : tie.Need-returns-2
 unfolding drainedNumber
 returns-2 c =
@@ -36,4 +19,4 @@ returns-2 c =
 
 pub drained-spec : {M : Type 1} → statement M
 drained-spec =
-    tie.close (tie.spec enum-known-d enum-known-d-2 stop-number-requires returns returns-2)
+    tie.close (tie.spec (λ c. search needs) (λ c. search needs) (λ c κs. search needs) returns returns-2)

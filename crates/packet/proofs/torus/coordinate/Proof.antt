@@ -7,12 +7,6 @@ use Rattle.packet.specs.GeometryLaws.{coordinate-is, weight-some}
 use Rattle.packet.proofs.torus.coordinate.Statement.{statement}
 use Rattle.packet.proofs.torus.coordinate.Tie as tie
 
-weight-requires : tie.Need-weight-requires
-weight-requires c κs = search needs
-
-size-requires : tie.Need-size-requires
-size-requires c κs = search needs
-
 div-result : tie.Need-div-result
 div-result c =
     let st = c .before .before in
@@ -31,4 +25,4 @@ returns c =
     coordinate-is (st .args .s) (st .args .i) (st .args .n) _ _ (st .pre .1) (c .size .ensures) (c .before .weight .ensures)
 
 pub coordinate-spec : {M : Type 1} → statement M
-coordinate-spec = tie.close (tie.spec weight-requires size-requires div-result rem-result returns)
+coordinate-spec = tie.close (tie.spec (λ c κs. search needs) (λ c κs. search needs) div-result rem-result returns)

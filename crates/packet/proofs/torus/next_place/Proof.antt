@@ -18,9 +18,6 @@ abbrev μ-loop : tie.MeasureT-loop
 loop-holds : tie.Need-loop-holds Inv-loop μ-loop
 loop-holds c = carry-start _ _ (c .before .pre)
 
-mul-c : tie.Need-mul-c Inv-loop μ-loop
-mul-c c = search needs
-
 array-read-c : tie.Need-array-read-c Inv-loop μ-loop
 array-read-c c = c .loop-test .taken
 
@@ -31,12 +28,6 @@ add-c c =
     let m = inRange-size (shapeOf (at .args .s)) (c .before .loop .i) (at .pre .sizes) in
     omega arith
 
-size-requires : tie.Need-size-requires Inv-loop μ-loop
-size-requires c κs = search needs
-
-mul-at : tie.Need-mul-at Inv-loop μ-loop
-mul-at c = search needs
-
 array-write-at : tie.Need-array-write-at Inv-loop μ-loop
 array-write-at c = c .before .before .loop-test .taken
 
@@ -45,17 +36,8 @@ returns c =
     let st = c .before .before .before .before .before in
     carry-end _ _ _ _ _ _ (st .pre) (c .before .before .before .loop .inv) (c .before .before .loop-test .taken) refl (c .before .size .ensures) (c .if1 .taken)
 
-mul-at-2 : tie.Need-mul-at-2 Inv-loop μ-loop
-mul-at-2 c = search needs
-
 array-write-at-2 : tie.Need-array-write-at-2 Inv-loop μ-loop
 array-write-at-2 c = c .before .before .loop-test .taken
-
-add-i : tie.Need-add-i Inv-loop μ-loop
-add-i c = search needs
-
-loop-less : tie.Need-loop-less Inv-loop μ-loop
-loop-less c = search needs
 
 loop-again : tie.Need-loop-again Inv-loop μ-loop
 loop-again c =
@@ -71,16 +53,16 @@ next-place-spec =
     Inv-loop
     μ-loop
     loop-holds
-    mul-c
+    (λ c. search needs)
     array-read-c
     add-c
-    size-requires
-    mul-at
+    (λ c κs. search needs)
+    (λ c. search needs)
     array-write-at
     returns
-    mul-at-2
+    (λ c. search needs)
     array-write-at-2
-    add-i
-    loop-less
+    (λ c. search needs)
+    (λ c. search needs)
     loop-again
     returns-2)

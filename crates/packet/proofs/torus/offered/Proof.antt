@@ -22,9 +22,6 @@ Inv-loop s n destination tag p₀ i₀ p i =
 abbrev μ-loop : tie.MeasureT-loop
 μ-loop s n destination tag p₀ i₀ p i = dimensions - i
 
-mul-p : tie.Need-mul-p Inv-loop μ-loop
-mul-p c = search needs
-
 mul-p-2 : tie.Need-mul-p-2 Inv-loop μ-loop
 mul-p-2 c = let m = sizes-nodes (c .args .s) (c .pre .0) in omega (arith, c .pre .2)
 
@@ -37,21 +34,12 @@ loop-holds c =
     let h = c .pre .2 in
     (word-start (c .args .tag) (c .args .destination) _ (omega arith), omega arith)
 
-way-requires : tie.Need-way-requires Inv-loop μ-loop
-way-requires c κs = search needs
-
 with-offset-requires : tie.Need-with-offset-requires Inv-loop μ-loop
 with-offset-requires c κs =
     let st = c .before .before .before in
     let i = c .before .before .loop .i in
     let h = c .before .loop-test .taken in
     (h, range-back (c .way .ensures) (sizes-way (st .args .s) (st .args .n) (st .args .destination) i (st .pre .0) h))
-
-add-i : tie.Need-add-i Inv-loop μ-loop
-add-i c = search needs
-
-loop-less : tie.Need-loop-less Inv-loop μ-loop
-loop-less c = search needs
 
 loop-again : tie.Need-loop-again Inv-loop μ-loop
 loop-again c =
@@ -73,4 +61,4 @@ returns c =
 pub offered-spec : {M : Type 1} → statement M
 offered-spec =
     tie.close
-    (tie.spec Inv-loop μ-loop mul-p mul-p-2 add-p loop-holds way-requires with-offset-requires add-i loop-less loop-again returns)
+    (tie.spec Inv-loop μ-loop (λ c. search needs) mul-p-2 add-p loop-holds (λ c κs. search needs) with-offset-requires (λ c. search needs) (λ c. search needs) loop-again returns)

@@ -30,12 +30,6 @@ ring c =
       step = c .weight .ensures;
     }
 
-size-requires : tie.Need-size-requires
-size-requires c κs = search needs
-
-weight-requires : tie.Need-weight-requires
-weight-requires c κs = search needs
-
 add-if2 : tie.Need-add-if2
 add-if2 c = let r = ring (c .before) in omega (arith, within-ring r)
 
@@ -76,8 +70,8 @@ pub step-from-spec : {M : Type 1} → statement M
 step-from-spec =
     tie.close
     (tie.spec
-    size-requires
-    weight-requires
+    (λ c κs. search needs)
+    (λ c κs. search needs)
     add-if2
     add-result
     returns

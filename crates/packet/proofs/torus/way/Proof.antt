@@ -25,15 +25,6 @@ way-is c =
     c .shorter-way .ensures
     ∙ same-way (c .before .before .before .size .ensures) (c .before .before .coordinate .ensures) (c .before .coordinate2 .ensures)
 
-size-requires : tie.Need-size-requires
-size-requires c κs = search needs
-
-coordinate-requires : tie.Need-coordinate-requires
-coordinate-requires c κs = search needs
-
-coordinate-requires-2 : tie.Need-coordinate-requires-2
-coordinate-requires-2 c κs = search needs
-
 shorter-way-requires : tie.Need-shorter-way-requires
 shorter-way-requires c κs =
     let a = c .before .before .before .args in
@@ -48,4 +39,4 @@ returns c =
     back (way-is c) (sizes-way (st .args .s) (st .args .n) (st .args .destination) (st .args .i) (st .pre .0) (st .pre .1))
 
 pub way-spec : {M : Type 1} → statement M
-way-spec = tie.close (tie.spec size-requires coordinate-requires coordinate-requires-2 shorter-way-requires returns)
+way-spec = tie.close (tie.spec (λ c κs. search needs) (λ c κs. search needs) (λ c κs. search needs) shorter-way-requires returns)
