@@ -81,7 +81,7 @@ chosen f [] = []
 chosen f (q ∷ qs) = cond (f q) (q ∷ chosen f qs) (chosen f qs)
 
 -- outside that packet's ring: every other queue of node 0 in which the check lets it stand. Its sign keeps it from the adaptive and escape queues
--- of the opposite direction, and a hop left in x from the escape queues of y; so into an x ring there is no rotate from an escape queue
+-- of the opposite direction, and a hop left in x from the escape queues of y; so into an x ring there is no turn from an escape queue
 unfoldable pub outside : ℕ → List ℕ
 outside d = chosen (λ q. packetFits four-by-four 0 q (oneHop d) && not (eqb q (escapeQueue d))) (inOrder 0 queues)
 
@@ -98,7 +98,7 @@ inEach w p (q ∷ qs) = holding (inEach w p qs) 0 q (p ∷ [])
 unfoldable pub crossing : ℕ → ℕ → List ℕ
 crossing d count = holding (inEach (empty 4 4 2 1 1) (oneHop d) (sources d)) (next d) (escapeQueue d) (replicate count (here (next d)))
 
--- that network passes the check, and these are the refusals of the packet's moves into that escape queue, from each of its sources in rotate
+-- that network passes the check, and these are the refusals of the packet's moves into that escape queue, from each of its sources in turn
 abbrev Entries : ℕ → ℕ → List ℕ → Type 0
 Entries d count refusals =
     (networkRefusal (crossing d count) ≡ 0)

@@ -1,11 +1,11 @@
--- Laws of the packet of an offer (`offered` of Calls.antt), between nodes of a torus whose sizes are at most 16. Order: its fields; how far it
+-- Laws of the packet of an offer (`offered` of Calls.antt), between nodes of a torus whose rings are no longer than the largest. Order: its fields; how far it
 -- has to go; that its offsets lead from its node to its destination. Assumes nothing.
 use mathlib.Core.Path.{_≡_, ap, ap₂, _∙_}
 use Prim.Native.Nat.{ℕ, _+_, _*_, _-_, _%_, _^_, _<_, _≤_}
 use native.Mathlib.Omega.{arith}
 use lib.IntN.{ℤ, natAbs}
 use Rattle.base.specs.Sums.{sum-most}
-use Rattle.network.specs.Sizes.{Shape, size, nodes, dimensions}
+use Rattle.network.specs.Sizes.{Shape, size, nodes, dimensions, largestRing}
 use Rattle.network.specs.Packet.{tag, destination, offset, distance, forward, backward, hopsLeft, work, shorterWay}
 use Rattle.network.specs.PacketLaws.{OffsetRange, tag-packet, destination-packet, offset-packet, hops-plus, hops-minus, shorterWay-range, shorterWay-half, shorterWay-reaches}
 use Rattle.network.specs.Torus.{coordinate, movedBy}
@@ -13,22 +13,22 @@ use Rattle.network.specs.TorusLaws.{Torus, coordinate-lt, coordinates-eq
 use Rattle.network.specs.Check.{longest, mostWork}
 use Rattle.network.specs.Calls.{offered}
 
--- all sizes are at most 16
-abbrev pub SizesAtMost16 : Shape → Type 0
-SizesAtMost16 S = (i : ℕ) → i < dimensions → size S i ≤ 16
+-- no ring is longer than the largest
+abbrev pub ShortRings : Shape → Type 0
+ShortRings S = (i : ℕ) → i < dimensions → size S i ≤ largestRing
 
 -- the way that an offer chooses in dimension i
 abbrev pub offeredWay : Shape → ℕ → ℕ → ℕ → ℤ
 offeredWay S n dest i = shorterWay (size S i) (coordinate S i n) (coordinate S i dest)
 
-pub offered-range : (S : Shape) (n dest i : ℕ) → Torus S → SizesAtMost16 S → i < dimensions → OffsetRange (offeredWay S n dest i)
+pub offered-range : (S : Shape) (n dest i : ℕ) → Torus S → ShortRings S → i < dimensions → OffsetRange (offeredWay S n dest i)
 offered-range S n dest i t s h =
     let m = s i h in
     shorterWay-range (size S i) (coordinate S i n) (coordinate S i dest) (coordinate-lt S i n t h) (coordinate-lt S i dest t h) (omega arith)
 
 -- Its fields --------------------------------------------------------------------------------------------------------------------------
 
-module _ (S : Shape) (n dest tag′ : ℕ) (t : Torus S) (h : n < nodes S) (hd : dest < nodes S) (fits : nodes S ≤ 2 ^ 16) (s : SizesAtMost16 S) where
+module _ (S : Shape) (n dest tag′ : ℕ) (t : Torus S) (h : n < nodes S) (hd : dest < nodes S) (fits : nodes S ≤ 2 ^ 16) (s : ShortRings S) where
   small : dest < 2 ^ 16
   small = omega arith
 

@@ -25,7 +25,7 @@ use Rattle.network.specs.Check.{reach, isQueueOf, packetFits, ringHasRoom, pack
 use Rattle.network.specs.CheckLaws.{PacketFits, packet-by, Network}
 use Rattle.network.specs.Refusals.{networkRefusal, makeRefusal, offerRules, offerRefusal}
 use Rattle.network.specs.RefusalLaws.{not-refused, neither, network-passed, network-passes}
-use Rattle.network.specs.OfferLaws.{SizesAtMost16, destination-offered, distance-offered, work-offered, movedBy-offered}
+use Rattle.network.specs.OfferLaws.{ShortRings, destination-offered, distance-offered, work-offered, movedBy-offered}
 use Rattle.network.specs.Calls.{emptyNetwork, makeWords, offered, afterOffer, offerWords}
 use Rattle.run.specs.Queues.{AllFit, fill-few, fits-words, fit-put, fit-raised, allOf-newest}
 use Rattle.run.specs.Rings.{Room, RingRoom, ring-of, ring-by, escape-lt}
@@ -192,7 +192,7 @@ module _ (S : Shape) (w : List ℕ) (n dest tag : ℕ) (tor : Torus S) (N : Netw
   few-nodes : nodes S ≤ 2 ^ 16
   few-nodes = let l = inRange-nodes S (N .in-range) (tor .dims) in omega arith
 
-  small : SizesAtMost16 S
+  small : ShortRings S
   small i h = inRange-size S i (N .in-range)
 
   offered-fits : PacketFits S n injectionQueue p
