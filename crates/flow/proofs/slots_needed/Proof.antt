@@ -15,7 +15,7 @@ unfolding entersRing slotsNeeded
 needed q o a b e f = sym (ap₂ (λ (x y : Bool). cond (x && not y) 2 1) e f)
 
 adaptive : (q o : ℕ) → o ≤ directions → 1 ≡ slotsNeeded q o
-adaptive q o h = needed q o false (eqb q o) (le-ltb 4 o h) refl
+adaptive q o h = needed q o false (eqb q o) (le-ltb directions o h) refl
 
 returns : tie.Need-returns
 returns c = adaptive (c .before .args .q) (c .before .args .o) (c .if1 .taken)
@@ -23,12 +23,12 @@ returns c = adaptive (c .before .args .q) (c .before .args .o) (c .if1 .taken)
 returns-2 : tie.Need-returns-2
 returns-2 c =
     let a = c .before .before .args in
-    needed (a .q) (a .o) true true (lt-ltb 4 (a .o) (c .before .if1 .left)) (eq-eqb (a .q) (a .o) (c .if2 .taken))
+    needed (a .q) (a .o) true true (lt-ltb directions (a .o) (c .before .if1 .left)) (eq-eqb (a .q) (a .o) (c .if2 .taken))
 
 returns-3 : tie.Need-returns-3
 returns-3 c =
     let a = c .before .before .args in
-    needed (a .q) (a .o) true false (lt-ltb 4 (a .o) (c .before .if1 .left)) (ne-eqb (a .q) (a .o) (c .if2 .left))
+    needed (a .q) (a .o) true false (lt-ltb directions (a .o) (c .before .if1 .left)) (ne-eqb (a .q) (a .o) (c .if2 .left))
 
 pub slots-needed-spec : {M : Type 1} → statement M
 slots-needed-spec = tie.close (tie.spec returns returns-2 returns-3)

@@ -5,7 +5,7 @@ use mathlib.Core.Logic.{_≢_}
 use Prim.Native.Nat.{ℕ, _-_, _%_, _/_}
 use borrow.Author.Needs.{needs}
 use borrow.Author.Tests.{eq-eqb, ne-eqb}
-use Rattle.network.specs.Sizes.{dimensionOf, directionOf}
+use Rattle.network.specs.Sizes.{directions, dimensionOf, directionOf}
 use Rattle.network.specs.Routes.{incoming}
 use Rattle.routes.proofs.incoming.Statement.{statement}
 use Rattle.routes.proofs.incoming.Tie as tie
@@ -14,7 +14,7 @@ from-injection : (q : ℕ) → q ≡ 0 → 0 ≡ incoming q
 unfolding incoming
 from-injection q e = sym (ap (λ b. cond b 0 (dimensionOf (directionOf q))) (eq-eqb q 0 e))
 
-from-transit : (q : ℕ) → q ≢ 0 → (q - 1) % 4 / 2 ≡ incoming q
+from-transit : (q : ℕ) → q ≢ 0 → (q - 1) % directions / 2 ≡ incoming q
 unfolding incoming
 from-transit q ne = sym (ap (λ b. cond b 0 (dimensionOf (directionOf q))) (ne-eqb q 0 ne))
 
