@@ -15,9 +15,9 @@ pub const NODE_HEADS: u64 = 16;
 pub const HEADS: u64 = NODE_HEADS * MOST_NODES;
 
 // A word for each 64 heads, and the word that says which of them are not 0.
-pub const SET_WORDS: usize = (1 + HEADS / WORD_BITS) as usize;
-
 const WORD_BITS: u64 = 64;
+
+pub const SET_WORDS: usize = (1 + HEADS / WORD_BITS) as usize;
 
 // The nodes whose heads share a word, and the heads of the first of them.
 const WORD_NODES: u64 = WORD_BITS / NODE_HEADS;

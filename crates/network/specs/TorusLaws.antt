@@ -1,7 +1,7 @@
 -- Laws of the torus (Torus.antt). Order: sizes that make a torus; going along a direction; coordinates; a node moved by a packet's offsets, and
 -- what a hop does to it; neighbours are apart. `i` is a dimension, `d` and `e` are directions, `p` is any number. Assumes nothing.
 use mathlib.Core.Path.{_≡_, refl, ap, ap₂, sym, _∙_}
-use mathlib.Core.Bool.{Bool, true, false, cond, _&&_}
+use mathlib.Core.Bool.{Bool, true, false, cond}
 use mathlib.Core.List.{List, [], _∷_}
 use mathlib.Core.Logic.{_⊎_, inl, inr, _≢_}
 use Prim.Native.Nat.{ℕ, zero, suc, _+_, _*_, _-_, _%_, _^_, _<_, _≤_}
@@ -9,12 +9,13 @@ use native.Mathlib.Nat.{add-mul, mul-right-comm, pow-succ', le-refl, zero-mul, o
 use native.Mathlib.Omega.{arith}
 use native.Mathlib.Decide.{ℕ-discrete, decLt}
 use borrow.Author.Tests.{eq-eqb, ne-eqb}
-use lib.Dec.{T, leb, leb→le}
+use lib.Dec.{T}
 use lib.ListN.{length, getD}
-use Rattle.base.specs.Tests.{and-l, and-r, allOf, allOf-head, allOf-tail}
+use Rattle.base.specs.Tests.{allOf, allOf-head, allOf-tail}
 use Rattle.base.specs.Digits.{product, digit, rotate, Positive, product-pos, digit-lt, digits-eq, radix-pos, rotate-lt, rotate-rotate, rotate-comm, rotate-rounds, digit-rotate-same, digit-rotate-other}
-use Rattle.network.specs.Sizes.{Shape, shapeOf, size, nodes, mostNodes, within, sizesInRange, dimensions, directions, dimensionOf, isPlus, plus, minus, largestRing, fewestEscape, largestCapacity}
+use Rattle.network.specs.Sizes.{Shape, shapeOf, size, nodes, mostNodes, within, sizesInRange, dimensions, directions, dimensionOf, isPlus, plus, minus, largestRing}
 use Rattle.network.specs.declared.Sizes.{Sizes}
+use Rattle.network.specs.SizesLaws.{between-of, range-of}
 use Rattle.network.specs.Packet.{hops, hopsLeft, hop}
 use Rattle.network.specs.PacketLaws.{dimension-lt, hops-hop-same, hops-hop-other, one-way, hops-le, distance-le-hopsLeft}
 use Rattle.network.specs.Torus.{coordinate, stride, along, neighbour, movedBelow, movedBy}
@@ -25,24 +26,15 @@ pub record Torus (S : Shape) : Type 0 where
   pub positive : Positive (S .sizes)
   pub dims : length (S .sizes) ≡ dimensions
 
--- a number that is within bounds
-pub within-least : (least most n : ℕ) → T (within least most n) → least ≤ n
-unfolding within
-within-least least most n t = leb→le least n (and-l (leb least n) (leb n most) t)
-
-pub within-most : (least most n : ℕ) → T (within least most n) → n ≤ most
-unfolding within
-within-most least most n t = leb→le n most (and-r (leb least n) (leb n most) t)
-
--- what sizes of 1 to 16 come to, in any number of dimensions
+-- what sizes in range come to, in any number of dimensions
 all-positive : (ks : List ℕ) → T (allOf (within 1 largestRing) ks) → Positive ks
 unfolding Positive
 all-positive [] t = tt
-all-positive (k ∷ ks) t = (within-least 1 largestRing k (allOf-head (within 1 largestRing) k ks t), all-positive ks (allOf-tail (within 1 largestRing) k ks t))
+all-positive (k ∷ ks) t = (between-of 1 largestRing k (allOf-head (within 1 largestRing) k ks t) .low, all-positive ks (allOf-tail (within 1 largestRing) k ks t))
 
 all-most : (ks : List ℕ) (i : ℕ) → T (allOf (within 1 largestRing) ks) → getD ks i 0 ≤ largestRing
 all-most [] i t = omega arith
-all-most (k ∷ ks) zero t = within-most 1 largestRing k (allOf-head (within 1 largestRing) k ks t)
+all-most (k ∷ ks) zero t = between-of 1 largestRing k (allOf-head (within 1 largestRing) k ks t) .high
 all-most (k ∷ ks) (suc i) t = all-most ks i (allOf-tail (within 1 largestRing) k ks t)
 
 product-most : (ks : List ℕ) → T (allOf (within 1 largestRing) ks) → product ks ≤ largestRing ^ length ks
@@ -50,22 +42,18 @@ unfolding product
 product-most [] t = omega arith
 product-most (k ∷ ks) t =
     rw (pow-succ' largestRing (length ks))
-    (mul-le-mul (within-most 1 largestRing k (allOf-head (within 1 largestRing) k ks t)) (product-most ks (allOf-tail (within 1 largestRing) k ks t)))
-
-inRange-sizes : (S : Shape) → T (sizesInRange S) → T (allOf (within 1 largestRing) (S .sizes))
-unfolding sizesInRange
-inRange-sizes S t = and-l (allOf (within 1 largestRing) (S .sizes)) (within fewestEscape largestCapacity (S .escape) && (within 1 largestCapacity (S .adaptive) && within 1 largestCapacity (S .injection))) t
+    (mul-le-mul (between-of 1 largestRing k (allOf-head (within 1 largestRing) k ks t) .high) (product-most ks (allOf-tail (within 1 largestRing) k ks t)))
 
 pub inRange-torus : (S : Shape) → T (sizesInRange S) → length (S .sizes) ≡ dimensions → Torus S
-inRange-torus S t l = record { positive = all-positive (S .sizes) (inRange-sizes S t); dims = l }
+inRange-torus S t l = record { positive = all-positive (S .sizes) (range-of S t .sizes); dims = l }
 
 pub inRange-size : (S : Shape) (i : ℕ) → T (sizesInRange S) → size S i ≤ largestRing
 unfolding size
-inRange-size S i t = all-most (S .sizes) i (inRange-sizes S t)
+inRange-size S i t = all-most (S .sizes) i (range-of S t .sizes)
 
 pub inRange-nodes : (S : Shape) → T (sizesInRange S) → length (S .sizes) ≡ dimensions → nodes S ≤ mostNodes
 unfolding nodes
-inRange-nodes S t l = let m : product (S .sizes) ≤ largestRing ^ length (S .sizes) = product-most (S .sizes) (inRange-sizes S t) in rw l at m
+inRange-nodes S t l = let m : product (S .sizes) ≤ largestRing ^ length (S .sizes) = product-most (S .sizes) (range-of S t .sizes) in rw l at m
 
 -- the code's sizes
 pub sizes-torus : (s : Sizes) → T (sizesInRange (shapeOf s)) → Torus (shapeOf s)
