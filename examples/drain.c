@@ -1,6 +1,6 @@
 /*
- * The library from C: a ring of four nodes and two packets. An offer and a move
- * are refused, and the program goes on by what the refusal says. R12 is a
+ * The library from C: a ring of four nodes and three packets. Two offers and a
+ * move are refused, and the program goes on by what the refusal says. R12 is a
  * clause of docs/RULES.md.
  */
 #include <inttypes.h>
@@ -54,6 +54,10 @@ int main(void)
     /* At its destination a packet is delivered by output 0, and its word handed out. */
     if (told("move from queue 1 of node 1 to output 0", bench_move(words, len, 1, 1, 0, moved)) == 0 && moved[0] == 1)
         printf("handed out: tag %" PRIu32 " at node %" PRIu32 "\n", BENCH_TAG(moved[1]), BENCH_DESTINATION(moved[1]));
+
+    /* A node offers to the others and not to itself (R174). */
+    if (told("offer 9 at node 3 for node 3", bench_offer(words, len, 3, 3, 9)) == BENCH_TO_ONESELF)
+        told("offer 9 at node 3 for node 0", bench_offer(words, len, 3, 0, 9));
 
     if (told("drain", bench_drain(words, len, 10, ledger, 8, drain)) != 0)
         return 1;

@@ -66,7 +66,7 @@ extern "C" {
  * each change after which a program written for the older one could be wrong.
  * Header and archive must be of one commit: the archive does not carry it.
  */
-#define BENCH_VERSION 1
+#define BENCH_VERSION 2
 
 /* The words that a network of these sizes needs. */
 #define BENCH_WORDS(x, y, e, a, j) \
@@ -86,7 +86,7 @@ extern "C" {
 #define BENCH_DX(word) ((int)(((uint64_t)(word) >> 8 & 0xff) ^ 0x80) - 0x80)
 #define BENCH_DY(word) ((int)(((uint64_t)(word) & 0xff) ^ 0x80) - 0x80)
 
-/* The refusals (R161 to R172). */
+/* The refusals (R161 to R174); 13 is the sheet program's alone. */
 enum {
     BENCH_SHORT_STORE = 1,    /* less than 8 words, or less than the sizes ask for */
     BENCH_WRONG_SIZE = 2,     /* X, Y, E, A or J out of range */
@@ -99,7 +99,8 @@ enum {
     BENCH_NOBODY_THERE = 9,   /* the queue is empty */
     BENCH_NOT_ITS_WAY = 10,   /* the head has no route by that output */
     BENCH_NO_SLOT = 11,       /* the target has no free slot */
-    BENCH_NO_BUBBLE = 12      /* two free slots are needed, one is there */
+    BENCH_NO_BUBBLE = 12,     /* two free slots are needed, one is there */
+    BENCH_TO_ONESELF = 14     /* the destination is the node that offers */
 };
 
 /* Why a drain stopped (R130 to R132). */
@@ -129,8 +130,10 @@ uint64_t bench_check(const uint64_t *words, size_t len);
 /*
  * Puts a packet behind the others in queue 0 of the node (R100 to R102). It
  * will take the shorter way in each dimension, half-way round the plus way
- * (R64, R65). Refused further, tested in this order (R183): node or destination
- * is no node (4); 2^32 - 1 packets were accepted (8); queue 0 is full (7).
+ * (R64, R65). Refused further, tested in this order (R188): node or destination
+ * is no node (4); they are the same node (14); 2^32 - 1 packets were accepted
+ * (8); queue 0 is full (7). Words that already hold a packet for the very node
+ * where it stands are a network as before, and it is delivered (R86).
  */
 uint64_t bench_offer(uint64_t *words, size_t len, uint64_t node, uint64_t destination,
                      uint32_t tag);

@@ -9,7 +9,10 @@ use crate::model;
 /// Words behind the lent ones, in each copy, that nobody may touch.
 const GUARDS: usize = 4;
 const RUBBISH: u64 = 0xa5a5_5a5a_c3c3_3c3c;
-const REFUSALS: usize = 13;
+/// The refusals that a call can give: 13 is the program's alone.
+pub const REFUSALS: [u64; 13] = [1, 2, 3, 4, 5, 6, 7, 8, 9, 10, 11, 12, 14];
+/// One more than the largest of them.
+const NUMBERS: usize = 15;
 
 /// The answer, the words with their guards, the ledger with its guards.
 type Outcome = (Answer, Vec<u64>, Vec<u64>);
@@ -26,7 +29,7 @@ pub struct Counts {
     pub handed_out: u64,
     /// How often each refusal was the answer; place 0 counts the calls that
     /// were not refused.
-    pub refusals: [u64; REFUSALS],
+    pub refusals: [u64; NUMBERS],
 }
 
 pub struct Lab {

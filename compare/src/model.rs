@@ -9,7 +9,7 @@ pub mod words;
 use network::{Kind, Network, Output, Step, QUEUES};
 use words::{decode, encode, packet_to_word, Sizes};
 
-/// R161 to R172, the refusals with their numbers. (13 is the program's.)
+/// R161 to R174, the refusals with their numbers. (13 is the program's.)
 #[derive(Clone, Copy, Debug, PartialEq, Eq)]
 pub enum Refusal {
     ShortStore = 1,
@@ -24,6 +24,7 @@ pub enum Refusal {
     NotItsWay = 10,
     NoSlot = 11,
     NoBubble = 12,
+    ToOneself = 14,
 }
 
 impl Refusal {
@@ -94,11 +95,14 @@ pub fn check(words: &[u64]) -> Result<(), Refusal> {
     decode(words).map(|_| ())
 }
 
-/// Offer: the check's, then 4, 8, 7.
+/// Offer: the check's, then 4, 14, 8, 7.
 pub fn offer(words: &mut [u64], node: u64, destination: u64, tag: u32) -> Result<(), Refusal> {
     let mut network = decode(words)?;
     let node = known_node(&network, node)?;
     let destination = known_node(&network, destination)?;
+    if destination == node {
+        return Err(Refusal::ToOneself);
+    }
     if network.accepted == u32::MAX as u64 {
         return Err(Refusal::CountSpent);
     }

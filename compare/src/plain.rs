@@ -25,6 +25,7 @@ const NOBODY_THERE: u64 = 9;
 const NOT_ITS_WAY: u64 = 10;
 const NO_SLOT: u64 = 11;
 const NO_BUBBLE: u64 = 12;
+const TO_ONESELF: u64 = 14;
 
 /// Where everything stands in the words of a network.
 struct Layout {
@@ -272,6 +273,9 @@ pub fn offer(words: &mut [u64], node: u64, destination: u64, tag: u32) -> u64 {
     let nodes = layout.nodes() as u64;
     if node >= nodes || destination >= nodes {
         return NO_SUCH_NODE;
+    }
+    if node == destination {
+        return TO_ONESELF;
     }
     if words[5] == u32::MAX as u64 {
         return COUNT_SPENT;

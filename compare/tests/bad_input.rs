@@ -318,13 +318,22 @@ const ARGUMENTS: &[(&str, Store, Call, u64)] = &[
     ("R164: the largest destination",           ROW,               offer(1, MAX),       4),
     ("R164: both",                              ROW,               offer(MAX, MAX),     4),
     ("R167: J packets in queue 0",              ROW,               offer(0, 1),         7),
-    ("R167: also for one that stays",           ROW,               offer(0, 0),         7),
     ("R168: accepted is 2^32 - 1",              SPENT,             offer(1, 2),         8),
-    ("R183: 4 before 7",                        ROW,               offer(0, 4),         4),
-    ("R183: 4 before 8, the node",              SPENT,             offer(4, 0),         4),
-    ("R183: 4 before 8, the destination",       SPENT,             offer(1, 4),         4),
-    ("R183: 4 before 8 and 7",                  SPENT,             offer(0, 4),         4),
-    ("R183: 8 before 7",                        SPENT,             offer(0, 1),         8),
+    ("R174: to oneself",                        ROW,               offer(1, 1),        14),
+    ("R174: the last node to itself",           ROW,               offer(3, 3),        14),
+    ("R188: 4 before 14, beyond the last",      ROW,               offer(4, 4),         4),
+    ("R188: 4 before 14, cut to 32 bits",       ROW,               offer(CUT, CUT),     4),
+    ("R188: the node alone is cut to 32 bits",  ROW,               offer(CUT + 1, 1),   4),
+    ("R188: only the destination is",           ROW,               offer(1, CUT + 1),   4),
+    ("R188: 4 before 14 and 8",                 SPENT,             offer(4, 4),         4),
+    ("R188: 4 before 7",                        ROW,               offer(0, 4),         4),
+    ("R188: 4 before 8, the node",              SPENT,             offer(4, 0),         4),
+    ("R188: 4 before 8, the destination",       SPENT,             offer(1, 4),         4),
+    ("R188: 4 before 8 and 7",                  SPENT,             offer(0, 4),         4),
+    ("R188: 14 before 8",                       SPENT,             offer(1, 1),        14),
+    ("R188: 14 before 7",                       ROW,               offer(0, 0),        14),
+    ("R188: 14 before 8 and 7",                 SPENT,             offer(0, 0),        14),
+    ("R188: 8 before 7",                        SPENT,             offer(0, 1),         8),
 
     ("R164: a node beyond the last",            ROW,               go(4, 0, 1),         4),
     ("R164: cut to 32 bits it is node 0",       ROW,               go(CUT, 0, 1),       4),
@@ -391,8 +400,8 @@ fn arguments() {
         refused(what, &words, LENT, *call, *number);
         refused(what, &words, NEED, *call, *number);
     }
-    // Each number from 4 on has a row.
-    for wanted in 4..=12 {
+    // Each number of a call from 4 on has a row.
+    for wanted in (4..=12).chain([14]) {
         assert!(ARGUMENTS.iter().any(|row| row.3 == wanted), "{wanted}");
     }
 }
@@ -474,6 +483,14 @@ const fn ring(queue: usize, one: usize, other: usize) -> [(usize, usize, u64); 4
     ]
 }
 
+/// A packet for node 1 in each queue of node 1.
+#[rustfmt::skip]
+const EVERY_QUEUE: [(usize, usize, u64); 9] = [
+    (1, 0, arrived(1)), (1, 1, arrived(1)), (1, 2, arrived(1)),
+    (1, 3, arrived(1)), (1, 4, arrived(1)), (1, 5, arrived(1)),
+    (1, 6, arrived(1)), (1, 7, arrived(1)), (1, 8, arrived(1)),
+];
+
 /// Words close to those above that are a network.
 #[rustfmt::skip]
 const GOOD: &[(&str, Store)] = &[
@@ -493,6 +510,8 @@ const GOOD: &[(&str, Store)] = &[
     ("R81: y+ of column 0, one slot free",   SQUARE.with(&[(0, 7, arrived(0)), (0, 7, arrived(0)), (2, 7, arrived(2))])),
     ("R82: accepted 2^32 - 1",               SPENT),
     ("R85: 15 moves and work 2",             ROW.but(&[(7, 15)])),
+    ("R86: to oneself, in queue 0",          ARRIVED),
+    ("R86: to oneself, in every queue",      SQUARE.with(&EVERY_QUEUE)),
 ];
 
 /// R163: each clause of the check behind the sizes, in every call.
@@ -530,6 +549,15 @@ fn not_refused() {
     let before = FROM_ESCAPE_ONE.words();
     let after = ESCAPE_FULL.but(&[(7, 1)]).words();
     done("R151", &before, LENT, go(0, 5, 5), [0; 4], (&after, LEDGER));
+
+    // A packet for its own node is handed out.
+    let (before, mut book) = (ARRIVED.words(), LEDGER);
+    let after = ROW.but(&[(6, 1), (7, 1), (8, 0), (9, 0)]).words();
+    let out = [1, arrived(0), 0, 0];
+    done("R86", &before, LENT, go(0, 0, 0), out, (&after, book));
+    book[0] = arrived(0);
+    let out = [1, 1, 0, 0];
+    done("R86", &before, LENT, drain(9, 2), out, (&after, book));
 
     // By queue 1 of node 1, and out.
     let after = ROW.but(&[(6, 1), (7, 2), (8, 0), (9, 0)]).words();

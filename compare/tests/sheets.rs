@@ -59,7 +59,7 @@ struct Counts {
     bytes_in: u64,
     lines_out: u64,
     /// How often each number stood after a letter, and each stop.
-    numbers: [u64; 14],
+    numbers: [u64; 15],
     stops: [(&'static str, u64); 3],
 }
 

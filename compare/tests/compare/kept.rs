@@ -1,4 +1,4 @@
-//! The kept cases K1 to K12 (R281 to R292), the listing (R257) and the
+//! The kept cases K1 to K12 (R281 to R298), the listing (R257) and the
 //! misreadings (R301 to R305), with the numbers that RULES gives.
 
 use compare::bench::Call;
@@ -9,7 +9,7 @@ const K1: Shape = Shape::new(4, 3, 2, 1, 1);
 const K2: Shape = Shape::new(16, 16, 8, 8, 8);
 
 pub fn all(lab: &mut Lab) {
-    let cases: [crate::Part; 12] = [
+    let cases: [crate::Part; 13] = [
         ("K1 and K2", needs),
         ("K3 and K4", offered_words),
         ("K5 to K7", bubble_rule),
@@ -18,6 +18,7 @@ pub fn all(lab: &mut Lab) {
         ("K10", budget_zero),
         ("K11", full_ring),
         ("K12", to_oneself),
+        ("K12 in every queue", to_oneself_in_every_queue),
         ("the listing", listing),
         ("y escape with dx left", order_of_escapes),
         ("a half-way offset keeps its sign", half_way),
@@ -168,16 +169,37 @@ fn full_ring(lab: &mut Lab) {
 }
 
 fn to_oneself(lab: &mut Lab) {
-    let mut words = make(lab, Shape::new(1, 1, 2, 1, 1));
-    assert_eq!(lab.call(&mut words, offer(0, 0, 3)).refusal, 0);
+    let shape = Shape::new(1, 1, 2, 1, 1);
+    let mut words = make(lab, shape);
+    assert_eq!(lab.try_out(&words, offer(0, 0, 3)), 14);
+    assert_eq!(lab.try_out(&words, offer(1, 1, 3)), 4);
+    // Written by hand such a packet passes, and one move hands it out.
+    put(&shape, &mut words, 0, 0, 0, 0);
+    assert_eq!(lab.try_out(&words, Call::Check), 0);
+    assert_eq!(lab.try_out(&words, offer(0, 0, 3)), 14, "14 before 7");
     assert_eq!(lab.call(&mut words, Call::First).out, [1, 0, 0, 0]);
     for output in 1..=8 {
         assert_eq!(lab.try_out(&words, move_call(0, 0, output)), 10);
     }
+    let (drained, ledger) = lab.call_with_ledger(&mut words.clone(), drain(9, 1));
+    assert_eq!((drained.out, ledger[0]), ([1, 1, 0, 0], 5 << 32));
     let answer = lab.call(&mut words, move_call(0, 0, 0));
-    assert_eq!((answer.refusal, answer.out), (0, [1, 3 << 32, 0, 0]));
+    assert_eq!((answer.refusal, answer.out), (0, [1, 5 << 32, 0, 0]));
     assert_eq!(words[5..8], [1, 1, 1]);
     assert_eq!(lab.call(&mut words, Call::First).out, [0; 4]);
+}
+
+fn to_oneself_in_every_queue(lab: &mut Lab) {
+    let shape = Shape::new(2, 2, 2, 1, 1);
+    let mut words = make(lab, shape);
+    for queue in 0..9 {
+        put(&shape, &mut words, 0, queue, 0, 0);
+        assert_eq!(lab.try_out(&words, Call::Check), 0);
+        assert_eq!(lab.try_out(&words, move_call(0, queue, 0)), 0);
+    }
+    let (answer, ledger) = lab.call_with_ledger(&mut words, drain(9, 9));
+    assert_eq!((answer.refusal, answer.out), (0, [9, 9, 0, 0]));
+    assert_eq!(ledger, [5 << 32; 9]);
 }
 
 fn listing(lab: &mut Lab) {

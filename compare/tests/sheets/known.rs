@@ -94,8 +94,14 @@ pub fn sheets() -> Vec<Known> {
         ),
         (
             "a delivery by M, and the largest tag",
-            format!("{good}\nO,3,3,4294967295\nM,3,0,1\nM,3,0,0\nM,3,0,0\n"),
-            "T,0 O,0 M,10 P,4294967295,3 M,0 M,9".into(),
+            format!("{good}\nO,2,3,4294967295\nM,2,0,0\nM,2,0,1\nM,3,1,0\nM,3,1,0\n"),
+            "T,0 O,0 M,10 M,0 P,4294967295,3 M,0 M,9".into(),
+        ),
+        (
+            "offers to oneself",
+            format!("T,1,1,2,1,1\nO,0,0,1\nO,1,1,1\n{good}\nO,3,3,1\nO,4,4,1\nO,0,1,2\n")
+                + "O,0,0,3\nD,9\n",
+            "T,0 O,14 O,4 T,0 O,14 O,4 O,0 O,14 P,2,1 D,0,2,emptied".into(),
         ),
         (
             "stops",

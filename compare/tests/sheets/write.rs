@@ -49,7 +49,7 @@ pub fn hostile_sheets() -> Vec<(String, Vec<u8>)> {
         "byte order mark".into(),
         [b"\xef\xbb\xbf", good, after].concat(),
     ));
-    for far in 0..8 {
+    for far in 1..9 {
         list.push((format!("full ledger, {far} nodes away"), full_ledger(far)));
     }
     list
@@ -62,7 +62,7 @@ fn full_ledger(far: u64) -> Vec<u8> {
         let node = packet % 16;
         sheet += &format!("O,{node},{},{packet}\n", (node + packet / 64 + far) % 16);
     }
-    sheet += "D,4294967295\nO,0,0,0\nO,1,1,1\n";
+    sheet += "D,4294967295\nO,0,1,0\nO,1,0,1\nO,2,2,2\n";
     sheet += &"D,70\nD,4294967295\n".repeat(4);
     sheet.into_bytes()
 }

@@ -3,7 +3,7 @@
 -- Order: how the rows' networks are written down; what the rows about every network speak of; the rows; what proves them; the theorem.
 -- Assumes nothing.
 use mathlib.Core.Path.{_≡_, refl, ap, ap₂, _∙_}
-use mathlib.Core.Logic.{_⊎_, inl, inr, _≢_}
+use mathlib.Core.Logic.{_⊎_, inl, inr, _≢_, _↔_}
 use mathlib.Core.Bool.{Bool, true, false, not, cond, _&&_, _||_}
 use mathlib.Core.List.{List, [], _∷_, map}
 use Prim.Native.Nat.{ℕ, zero, suc, _+_, _-_, _<_, _≤_}
@@ -17,11 +17,12 @@ use lib.ListN.{length, take, drop, set, replicate, length-take}
 use Rattle.base.specs.Tests.{allBelow, someBelow, allOf, elem, T-true, T-false, passed?, and-i, or-l, or-r, or-e, all-by}
 use Rattle.base.specs.Sums.{sumBelow, sumOf}
 use Rattle.base.specs.Digits.{product, digit, putDigit, rotate}
+use Rattle.network.specs.declared.Moved.{Moved}
 use Rattle.network.specs.declared.Found.{Found}
 use Rattle.network.specs.declared.Stop.{Stop}
 use Rattle.network.specs.declared.Drained.{Drained}
 use Rattle.network.specs.declared.Sizes.{Sizes}
-use Rattle.network.specs.Sizes.{Shape, shapeOf, sized, size, within, sizesInRange, nodes, queues, directions, dimensions, dimensionOf, isPlus, adaptiveQueue, escapeQueue, capacity, largestRing}
+use Rattle.network.specs.Sizes.{Shape, shapeOf, sized, size, within, sizesInRange, nodes, queues, directions, dimensions, dimensionOf, directionOf, isPlus, injectionQueue, adaptiveQueue, escapeQueue, capacity, largestRing}
 use Rattle.network.specs.SizesLaws.{escape-capacity}
 use Rattle.network.specs.Packet.{signed, unsigned, packetWord, tag, destination, offset, withOffset, withOffsets, distance, forward, backward, hops, heading, hopsLeft, work, shrunk, hop, shorterWay}
 use Rattle.network.specs.Torus.{coordinate, stride, along, neighbour, movedBelow, movedBy}
@@ -29,12 +30,12 @@ use Rattle.network.specs.Layout.{headerWords, shape, accepted, delivered
 use Rattle.network.specs.Check.{rightPlace, isQueueOf, reach, nearEnough, opposite, rightSign, lowerDone, packetFits, queueFits, queuesFit, hasRoom, ringHasRoom, ringsHaveRoom, packetsHeld, workLeft, countersFit, isNetwork}
 use Rattle.network.specs.Routes.{deliver, inOrder, without, incoming, incomingFirst, headings, routes, target, freeSlots, entersRing, slotsNeeded}
 use Rattle.network.specs.Refusals.{refuse, noRoute, noSlot, noBubble, networkRefusal, makeRefusal, offerRules, offerRefusal, head, flowRules, moveRules, moveRefusal}
-use Rattle.network.specs.Calls.{Progress, emptyNetwork, makeWords, offered, afterOffer, offerWords, headLeaves, packetArrives, afterMove, firstOutput, firstInQueue, orElse, search, firstInNode, firstMove, firstAnswer, stopped, oneMore, deliverNext, moveNext, drainFrom, drained, drainAnswer}
+use Rattle.network.specs.Calls.{Progress, emptyNetwork, makeWords, offered, afterOffer, offerWords, headLeaves, packetArrives, afterMove, moveAnswer, firstOutput, firstInQueue, orElse, search, firstInNode, firstMove, firstAnswer, stopped, oneMore, deliverNext, moveNext, drainFrom, drained, drainLedger, drainAnswer}
 use Rattle.network.specs.PacketLaws.{distance-le-hopsLeft}
 use Rattle.network.specs.TorusLaws.{along-lt, inRange-torus}
-use Rattle.network.specs.CheckLaws.{Network, network-of, has-room-held}
-use Rattle.network.specs.RoutesLaws.{Onward, route-of, free-slots-held}
-use Rattle.network.specs.RefusalLaws.{elseBy-zero, network-passes}
+use Rattle.network.specs.CheckLaws.{Network, own-fits, network-of, has-room-held}
+use Rattle.network.specs.RoutesLaws.{Onward, route-of, arrived-route, free-slots-held}
+use Rattle.network.specs.RefusalLaws.{elseBy-zero, network-passes, own-node-exactly, no-node-first, permitted-by}
 
 -- a packet with tag 0, this destination and these offsets dx and dy
 abbrev packet : ℕ → ℤ → ℤ → ℕ
@@ -108,9 +109,13 @@ Entries d count refusals =
 abbrev pair : List ℕ → List ℕ → List ℕ
 pair ps qs = holding (holding (empty 2 1 2 1 1) 0 5 ps) 1 5 qs
 
--- K12: 1 by 1, with the one offer made
+-- K12: 1 by 1, and by hand a packet for its own node in the injection queue
 abbrev alone : List ℕ
-alone = offerWords (empty 1 1 2 1 1) 0 0 0
+alone = holding (empty 1 1 2 1 1) 0 injectionQueue (here 0 ∷ [])
+
+-- 2 by 2, and by hand such a packet in each queue of node 0
+abbrev in-every-queue : List ℕ
+in-every-queue = inEach (empty 2 2 2 1 1) (here 0) (inOrder 0 queues)
 
 -- in any words: the head of queue q of node n, and that it is there to be moved
 abbrev headOf : List ℕ → ℕ → ℕ → ℕ
@@ -210,10 +215,31 @@ pub record KeptCases : Type 0 where
       → T (countersFit (shape w) w)
       → ((n : ℕ) → n < nodes (shape w) → inRing w d n ≤ 3)
       → networkRefusal w ≡ 0)
-  -- the one packet of a one-node torus: First names its delivery, no other output is permitted, and a Drain needs that move alone
-  pub k12 : (firstAnswer alone ≡ Found.Move 0 0 0)
+  -- the offer of a one-node torus to itself is refused, and writes nothing
+  pub k12 : (offerRefusal (empty 1 1 2 1 1) 0 0 ≡ 14) × ((tag : ℕ) → offerWords (empty 1 1 2 1 1) 0 0 tag ≡ empty 1 1 2 1 1)
+  -- any network, whatever it has accepted and however full its queues are: 14 is told exactly where a node offers to itself, so in a network of one
+  -- node of every offer between nodes; of one number twice that is no node 4 is told
+  pub k12-every : (w : List ℕ) (n destination : ℕ) → networkRefusal w ≡ 0
+      → ((offerRefusal w n destination ≡ 14) ↔ ((n < nodes (shape w)) × (n ≡ destination)))
+      × (nodes (shape w) ≡ 1 → n < nodes (shape w) → destination < nodes (shape w) → offerRefusal w n destination ≡ 14)
+      × (nodes (shape w) ≤ n → offerRefusal w n n ≡ 4)
+  -- R86, a packet for its own node that is held already passes: First names its delivery, no other output is permitted, a Drain needs that move alone
+  -- and puts its word into the ledger
+  pub k12-held : (networkRefusal alone ≡ 0)
+      × (firstAnswer alone ≡ Found.Move 0 0 0)
       × (map (λ o. moveRefusal alone 0 0 o) (inOrder 0 queues) ≡ 0 ∷ 10 ∷ 10 ∷ 10 ∷ 10 ∷ 10 ∷ 10 ∷ 10 ∷ 10 ∷ [])
       × ((budget room : ℕ) → drainAnswer alone (suc budget) (suc room) ≡ Drained.Stopped 1 1 Stop.Emptied)
+      × ((budget l : ℕ) (ledger : List ℕ) → drainLedger alone (suc budget) (l ∷ ledger) ≡ here 0 ∷ ledger)
+  -- in each of the nine queues: all pass, and a Drain hands out all nine, in nine moves
+  pub k12-in-every-queue : (networkRefusal in-every-queue ≡ 0)
+      × (drainAnswer in-every-queue 9 9 ≡ Drained.Stopped 9 9 Stop.Emptied)
+      × (drainLedger in-every-queue 9 (replicate 9 0) ≡ replicate 9 (here 0))
+  -- any network: a head without hops left is delivered by output 0 and goes nowhere else; and the check lets such a packet stand in the injection
+  -- queue of its destination and in the queues of a dimension of two nodes or more
+  pub k12-held-every : (w : List ℕ) (n q : ℕ) → Standing w n q → hopsLeft (headOf w n q) ≡ 0
+      → (moveAnswer w n q deliver ≡ Moved.Delivered (headOf w n q)) × ((o : ℕ) → o < queues → o ≢ deliver → moveRefusal w n q o ≡ 10)
+  pub k12-fits-every : (w : List ℕ) (n q p : ℕ) → T (sizesInRange (shape w)) → n < nodes (shape w) → hopsLeft p ≡ 0 → destination p ≡ n
+      → packetFits (shape w) n q p ≡ (eqb q injectionQueue || leb 2 (size (shape w) (dimensionOf (directionOf q))))
 
 -- in words that pass the check a move is refused as the rules of Move say: so the rows compute the check once for each network
 by-rules : (w : List ℕ) (n q o refusal : ℕ) → networkRefusal w ≡ 0 → moveRules (shape w) w n q o ≡ refusal → moveRefusal w n q o ≡ refusal
@@ -427,8 +453,40 @@ module _ (w : List ℕ) (d : ℕ) (r : RingsOfTwo w d) where
       ring e n he hn (yes z) = rw z (ring-with-room n (l n hn))
       ring e n he hn (no ne) = others e n he hn ne
 
+-- K12
+to-oneself : (w : List ℕ) (n destination : ℕ) → networkRefusal w ≡ 0 → offerRefusal w n destination ≡ offerRules (shape w) w n destination
+unfolding offerRefusal
+to-oneself w n destination e = elseBy-zero (networkRefusal w) (offerRules (shape w) w n destination) e
+
+own-node-only : (w : List ℕ) (n destination : ℕ) → networkRefusal w ≡ 0
+    → (offerRefusal w n destination ≡ 14) ↔ ((n < nodes (shape w)) × (n ≡ destination))
+own-node-only w n destination e = rw (to-oneself w n destination e) (own-node-exactly (shape w) w n destination)
+
+delivered-here : (w : List ℕ) (n q : ℕ) → Standing w n q → hopsLeft (headOf w n q) ≡ 0 → moveAnswer w n q deliver ≡ Moved.Delivered (headOf w n q)
+unfolding moveAnswer
+delivered-here w n q s z =
+    let permitted : moveRefusal w n q deliver ≡ 0 =
+    by-rules w n q deliver 0 (s .passes)
+    (permitted-by (shape w) w n q deliver
+    (record {
+      node = s .node;
+      queue = s .queue;
+      output = omega arith;
+      holds = s .holds;
+      route = arrived-route q (headOf w n q) z;
+      room = λ ne. absurd (ne refl);
+    })) in
+    rw (eq-eqb (moveRefusal w n q deliver) 0 permitted)
+
+not-on : (q p o : ℕ) → hopsLeft p ≡ 0 → o ≢ deliver → T (elem o (routes q p)) → ⊥
+not-on q p o z ne t = go (route-of q p o t)
+  where
+    go : ((o ≡ deliver) × (hopsLeft p ≡ 0)) ⊎ Onward p o → ⊥
+    go (inl (e, h)) = ne e
+    go (inr r) = r .far (let m = distance-le-hopsLeft (r .dimension) p (r .below) in omega arith)
+
 pub keptCases : KeptCases
-unfolding next oneHop chosen outside sources inEach crossing allBelow someBelow allOf elem sumBelow sumOf product digit putDigit rotate size within sizesInRange nodes capacity signed unsigned packetWord tag destination offset withOffset withOffsets distance forward backward hops heading hopsLeft work shrunk hop shorterWay coordinate stride along neighbour movedBelow movedBy shape accepted delivered movesMade raised queueLength nodeWords queueStart queueEnd need queueWords queuePart countOf packetsOf unusedOf held load fill putQueue total rightPlace isQueueOf reach nearEnough opposite rightSign lowerDone packetFits queueFits queuesFit hasRoom ringHasRoom ringsHaveRoom packetsHeld workLeft countersFit isNetwork inOrder without incoming incomingFirst headings routes target freeSlots entersRing slotsNeeded networkRefusal makeRefusal offerRules offerRefusal head flowRules moveRules moveRefusal shapeOf emptyNetwork makeWords offered afterOffer offerWords headLeaves packetArrives afterMove firstOutput firstInQueue orElse search firstInNode firstMove firstAnswer stopped oneMore deliverNext moveNext drainFrom drained drainAnswer
+unfolding next oneHop chosen outside sources inEach crossing allBelow someBelow allOf elem sumBelow sumOf product digit putDigit rotate size within sizesInRange nodes capacity signed unsigned packetWord tag destination offset withOffset withOffsets distance forward backward hops heading hopsLeft work shrunk hop shorterWay coordinate stride along neighbour movedBelow movedBy shape accepted delivered movesMade raised queueLength nodeWords queueStart queueEnd need queueWords queuePart countOf packetsOf unusedOf held load fill putQueue total rightPlace isQueueOf reach nearEnough opposite rightSign lowerDone packetFits queueFits queuesFit hasRoom ringHasRoom ringsHaveRoom packetsHeld workLeft countersFit isNetwork inOrder without incoming incomingFirst headings routes target freeSlots entersRing slotsNeeded networkRefusal makeRefusal offerRules offerRefusal head flowRules moveRules moveRefusal shapeOf emptyNetwork makeWords offered afterOffer offerWords headLeaves packetArrives afterMove firstOutput firstInQueue orElse search firstInNode firstMove firstAnswer stopped oneMore deliverNext moveNext drainFrom drained drainLedger drainAnswer
 keptCases =
     record {
       k1 = refl;
@@ -453,10 +511,28 @@ keptCases =
       k10-every = without-budget;
       k11 = (refl, refl, refl);
       k11-every = λ w d r. (full-ring w d r, all-else-right w d r);
-      k12 = (refl, refl, one-move);
+      k12 = (refl, λ tag. refl);
+      k12-every =
+          λ w n destination e. (
+            own-node-only w n destination e,
+            λ one hn hd. own-node-only w n destination e .1 (hn, omega (arith, one, hn, hd)),
+            λ h. to-oneself w n n e ∙ no-node-first (shape w) w n h,
+          );
+      k12-held = (refl, refl, refl, one-move, one-word);
+      k12-in-every-queue = (refl, refl, refl);
+      k12-held-every =
+          λ w n q s z. (
+            delivered-here w n q s z,
+            λ o h ne. no-route w n q o s h (not-on q (headOf w n q) o z ne),
+          );
+      k12-fits-every = λ w n q p r h z e. own-fits (shape w) n q p (inRange-torus (shape w) r refl) h z e;
     }
   where
     -- whatever budget is left after it
     one-move : (budget room : ℕ) → drainAnswer alone (suc budget) (suc room) ≡ Drained.Stopped 1 1 Stop.Emptied
     one-move zero room = refl
     one-move (suc budget) room = refl
+
+    one-word : (budget l : ℕ) (ledger : List ℕ) → drainLedger alone (suc budget) (l ∷ ledger) ≡ here 0 ∷ ledger
+    one-word zero l ledger = refl
+    one-word (suc budget) l ledger = refl

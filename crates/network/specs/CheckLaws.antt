@@ -2,21 +2,22 @@
 -- Order: a packet; a queue; its room; the whole. Assumes nothing.
 use mathlib.Core.Path.{_≡_, refl, ap, sym, _∙_}
 use mathlib.Core.Logic.{_⊎_, inl, inr, _≢_}
-use mathlib.Core.Bool.{Bool, true, false, cond, not, _&&_}
+use mathlib.Core.Bool.{Bool, true, false, cond, not, _&&_, _||_}
 use mathlib.Core.List.{List}
-use Prim.Native.Nat.{ℕ, _+_, _*_, _-_, _%_, _<_, _≤_}
+use Prim.Native.Nat.{ℕ, _+_, _*_, _-_, _/_, _%_, _<_, _≤_}
 use native.Mathlib.Decide.{ℕ-discrete}
 use native.Mathlib.Omega.{arith}
 use borrow.Author.Tests.{eq-eqb, ne-eqb}
 use lib.Dec.{T, leb, ltb, eqb, leb→le, le→leb, ltb→lt, lt→ltb, eqb→eq, eqb-refl, T-not}
 use lib.ListN.{length, getD}
 use Rattle.base.specs.Tests.{allBelow, allOf, and-l, and-r, and-i, or-l, or-r, or-e, all-at, all-by, passed?}
+use Rattle.base.specs.Bools.{same-test}
 use Rattle.base.specs.Digits.{rotate, rotate-rotate, rotate-rounds, radix-pos}
 use Rattle.network.specs.Sizes.{Shape, size, sizesInRange, nodes, queues, directions, dimensions, dimensionOf, directionOf, isPlus, plus, minus, isEscape, injectionQueue, capacity}
-use Rattle.network.specs.Packet.{destination, distance, hops}
-use Rattle.network.specs.PacketLaws.{one-way, distance-is}
+use Rattle.network.specs.Packet.{destination, distance, hops, hopsLeft}
+use Rattle.network.specs.PacketLaws.{one-way, distance-is, hops-le, distance-le-hopsLeft}
 use Rattle.network.specs.Torus.{stride, along, neighbour, movedBy}
-use Rattle.network.specs.TorusLaws.{Torus}
+use Rattle.network.specs.TorusLaws.{Torus, movedBy-here}
 use Rattle.network.specs.Layout.{held, fill, queuePart, countOf, unusedOf, need, accepted, delivered, movesMade}
 use Rattle.network.specs.LayoutLaws.{fill-length}
 use Rattle.network.specs.Check.{longest, rightPlace, isQueueOf, reach, nearEnough, opposite, rightSign, lowerDone, packetFits, queueFits, queuesFit, hasRoom, ringHasRoom, ringsHaveRoom, packetsHeld, workLeft, mostAccepted, mostWork, countersFit, isNetwork}
@@ -207,6 +208,66 @@ packet-by S n q p f =
         or-r (not (isEscape q)) (allBelow (dimensionOf (directionOf q)) (λ j. eqb (distance j p) 0))
         (all-by (dimensionOf (directionOf q)) (λ j. eqb (distance j p) 0) (λ i h. eq-T (distance i p) 0 (f .lower e i h)))
     low (inr no′) = or-l (not (isEscape q)) (allBelow (dimensionOf (directionOf q)) (λ j. eqb (distance j p) 0)) no′
+
+-- R86: a packet for the very node where it stands passes in the injection queue and in the queues of a dimension along which a hop can have been
+-- made, and in no other
+module _ (S : Shape) (n q p : ℕ) (tor : Torus S) (node : n < nodes S) (arrived : hopsLeft p ≡ 0) (own : destination p ≡ n) where
+  i : ℕ
+  i = dimensionOf (directionOf q)
+
+  no-hop : (j : ℕ) → j < dimensions → distance j p ≡ 0
+  no-hop j h = let d = distance-le-hopsLeft j p h in omega arith
+
+  reach-injection : (j : ℕ) → q ≡ injectionQueue → reach j q p ≡ distance j p
+  unfolding reach isQueueOf
+  reach-injection j e = rw e
+
+  reach-own : q ≢ injectionQueue → reach i q p ≡ distance i p + 1
+  unfolding reach isQueueOf i
+  reach-own ne = rw (ne-eqb q injectionQueue ne, eq-eqb (dimensionOf (directionOf q)) (dimensionOf (directionOf q)) refl)
+
+  own-clauses : (q ≡ injectionQueue) ⊎ (2 ≤ size S i) → PacketFits S n q p
+  unfolding i
+  own-clauses room =
+      record {
+        addressed = let e = own in let h = node in omega arith;
+        arrives = movedBy-here S n p tor node arrived ∙ sym own;
+        near = λ j h. near j h room (ℕ-discrete (dimensionOf (directionOf q)) j);
+        sign =
+            λ ne.
+            let a = hops-le (opposite (directionOf q)) p in
+            let b = opposite-dimension (directionOf q) in
+            let c = no-hop (dimensionOf (opposite (directionOf q))) (omega arith) in
+            omega arith;
+        lower = λ e j h. no-hop j (omega arith);
+      }
+    where
+      near : (j : ℕ) → j < dimensions → (q ≡ injectionQueue) ⊎ (2 ≤ size S i) → Dec (dimensionOf (directionOf q) ≡ j) → reach j q p ≤ longest S j
+      near j h (inl e) d = let r = reach-injection j e in let z = no-hop j h in omega arith
+      near j h (inr two) (yes e) =
+          let r = reach-most j q p in
+          let z = no-hop j h in
+          let s : 2 ≤ size S j = rw e at two in
+          omega arith
+      near j h (inr two) (no ne) = let r = reach-other j q p ne in let z = no-hop j h in omega arith
+
+  pub own-fits : packetFits S n q p ≡ (eqb q injectionQueue || leb 2 (size S (dimensionOf (directionOf q))))
+  unfolding i
+  own-fits =
+      same-test (packetFits S n q p) (eqb q injectionQueue || leb 2 (size S i))
+      (λ f. room (packet-of S n q p f) (ℕ-discrete q injectionQueue))
+      (λ r. packet-by S n q p (own-clauses (either (or-e (eqb q injectionQueue) (leb 2 (size S i)) r))))
+    where
+      room : PacketFits S n q p → Dec (q ≡ injectionQueue) → T (eqb q injectionQueue || leb 2 (size S i))
+      room f (yes e) = or-l (eqb q injectionQueue) (leb 2 (size S i)) (eq-T q injectionQueue e)
+      room f (no ne) =
+          let l = f .near i (omega arith) in
+          let r = reach-own ne in
+          or-r (eqb q injectionQueue) (leb 2 (size S i)) (le→leb 2 (size S i) (omega arith))
+
+      either : T (eqb q injectionQueue) ⊎ T (leb 2 (size S i)) → (q ≡ injectionQueue) ⊎ (2 ≤ size S i)
+      either (inl t) = inl (eqb→eq q injectionQueue t)
+      either (inr t) = inr (leb→le 2 (size S i) t)
 
 -- the clauses for queue q of node n
 pub record QueueFits (S : Shape) (w : List ℕ) (n q : ℕ) : Type 0 where

@@ -1,6 +1,7 @@
 -- Laws of the packet of an offer (`offered` of Calls.antt), between nodes of a torus whose rings are no longer than the largest. Order: its fields; how far it
--- has to go; that its offsets lead from its node to its destination. Assumes nothing.
-use mathlib.Core.Path.{_≡_, ap, ap₂, _∙_}
+-- has to go; that its offsets lead from its node to its destination, and have a hop left where the two differ. Assumes nothing.
+use mathlib.Core.Path.{_≡_, ap, ap₂, sym, _∙_}
+use mathlib.Core.Logic.{_≢_}
 use Prim.Native.Nat.{ℕ, _+_, _*_, _-_, _%_, _^_, _<_, _≤_}
 use native.Mathlib.Omega.{arith}
 use lib.IntN.{ℤ, natAbs}
@@ -9,7 +10,7 @@ use Rattle.network.specs.Sizes.{Shape, size, nodes, dimensions, largestR
 use Rattle.network.specs.Packet.{tag, destination, offset, distance, forward, backward, hopsLeft, work, shorterWay}
 use Rattle.network.specs.PacketLaws.{OffsetRange, tag-packet, destination-packet, offset-packet, hops-plus, hops-minus, shorterWay-range, shorterWay-half, shorterWay-reaches}
 use Rattle.network.specs.Torus.{coordinate, movedBy}
-use Rattle.network.specs.TorusLaws.{Torus, coordinate-lt, coordinates-eq, coordinate-movedBy, movedBy-lt}
+use Rattle.network.specs.TorusLaws.{Torus, coordinate-lt, coordinates-eq, coordinate-movedBy, movedBy-lt, movedBy-here}
 use Rattle.network.specs.Check.{longest, mostWork}
 use Rattle.network.specs.Calls.{offered}
 
@@ -74,3 +75,6 @@ module _ (S : Shape) (n dest tag′ : ℕ) (t : Torus S) (h : n < nodes S) (hd :
       (hops-plus i (offered S n dest tag′) ∙ ap forward (offset-offered i k))
       (hops-minus i (offered S n dest tag′) ∙ ap backward (offset-offered i k))
       ∙ shorterWay-reaches (size S i) (coordinate S i n) (coordinate S i dest) (coordinate-lt S i n t k) (coordinate-lt S i dest t k))
+
+  pub hops-offered : n ≢ dest → hopsLeft (offered S n dest tag′) ≢ 0
+  hops-offered apart none = apart (sym (movedBy-here S n (offered S n dest tag′) t h none) ∙ movedBy-offered)

@@ -1,15 +1,15 @@
 -- Refusals as facts: a chain of tests gives 0 exactly when none of them applies. Order: one test and two chains; words that are a network;
--- a permitted move. Assumes nothing.
+-- an offer to oneself; a permitted move. Assumes nothing.
 use mathlib.Core.Path.{_≡_, refl, ap, _∙_}
-use mathlib.Core.Logic.{_≢_}
-use mathlib.Core.Bool.{Bool, true, false, cond, not}
+use mathlib.Core.Logic.{_≢_, _↔_}
+use mathlib.Core.Bool.{Bool, true, false, cond, not, _||_}
 use mathlib.Core.List.{List}
 use Prim.Native.Nat.{ℕ, suc, _+_, _<_, _≤_}
 use native.Mathlib.Nat.{le-trans, le-add-right}
 use native.Mathlib.Decide.{ℕ-discrete}
 use native.Mathlib.Omega.{arith}
-use borrow.Author.Tests.{eq-eqb, ne-eqb, lt-leb, le-ltb, ltb-false, leb-false, eqb-false}
-use lib.Dec.{T, leb, ltb, eqb}
+use borrow.Author.Tests.{eq-eqb, ne-eqb, lt-leb, le-leb, le-ltb, ltb-false, leb-false, eqb-false}
+use lib.Dec.{T, leb, ltb, eqb, eqb→eq}
 use lib.ListN.{length}
 use Rattle.base.specs.Tests.{elem, T-true, true-T}
 use Rattle.network.specs.Sizes.{Shape, sizesInRange, nodes, queues, capacity}
@@ -19,7 +19,7 @@ use Rattle.network.specs.Check.{isNetwork}
 use Rattle.network.specs.CheckLaws.{Network, network-of, network-by}
 use Rattle.network.specs.Routes.{routes, deliver, target, freeSlots, entersRing, slotsNeeded}
 use Rattle.network.specs.RoutesLaws.{free-slots-is}
-use Rattle.network.specs.Refusals.{refuse, elseBy, networkRefusal, head, flowRules, moveRules, shortStore, wrongSize, noNetwork, noSuchNode, noSuchQueue, noSuchOutput, queueEmpty, noRoute, noSlot, noBubble}
+use Rattle.network.specs.Refusals.{refuse, elseBy, networkRefusal, noNode, isOwnNode, countIsSpent, injectionIsFull, offerRules, head, flowRules, moveRules, shortStore, wrongSize, noNetwork, noSuchNode, noSuchQueue, noSuchOutput, injectionFull, countSpent, queueEmpty, noRoute, noSlot, noBubble, ownNode}
 
 -- a test that would refuse by k + 1 did not apply, and the later ones say 0
 pub not-refused : (b : Bool) (k later : ℕ) → refuse b (suc k) later ≡ 0 → (b ≡ false) × (later ≡ 0)
@@ -64,6 +64,29 @@ network-passes w f =
     (passes (not (sizesInRange (shape w))) wrongSize _ (ap not (T-true (sizesInRange (shape w)) (f .in-range)))
     (passes (ltb (length w) (need (shape w))) shortStore _ (le-ltb (length w) (need (shape w)) l)
     (passes (not (isNetwork (shape w) w)) noNetwork 0 (ap not (T-true (isNetwork (shape w) w) (network-by (shape w) w f))) refl)))
+
+-- R174, R188: 14 is told exactly where a node offers to itself, whatever was accepted and however full its queue is
+pub own-node-exactly : (S : Shape) (w : List ℕ) (n destination : ℕ) → (offerRules S w n destination ≡ ownNode) ↔ ((n < nodes S) × (n ≡ destination))
+unfolding offerRules
+own-node-exactly S w n destination =
+    ((λ e. told (leb (nodes S) n) (leb (nodes S) destination) (eqb n destination) (countIsSpent w) (injectionIsFull S w n) refl refl e), tells)
+  where
+    told : (a b c d f : Bool) → leb (nodes S) n ≡ a → eqb n destination ≡ c
+        → refuse (a || b) noSuchNode (refuse c ownNode (refuse d countSpent (refuse f injectionFull 0))) ≡ ownNode → (n < nodes S) × (n ≡ destination)
+    told true b c d f ea ec e = absurd (omega (arith, e))
+    told false true c d f ea ec e = absurd (omega (arith, e))
+    told false false true d f ea ec e = (leb-false (nodes S) n ea, eqb→eq n destination (true-T (eqb n destination) ec))
+    told false false false true f ea ec e = absurd (omega (arith, e))
+    told false false false false true ea ec e = absurd (omega (arith, e))
+    told false false false false false ea ec e = absurd (omega (arith, e))
+
+    tells : (n < nodes S) × (n ≡ destination) → offerRules S w n destination ≡ ownNode
+    tells (h, e) = rw (lt-leb (nodes S) n h, lt-leb (nodes S) destination (omega (arith, h, e)), eq-eqb n destination e)
+
+-- R164, R188: one number, given twice, that is no node
+pub no-node-first : (S : Shape) (w : List ℕ) (n : ℕ) → nodes S ≤ n → offerRules S w n n ≡ noSuchNode
+unfolding offerRules
+no-node-first S w n h = rw (le-leb (nodes S) n h)
 
 -- a move that no rule refuses
 pub record Permitted (S : Shape) (w : List ℕ) (n q o : ℕ) : Type 0 where

@@ -1,4 +1,4 @@
--- R160 to R187: the numbers, and for each call the first of its tests that applies, in its order; 0 if none does.
+-- R160 to R188: the numbers, and for each call the first of its tests that applies, in its order; 0 if none does.
 -- Order: the numbers; the tests by what each finds; the tests that all calls but Make share; Make; Offer; Move; Credit; Look. Assumes nothing.
 use mathlib.Core.Bool.{Bool, true, false, not, cond, _||_}
 use mathlib.Core.List.{List}
@@ -11,7 +11,7 @@ use Rattle.network.specs.Layout.{shape, headerWords, need, held, fill, a
 use Rattle.network.specs.Check.{isNetwork, mostAccepted}
 use Rattle.network.specs.Routes.{routes, deliver, freeSlots, slotsNeeded}
 
--- R161 to R172, with the trade's words; 13, "bad line", belongs to the bench program
+-- R161 to R174, with the trade's words where they are others
 abbrev pub shortStore : ℕ
 shortStore = 1
 
@@ -54,6 +54,10 @@ noBubble = 12
 -- R173: the program's own, of a line that is no command
 abbrev pub badLine : ℕ
 badLine = 13
+
+-- "to oneself"
+abbrev pub ownNode : ℕ
+ownNode = 14
 
 -- refused by this number if the test applies, else whatever the later tests say
 abbrev pub refuse : Bool → ℕ → ℕ → ℕ
@@ -106,6 +110,10 @@ noSlotFor S w n o = eqb (freeSlots S w n o) 0
 abbrev pub noBubbleFor : Shape → List ℕ → ℕ → ℕ → ℕ → Bool
 noBubbleFor S w n q o = ltb (freeSlots S w n o) (slotsNeeded q o)
 
+-- R174: an offer to the node at which it is made
+abbrev pub isOwnNode : ℕ → ℕ → Bool
+isOwnNode n destination = eqb n destination
+
 -- R181: 1 for the header, 2, 1 for the need, 3
 unfoldable pub networkRefusal : List ℕ → ℕ
 networkRefusal w =
@@ -118,12 +126,13 @@ networkRefusal w =
 unfoldable pub makeRefusal : Shape → List ℕ → ℕ
 makeRefusal S w = refuse (not (sizesInRange S)) wrongSize (refuse (ltb (length w) (need S)) shortStore 0)
 
--- R183: 4, 8, 7
+-- R188: 4, 14, 8, 7
 unfoldable pub offerRules : Shape → List ℕ → ℕ → ℕ → ℕ
 offerRules S w n destination =
     refuse (noNode S n || noNode S destination) noSuchNode
+    (refuse (isOwnNode n destination) ownNode
     (refuse (countIsSpent w) countSpent
-    (refuse (injectionIsFull S w n) injectionFull 0))
+    (refuse (injectionIsFull S w n) injectionFull 0)))
 
 unfoldable pub offerRefusal : List ℕ → ℕ → ℕ → ℕ
 offerRefusal w n destination = elseBy (networkRefusal w) (offerRules (shape w) w n destination)

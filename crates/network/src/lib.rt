@@ -96,6 +96,9 @@ pub const NO_BUBBLE: u64 = 12;
 // R173: no command of the bench program.
 pub const BAD_LINE: u64 = 13;
 
+// R174: an offer to the node at which it is made.
+pub const OWN_NODE: u64 = 14;
+
 // Move: refused by a rule, passed on to a neighbour, or delivered, with the packet word that it hands out.
 pub enum Moved {
     Refused(u64),

@@ -1,5 +1,5 @@
-// The tests that each call makes after the check, in the order of R183 to R186: the number of the first that applies, or 0. Every function
-// equals the definition of its name in the crate `network` (specs/Refusals.antt).
+// The tests that each call makes after the check, in the order of R184 to R186 and R188: the number of the first that applies, or 0. Every
+// function equals the definition of its name in the crate `network` (specs/Refusals.antt).
 use flow::flow_rules;
 use flow::head;
 use flow::held_count;
@@ -11,6 +11,7 @@ use network::NO_ROUTE;
 use network::NO_SUCH_NODE;
 use network::NO_SUCH_OUTPUT;
 use network::NO_SUCH_QUEUE;
+use network::OWN_NODE;
 use network::QUEUE_EMPTY;
 use network::QUEUES;
 use network::Sizes;
@@ -28,13 +29,16 @@ pub fn offer_rules(words: &[u64], s: Sizes, n: u64, destination: u64) -> u64
     ensures { λ r. ⌜ r ≡ offerRules (shapeOf s) (now (words .entry)) n destination ⌝ }
 {
     let count = nodes(s);
+    let accepted = words[ACCEPTED_AT];
     if count <= n {
         return NO_SUCH_NODE;
     }
     if count <= destination {
         return NO_SUCH_NODE;
     }
-    let accepted = words[ACCEPTED_AT];
+    if n == destination {
+        return OWN_NODE;
+    }
     let slots = capacity(s, 0);
     let held = held_count(words, s, n, 0);
     if accepted == MOST_ACCEPTED {

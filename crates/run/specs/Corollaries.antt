@@ -2,7 +2,7 @@
 -- that Make and accepted offers lead to networks. Assumes nothing.
 use mathlib.Core.Path.{_≡_, refl, ap, sym, _∙_}
 use mathlib.Core.Logic.{_↔_, _≢_}
-use mathlib.Core.List.{List}
+use mathlib.Core.List.{List, [], _∷_}
 use Prim.Native.Nat.{ℕ, _-_, _≤_}
 use native.Mathlib.Decide.{ℕ-discrete}
 use native.Mathlib.Omega.{arith}
@@ -20,8 +20,8 @@ use Rattle.network.specs.CheckLaws.{Network}
 use Rattle.network.specs.Refusals.{networkRefusal}
 use Rattle.network.specs.RefusalLaws.{network-passed, Permitted}
 use Rattle.network.specs.FirstLaws.{Finds, nothing, named, first-finds, first-nothing}
-use Rattle.network.specs.Calls.{Progress, firstMove, firstAnswer, drainFrom, drained, drainAnswer}
-use Rattle.network.specs.Run.{Call, Outcome, run, isLabelled, heldWith, handedWith, Demand3}
+use Rattle.network.specs.Calls.{Progress, firstMove, firstAnswer, drainFrom, drained, drainAnswer, drainedMoves}
+use Rattle.network.specs.Run.{Call, drain, Outcome, outcome, run, isLabelled, heldWith, handedWith, Demand3}
 use Rattle.run.specs.Step.{Ran}
 use Rattle.run.specs.Alive.{Some, alive}
 use Rattle.run.specs.DrainMoves.{drain-ran}
@@ -79,16 +79,33 @@ drain-to-the-end w budget room e b l = rw (eq-eqb (networkRefusal w) 0 e) (by (d
     by (budget-used s ne m) = absurd (ne (no-work (shape w) (r .words) (let x = ran .work-done in omega arith)))
     by (ledger-full s ne m d k) = absurd (ne (let x = ran .packets in omega arith))
 
--- whatever the arbiter picks: two runs that empty the same network make as many moves, and hand out as many packets of every label
-pub record SameInTheEnd (a b : Outcome) : Type 0 where
-  pub moves : length (a .moves) ≡ length (b .moves)
-  pub handed : (l : ℕ) → handedWith l (a .handedOut) ≡ handedWith l (b .handedOut)
-
 none-with : (S : Shape) (w : List ℕ) (l : ℕ) → packetsHeld S w ≡ 0 → heldWith l S w ≡ 0
 unfolding packetsHeld heldWith total sumOf
 none-with S w l z =
     sum-zero (nodes S) (λ n. sumBelow queues (λ q. sumOf (isLabelled l) (held S w n q)))
     (λ n hn. sum-zero queues (λ q. sumOf (isLabelled l) (held S w n q)) (λ q hq. ap (sumOf (isLabelled l)) (total-zero S w n q z hn hq)))
+
+told-to-the-end : (w : List ℕ) (budget : ℕ) (ledger : List ℕ) → networkRefusal w ≡ 0
+    → workLeft (shape w) w ≤ budget → packetsHeld (shape w) w ≤ length ledger → run (drain budget ledger ∷ []) w .told ≡ workLeft (shape w) w
+unfolding run outcome drainedMoves
+told-to-the-end w budget ledger e b r = let m = ap drainedMoves (drain-to-the-end w budget (length ledger) e b r) in omega arith
+
+-- and it hands out whatever was held, one for the very node where it stands too (R86): of every label as many packets as there were
+pub all-handed-out : (w : List ℕ) (budget : ℕ) (ledger : List ℕ) → networkRefusal w ≡ 0
+    → workLeft (shape w) w ≤ budget → packetsHeld (shape w) w ≤ length ledger
+    → (l : ℕ) → handedWith l (run (drain budget ledger ∷ []) w .handedOut) ≡ heldWith l (shape w) w
+unfolding Demand3
+all-handed-out w budget ledger e b r l =
+    let after = demand3 w (drain budget ledger ∷ []) e in
+    let empty = after .emptied-exactly .1 (sym (after .moves-told) ∙ told-to-the-end w budget ledger e b r) in
+    let none = none-with (shape w) (run (drain budget ledger ∷ []) w .words) l empty in
+    let all = after .none-lost-or-doubled l in
+    omega arith
+
+-- whatever the arbiter picks: two runs that empty the same network make as many moves, and hand out as many packets of every label
+pub record SameInTheEnd (a b : Outcome) : Type 0 where
+  pub moves : length (a .moves) ≡ length (b .moves)
+  pub handed : (l : ℕ) → handedWith l (a .handedOut) ≡ handedWith l (b .handedOut)
 
 pub any-order : (w : List ℕ) (calls others : List Call) → networkRefusal w ≡ 0
     → packetsHeld (shape w) (run calls w .words) ≡ 0 → packetsHeld (shape w) (run others w .words) ≡ 0 → SameInTheEnd (run calls w) (run others w)

@@ -1,5 +1,6 @@
 -- Words that Make and Offer lead to pass the check, so the check shuts out nothing that the calls make, and demand 3 speaks of every run from
--- there. Order: words that hold nothing; Make; the packet of an offer in the injection queue; Offer. Assumes nothing.
+-- there. Order: words that hold nothing; Make; the packet of an offer in the injection queue; Offer; that its packet has a hop to make. Assumes
+-- nothing.
 use mathlib.Core.Path.{_≡_, refl, ap, sym, subst, _∙_}
 use mathlib.Core.Logic.{_≢_}
 use mathlib.Core.Bool.{Bool, true, false, not, _||_}
@@ -14,9 +15,9 @@ use Rattle.base.specs.Tests.{allOf}
 use Rattle.base.specs.Sums.{sumOf, sumBelow, sum-zero, sumOf-append}
 use Rattle.base.specs.Parts.{span, length-span, getD-span}
 use Rattle.network.specs.declared.Sizes.{Sizes}
-use Rattle.network.specs.Sizes.{Shape, shapeOf, sized, size, sizesInRange, nodes, queues, directions, dimensions, injectionQueue, escapeQueue, capacity}
+use Rattle.network.specs.Sizes.{Shape, shapeOf, sized, size, sizesInRange, nodes, queues, directions, dimensions, injectionQueue, escapeQueue, capacity, mostNodes}
 use Rattle.network.specs.SizesLaws.{range-of, capacity-pos}
-use Rattle.network.specs.Packet.{destination, work}
+use Rattle.network.specs.Packet.{destination, hopsLeft, work}
 use Rattle.network.specs.Torus.{along}
 use Rattle.network.specs.TorusLaws.{Torus, inRange-torus, inRange-size, inRange-nodes, along-lt}
 use Rattle.network.specs.Layout.{headerWords, shape, need, nodeWords, queueStart, queueEnd, queueWords, queuePart, packetsOf, held, fill, putQueue, raised, total, accepted, delivered, movesMade, acceptedAt, deliveredAt, movesAt}
@@ -24,8 +25,8 @@ use Rattle.network.specs.LayoutLaws.{Fits, start-header, start-end, end-start, 
 use Rattle.network.specs.Check.{reach, isQueueOf, packetFits, ringHasRoom, packetsHeld, workLeft, mostAccepted, mostWork}
 use Rattle.network.specs.CheckLaws.{PacketFits, packet-by, Network}
 use Rattle.network.specs.Refusals.{networkRefusal, makeRefusal, offerRules, offerRefusal}
-use Rattle.network.specs.RefusalLaws.{not-refused, neither, network-passed, network-passes}
-use Rattle.network.specs.OfferLaws.{ShortRings, destination-offered, distance-offered, work-offered, movedBy-offered}
+use Rattle.network.specs.RefusalLaws.{not-refused, neither, network-passed, network-passes, own-node-exactly}
+use Rattle.network.specs.OfferLaws.{ShortRings, destination-offered, distance-offered, work-offered, movedBy-offered, hops-offered}
 use Rattle.network.specs.Calls.{emptyNetwork, makeWords, offered, afterOffer, offerWords}
 use Rattle.run.specs.Queues.{AllFit, fill-few, fits-words, fit-put, fit-raised, allOf-newest}
 use Rattle.run.specs.Rings.{Room, RingRoom, ring-of, ring-by, escape-lt}
@@ -322,7 +323,7 @@ module _ (S : Shape) (w : List ℕ) (n dest tag : ℕ) (tor : Torus S) (N : Netw
   unfolding after put
   after-shape = shape-raised acceptedAt put (omega arith) ∙ shape-put S w n injectionQueue joined place few
 
--- an offer that no rule refuses, to words that are a network
+-- what a packet from node n to node dest needs to join words that are a network. That the two differ is Offer's rule and not the check's (R86)
 pub record Accepting (S : Shape) (w : List ℕ) (n dest : ℕ) : Type 0 where
   pub node : n < nodes S
   pub addressed : dest < nodes S
@@ -333,8 +334,9 @@ pub accepting : (S : Shape) (w : List ℕ) (n dest : ℕ) → Network S w → of
 unfolding offerRules
 accepting S w n dest N e =
     let (a, e₁) = not-refused (leb (nodes S) n || leb (nodes S) dest) 3 _ e in
-    let (b, e₂) = not-refused (eqb (accepted w) mostAccepted) 7 _ e₁ in
-    let (c, e₃) = not-refused (eqb (fill S w n injectionQueue) (capacity S injectionQueue)) 6 _ e₂ in
+    let (o, e₂) = not-refused (eqb n dest) 13 _ e₁ in
+    let (b, e₃) = not-refused (eqb (accepted w) mostAccepted) 7 _ e₂ in
+    let (c, e₄) = not-refused (eqb (fill S w n injectionQueue) (capacity S injectionQueue)) 6 _ e₃ in
     let (x, y) = neither-of (leb (nodes S) n) (leb (nodes S) dest) a in
     let hn : n < nodes S = leb-false (nodes S) n x in
     let spent : accepted w ≢ mostAccepted = eqb-false (accepted w) mostAccepted b in
@@ -349,14 +351,32 @@ accepting S w n dest N e =
     neither-of true b e = absurd (mathlib.Core.Bool.true≢false e)
     neither-of false b e = (refl, e)
 
--- R101, R102: an offer that is not refused keeps the check
-pub offer-passes : (w : List ℕ) (n dest tag : ℕ) → offerRefusal w n dest ≡ 0 → networkRefusal (offerWords w n dest tag) ≡ 0
-unfolding offerWords offerRefusal afterOffer after put joined p
-offer-passes w n dest tag e =
-    let (network, rules) = neither (networkRefusal w) (offerRules (shape w) w n dest) e in
-    let N : Network (shape w) w = network-passed w network in
-    let A : Accepting (shape w) w n dest = accepting (shape w) w n dest N rules in
+-- R86: words that such a packet has joined pass the check, one for the very node where it stands too, which no Offer takes any more (R174)
+pub joined-passes : (w : List ℕ) (n dest tag : ℕ) → networkRefusal w ≡ 0 → Accepting (shape w) w n dest
+    → networkRefusal (afterOffer (shape w) w n dest tag) ≡ 0
+unfolding afterOffer after put joined p
+joined-passes w n dest tag e A =
+    let N : Network (shape w) w = network-passed w e in
     let v : List ℕ = afterOffer (shape w) w n dest tag in
     let same : shape v ≡ shape w = after-shape (shape w) w n dest tag (torus w N) N (A .node) (A .addressed) (A .free) (A .fewer) in
     let M : Network (shape w) v = after-network (shape w) w n dest tag (torus w N) N (A .node) (A .addressed) (A .free) (A .fewer) in
-    rw (eq-eqb (offerRefusal w n dest) 0 e) (network-passes v (subst (λ (S : Shape). Network S v) (sym same) M))
+    network-passes v (subst (λ (S : Shape). Network S v) (sym same) M)
+
+-- R101, R102: an offer that is not refused keeps the check
+pub offer-passes : (w : List ℕ) (n dest tag : ℕ) → offerRefusal w n dest ≡ 0 → networkRefusal (offerWords w n dest tag) ≡ 0
+unfolding offerWords offerRefusal
+offer-passes w n dest tag e =
+    let (network, rules) = neither (networkRefusal w) (offerRules (shape w) w n dest) e in
+    let A : Accepting (shape w) w n dest = accepting (shape w) w n dest (network-passed w network) rules in
+    rw (eq-eqb (offerRefusal w n dest) 0 e) (joined-passes w n dest tag network A)
+
+-- R174: the packet of an offer that is not refused has a hop to make: where it is handed out, it has crossed a link
+pub offer-hops : (w : List ℕ) (n dest tag : ℕ) → offerRefusal w n dest ≡ 0 → hopsLeft (offered (shape w) n dest tag) ≢ 0
+unfolding offerRefusal
+offer-hops w n dest tag e =
+    let (network, rules) = neither (networkRefusal w) (offerRules (shape w) w n dest) e in
+    let N : Network (shape w) w = network-passed w network in
+    let A : Accepting (shape w) w n dest = accepting (shape w) w n dest N rules in
+    let few : nodes (shape w) ≤ mostNodes = inRange-nodes (shape w) (N .in-range) (torus w N .dims) in
+    hops-offered (shape w) n dest tag (torus w N) (A .node) (A .addressed) (omega arith) (λ i h. inRange-size (shape w) i (N .in-range))
+    (λ same. let told = own-node-exactly (shape w) w n dest .1 (A .node, same) in omega arith)

@@ -11,91 +11,99 @@ use Rattle.network.specs.Sizes.{Shape, shapeOf, nodes, capacity, injectionQueue
 use Rattle.network.specs.Layout.{accepted, fill}
 use Rattle.network.specs.LayoutLaws.{fill-length}
 use Rattle.network.specs.Check.{mostAccepted}
-use Rattle.network.specs.Refusals.{refuse, offerRules, noSuchNode, countSpent, injectionFull}
+use Rattle.network.specs.Refusals.{refuse, offerRules, noSuchNode, countSpent, injectionFull, ownNode}
 use Rattle.flow.specs.HeldWords.{header}
 use Rattle.rules.proofs.offer_rules.Statement.{statement}
 use Rattle.rules.proofs.offer_rules.Tie as tie
 
 -- by what the tests said
-tested : (S : Shape) (w : List ℕ) (n destination count held-there slots : ℕ) (a b d e : Bool) → count ≡ nodes S
+tested : (S : Shape) (w : List ℕ) (n destination count held-there slots : ℕ) (a b o d e : Bool) → count ≡ nodes S
     → held-there ≡ fill S w n injectionQueue → slots ≡ capacity S injectionQueue
-    → leb count n ≡ a → leb count destination ≡ b → eqb (accepted w) mostAccepted ≡ d → eqb held-there slots ≡ e
-    → refuse (a || b) noSuchNode (refuse d countSpent (refuse e injectionFull 0)) ≡ offerRules S w n destination
+    → leb count n ≡ a → leb count destination ≡ b → eqb n destination ≡ o → eqb (accepted w) mostAccepted ≡ d → eqb held-there slots ≡ e
+    → refuse (a || b) noSuchNode (refuse o ownNode (refuse d countSpent (refuse e injectionFull 0))) ≡ offerRules S w n destination
 unfolding offerRules
-tested S w n destination count held-there slots a b d e ec eh es ea eb ed ee = cc
+tested S w n destination count held-there slots a b o d e ec eh es ea eb eo ed ee = cc
 
 nodes-requires : tie.Need-nodes-requires
 nodes-requires c κs = let f = c .before in f .pre .in-range
 
-returns : tie.Need-returns
-returns c =
-    let a = c .before .before .before .args in
-    let S = shapeOf (a .s) in
-    let count = c .before .nodes in
-    tested S (a .words .now) (a .n) (a .destination) (count .result) _ _ true _ _ _ (count .ensures) refl refl
-    (le-leb (count .result) (a .n) (c .if1 .taken)) refl refl refl
-
-returns-2 : tie.Need-returns-2
-returns-2 c =
-    let a = c .before .before .before .before .args in
-    let S = shapeOf (a .s) in
-    let count = c .before .before .nodes in
-    tested S (a .words .now) (a .n) (a .destination) (count .result) _ _ false true _ _ (count .ensures) refl refl
-    (lt-leb (count .result) (a .n) (c .before .if1 .left)) (le-leb (count .result) (a .destination) (c .if2 .taken)) refl refl
-
 shared-slice-read-accepted : tie.Need-shared-slice-read-accepted
 shared-slice-read-accepted c =
-    let f = c .before .before .before .before .before in
+    let f = c .before .before .before in
     let l = header (shapeOf (f .args .s)) (f .args .words .now) (f .pre) in
     omega arith
 
--- where both nodes are there, by the last two tests
+returns : tie.Need-returns
+returns c =
+    let a = c .before .before .before .before .args in
+    let count = c .before .before .nodes in
+    tested (shapeOf (a .s)) (a .words .now) (a .n) (a .destination) (count .result) _ _ true _ _ _ _ (count .ensures) refl refl
+    (le-leb (count .result) (a .n) (c .if1 .taken)) refl refl refl refl
+
+returns-2 : tie.Need-returns-2
+returns-2 c =
+    let a = c .before .before .before .before .before .args in
+    let count = c .before .before .before .nodes in
+    tested (shapeOf (a .s)) (a .words .now) (a .n) (a .destination) (count .result) _ _ false true _ _ _ (count .ensures) refl refl
+    (lt-leb (count .result) (a .n) (c .before .if1 .left)) (le-leb (count .result) (a .destination) (c .if2 .taken)) refl refl refl
+
+returns-3 : tie.Need-returns-3
+returns-3 c =
+    let a = c .before .before .before .before .before .before .args in
+    let count = c .before .before .before .before .nodes in
+    tested (shapeOf (a .s)) (a .words .now) (a .n) (a .destination) (count .result) _ _ false false true _ _ (count .ensures) refl refl
+    (lt-leb (count .result) (a .n) (c .before .before .if1 .left)) (lt-leb (count .result) (a .destination) (c .before .if2 .left))
+    (eq-eqb (a .n) (a .destination) (c .if3 .taken)) refl refl
+
+-- where both nodes are there and differ, by the last two tests
 by-last : (c : tie.After-held-count) (d e : Bool)
-    → eqb (accepted (c .before .before .before .before .before .before .before .args .words .now)) mostAccepted ≡ d
+    → eqb (accepted (c .before .before .before .before .before .before .before .before .args .words .now)) mostAccepted ≡ d
     → eqb (c .held-count .result) (c .before .capacity .result) ≡ e
     → refuse d countSpent (refuse e injectionFull 0)
-    ≡ offerRules (shapeOf (c .before .before .before .before .before .before .before .args .s)) (c .before .before .before .before .before .before .before .args .words .now) (c .before .before .before .before .before .before .before .args .n) (c .before .before .before .before .before .before .before .args .destination)
+    ≡ offerRules (shapeOf (c .before .before .before .before .before .before .before .before .args .s)) (c .before .before .before .before .before .before .before .before .args .words .now) (c .before .before .before .before .before .before .before .before .args .n) (c .before .before .before .before .before .before .before .before .args .destination)
 by-last c d e ed ee =
     let held = c .held-count in
     let slots = c .before .capacity in
-    let f = c .before .before .before in
-    let a = f .before .before .before .before .args in
-    let count = f .before .before .nodes in
-    tested (shapeOf (a .s)) (a .words .now) (a .n) (a .destination) (count .result) (held .result) (slots .result) false false d e
+    let f = c .before .before in
+    let a = f .before .before .before .before .before .before .args in
+    let count = f .before .before .before .before .nodes in
+    tested (shapeOf (a .s)) (a .words .now) (a .n) (a .destination) (count .result) (held .result) (slots .result) false false false d e
     (count .ensures) (held .ensures ∙ sym (fill-length (shapeOf (a .s)) (a .words .now) (a .n) injectionQueue)) (slots .ensures)
-    (lt-leb (count .result) (a .n) (f .before .if1 .left)) (lt-leb (count .result) (a .destination) (f .if2 .left)) ed ee
-
-returns-3 : tie.Need-returns-3
-unfolding accepted
-returns-3 c =
-    let f = c .before in
-    let w = f .before .before .before .before .before .before .before .args .words .now in
-    by-last f true (eqb (f .held-count .result) (f .before .capacity .result)) (eq-eqb (accepted w) mostAccepted (c .if3 .taken)) refl
+    (lt-leb (count .result) (a .n) (f .before .before .if1 .left)) (lt-leb (count .result) (a .destination) (f .before .if2 .left))
+    (ne-eqb (a .n) (a .destination) (f .if3 .left)) ed ee
 
 returns-4 : tie.Need-returns-4
 unfolding accepted
 returns-4 c =
-    let f = c .before .before in
-    let w = f .before .before .before .before .before .before .before .args .words .now in
-    by-last f false true (ne-eqb (accepted w) mostAccepted (c .before .if3 .left)) (eq-eqb (f .held-count .result) (f .before .capacity .result) (c .if4 .taken))
+    let f = c .before in
+    let w = f .before .before .before .before .before .before .before .before .args .words .now in
+    by-last f true (eqb (f .held-count .result) (f .before .capacity .result)) (eq-eqb (accepted w) mostAccepted (c .if4 .taken)) refl
 
 returns-5 : tie.Need-returns-5
 unfolding accepted
 returns-5 c =
     let f = c .before .before in
-    let w = f .before .before .before .before .before .before .before .args .words .now in
-    by-last f false false (ne-eqb (accepted w) mostAccepted (c .before .if3 .left)) (ne-eqb (f .held-count .result) (f .before .capacity .result) (c .if4 .left))
+    let w = f .before .before .before .before .before .before .before .before .args .words .now in
+    by-last f false true (ne-eqb (accepted w) mostAccepted (c .before .if4 .left)) (eq-eqb (f .held-count .result) (f .before .capacity .result) (c .if5 .taken))
+
+returns-6 : tie.Need-returns-6
+unfolding accepted
+returns-6 c =
+    let f = c .before .before in
+    let w = f .before .before .before .before .before .before .before .before .args .words .now in
+    by-last f false false (ne-eqb (accepted w) mostAccepted (c .before .if4 .left)) (ne-eqb (f .held-count .result) (f .before .capacity .result) (c .if5 .left))
 
 pub offer-rules-spec : {M : Type 1} → statement M
 offer-rules-spec =
     tie.close
     (tie.spec
     nodes-requires
+    shared-slice-read-accepted
     returns
     returns-2
-    shared-slice-read-accepted
-    (λ c κs. search needs)
-    (λ c κs. search needs)
     returns-3
+    (λ c κs. search needs)
+    (λ c κs. search needs)
     returns-4
-    returns-5)
+    returns-5
+    returns-6)
