@@ -346,13 +346,13 @@ not-delivered q p e t = go (route-of q p 0 t)
         way (inl z) = omega arith
         way (inr (z, l)) = omega arith
 
-not-onward : (q p : ℕ) → ((i : ℕ) → i < dimensions → offset i p ≡ pos 0) → T (elem (escapeQueue 0) (routes q p)) → ⊥
-unfolding distance
-not-onward q p e t = go (route-of q p (escapeQueue 0) t)
+-- K9, K12
+not-onward : (q p o : ℕ) → ((i : ℕ) → i < dimensions → distance i p ≡ 0) → o ≢ deliver → T (elem o (routes q p)) → ⊥
+not-onward q p o done ne t = go (route-of q p o t)
   where
-    go : ((escapeQueue 0 ≡ deliver) × (hopsLeft p ≡ 0)) ⊎ Onward p (escapeQueue 0) → ⊥
-    go (inl (z, h)) = omega arith
-    go (inr r) = r .far (ap natAbs (e (r .dimension) (r .below)))
+    go : ((o ≡ deliver) × (hopsLeft p ≡ 0)) ⊎ Onward p o → ⊥
+    go (inl (z, h)) = ne z
+    go (inr r) = r .far (done (r .dimension) (r .below))
 
 -- K10
 without-budget : (w : List ℕ) (room : ℕ) → networkRefusal w ≡ 0
@@ -453,14 +453,14 @@ module _ (w : List ℕ) (d : ℕ) (r : RingsOfTwo w d) where
       ring e n he hn (yes z) = rw z (ring-with-room n (l n hn))
       ring e n he hn (no ne) = others e n he hn ne
 
--- K12
-to-oneself : (w : List ℕ) (n destination : ℕ) → networkRefusal w ≡ 0 → offerRefusal w n destination ≡ offerRules (shape w) w n destination
+-- K12: in words that pass the check an offer is refused as the rules of Offer say
+offer-by-rules : (w : List ℕ) (n destination : ℕ) → networkRefusal w ≡ 0 → offerRefusal w n destination ≡ offerRules (shape w) w n destination
 unfolding offerRefusal
-to-oneself w n destination e = elseBy-zero (networkRefusal w) (offerRules (shape w) w n destination) e
+offer-by-rules w n destination e = elseBy-zero (networkRefusal w) (offerRules (shape w) w n destination) e
 
 own-node-only : (w : List ℕ) (n destination : ℕ) → networkRefusal w ≡ 0
     → (offerRefusal w n destination ≡ 14) ↔ ((n < nodes (shape w)) × (n ≡ destination))
-own-node-only w n destination e = rw (to-oneself w n destination e) (own-node-exactly (shape w) w n destination)
+own-node-only w n destination e = rw (offer-by-rules w n destination e) (own-node-exactly (shape w) w n destination)
 
 delivered-here : (w : List ℕ) (n q : ℕ) → Standing w n q → hopsLeft (headOf w n q) ≡ 0 → moveAnswer w n q deliver ≡ Moved.Delivered (headOf w n q)
 unfolding moveAnswer
@@ -477,13 +477,6 @@ delivered-here w n q s z =
       room = λ ne. absurd (ne refl);
     })) in
     rw (eq-eqb (moveRefusal w n q deliver) 0 permitted)
-
-not-on : (q p o : ℕ) → hopsLeft p ≡ 0 → o ≢ deliver → T (elem o (routes q p)) → ⊥
-not-on q p o z ne t = go (route-of q p o t)
-  where
-    go : ((o ≡ deliver) × (hopsLeft p ≡ 0)) ⊎ Onward p o → ⊥
-    go (inl (e, h)) = ne e
-    go (inr r) = r .far (let m = distance-le-hopsLeft (r .dimension) p (r .below) in omega arith)
 
 pub keptCases : KeptCases
 unfolding next oneHop chosen outside sources inEach crossing allBelow someBelow allOf elem sumBelow sumOf product digit putDigit rotate size within sizesInRange nodes capacity signed unsigned packetWord tag destination offset withOffset withOffsets distance forward backward hops heading hopsLeft work shrunk hop shorterWay coordinate stride along neighbour movedBelow movedBy shape accepted delivered movesMade raised queueLength nodeWords queueStart queueEnd need queueWords queuePart countOf packetsOf unusedOf held load fill putQueue total rightPlace isQueueOf reach nearEnough opposite rightSign lowerDone packetFits queueFits queuesFit hasRoom ringHasRoom ringsHaveRoom packetsHeld workLeft countersFit isNetwork inOrder without incoming incomingFirst headings routes target freeSlots entersRing slotsNeeded networkRefusal makeRefusal offerRules offerRefusal head flowRules moveRules moveRefusal shapeOf emptyNetwork makeWords offered afterOffer offerWords headLeaves packetArrives afterMove firstOutput firstInQueue orElse search firstInNode firstMove firstAnswer stopped oneMore deliverNext moveNext drainFrom drained drainLedger drainAnswer
@@ -505,7 +498,7 @@ keptCases =
       k9-every =
           λ w n q s. (
             λ e. no-route w n q 0 s (omega arith) (not-delivered q (headOf w n q) e),
-            λ e. no-route w n q (escapeQueue 0) s (omega arith) (not-onward q (headOf w n q) e),
+            λ e. no-route w n q (escapeQueue 0) s (omega arith) (not-onward q (headOf w n q) (escapeQueue 0) (λ i h. ap natAbs (e i h)) (λ z. omega arith)),
           );
       k10 = λ room. (without-budget (empty 4 4 2 1 1) room refl, without-budget (crossing 0 0) room refl);
       k10-every = without-budget;
@@ -516,14 +509,15 @@ keptCases =
           λ w n destination e. (
             own-node-only w n destination e,
             λ one hn hd. own-node-only w n destination e .1 (hn, omega (arith, one, hn, hd)),
-            λ h. to-oneself w n n e ∙ no-node-first (shape w) w n h,
+            λ h. offer-by-rules w n n e ∙ no-node-first (shape w) w n h,
           );
       k12-held = (refl, refl, refl, one-move, one-word);
       k12-in-every-queue = (refl, refl, refl);
       k12-held-every =
           λ w n q s z. (
             delivered-here w n q s z,
-            λ o h ne. no-route w n q o s h (not-on q (headOf w n q) o z ne),
+            λ o h ne.
+                no-route w n q o s h (not-onward q (headOf w n q) o (λ i l. let m = distance-le-hopsLeft i (headOf w n q) l in omega arith) ne),
           );
       k12-fits-every = λ w n q p r h z e. own-fits (shape w) n q p (inRange-torus (shape w) r refl) h z e;
     }

@@ -4,7 +4,7 @@ use mathlib.Core.Path.{_≡_, refl, ap, sym, _∙_}
 use mathlib.Core.Logic.{_⊎_, inl, inr, _≢_}
 use mathlib.Core.Bool.{Bool, true, false, cond, not, _&&_, _||_}
 use mathlib.Core.List.{List}
-use Prim.Native.Nat.{ℕ, _+_, _*_, _-_, _/_, _%_, _<_, _≤_}
+use Prim.Native.Nat.{ℕ, _+_, _*_, _-_, _%_, _<_, _≤_}
 use native.Mathlib.Decide.{ℕ-discrete}
 use native.Mathlib.Omega.{arith}
 use borrow.Author.Tests.{eq-eqb, ne-eqb}
@@ -50,6 +50,14 @@ reach-other i q p ne = go (eqb q injectionQueue) (eqb (dimensionOf (directionOf 
     go : (a b : Bool) → b ≡ false → cond (not a && b) (distance i p + 1) (distance i p) ≡ distance i p
     go true b e = refl
     go false b e = rw e
+
+pub reach-injection : (i p : ℕ) → reach i injectionQueue p ≡ distance i p
+unfolding reach isQueueOf
+reach-injection i p = refl
+
+pub reach-own : (q p : ℕ) → q ≢ injectionQueue → reach (dimensionOf (directionOf q)) q p ≡ distance (dimensionOf (directionOf q)) p + 1
+unfolding reach isQueueOf
+reach-own q p ne = rw (ne-eqb q injectionQueue ne, eq-eqb (dimensionOf (directionOf q)) (dimensionOf (directionOf q)) refl)
 
 -- the opposite of a direction is in the same dimension, and no packet has hops left both ways
 pub opposite-dimension : (d : ℕ) → dimensionOf (opposite d) ≡ dimensionOf d
@@ -212,62 +220,57 @@ packet-by S n q p f =
 -- R86: a packet for the very node where it stands passes in the injection queue and in the queues of a dimension along which a hop can have been
 -- made, and in no other
 module _ (S : Shape) (n q p : ℕ) (tor : Torus S) (node : n < nodes S) (arrived : hopsLeft p ≡ 0) (own : destination p ≡ n) where
-  i : ℕ
-  i = dimensionOf (directionOf q)
+  no-hop : (i : ℕ) → i < dimensions → distance i p ≡ 0
+  no-hop i h = let d = distance-le-hopsLeft i p h in omega arith
 
-  no-hop : (j : ℕ) → j < dimensions → distance j p ≡ 0
-  no-hop j h = let d = distance-le-hopsLeft j p h in omega arith
+  HasRoom : Type 0
+  HasRoom = (q ≡ injectionQueue) ⊎ (2 ≤ size S (dimensionOf (directionOf q)))
 
-  reach-injection : (j : ℕ) → q ≡ injectionQueue → reach j q p ≡ distance j p
-  unfolding reach isQueueOf
-  reach-injection j e = rw e
-
-  reach-own : q ≢ injectionQueue → reach i q p ≡ distance i p + 1
-  unfolding reach isQueueOf i
-  reach-own ne = rw (ne-eqb q injectionQueue ne, eq-eqb (dimensionOf (directionOf q)) (dimensionOf (directionOf q)) refl)
-
-  own-clauses : (q ≡ injectionQueue) ⊎ (2 ≤ size S i) → PacketFits S n q p
-  unfolding i
+  own-clauses : HasRoom → PacketFits S n q p
+  unfolding HasRoom
   own-clauses room =
       record {
         addressed = let e = own in let h = node in omega arith;
         arrives = movedBy-here S n p tor node arrived ∙ sym own;
-        near = λ j h. near j h room (ℕ-discrete (dimensionOf (directionOf q)) j);
+        near = λ i h. near i h room (ℕ-discrete (dimensionOf (directionOf q)) i);
         sign =
             λ ne.
             let a = hops-le (opposite (directionOf q)) p in
             let b = opposite-dimension (directionOf q) in
             let c = no-hop (dimensionOf (opposite (directionOf q))) (omega arith) in
             omega arith;
-        lower = λ e j h. no-hop j (omega arith);
+        lower = λ e i h. no-hop i (omega arith);
       }
     where
-      near : (j : ℕ) → j < dimensions → (q ≡ injectionQueue) ⊎ (2 ≤ size S i) → Dec (dimensionOf (directionOf q) ≡ j) → reach j q p ≤ longest S j
-      near j h (inl e) d = let r = reach-injection j e in let z = no-hop j h in omega arith
-      near j h (inr two) (yes e) =
-          let r = reach-most j q p in
-          let z = no-hop j h in
-          let s : 2 ≤ size S j = rw e at two in
+      near : (i : ℕ) → i < dimensions → HasRoom → Dec (dimensionOf (directionOf q) ≡ i) → reach i q p ≤ longest S i
+      near i h (inl e) d = let r = ap (λ (k : ℕ). reach i k p) e ∙ reach-injection i p in let z = no-hop i h in omega arith
+      near i h (inr two) (yes e) =
+          let r = reach-most i q p in
+          let z = no-hop i h in
+          let s : 2 ≤ size S i = rw e at two in
           omega arith
-      near j h (inr two) (no ne) = let r = reach-other j q p ne in let z = no-hop j h in omega arith
+      near i h (inr two) (no ne) = let r = reach-other i q p ne in let z = no-hop i h in omega arith
 
   pub own-fits : packetFits S n q p ≡ (eqb q injectionQueue || leb 2 (size S (dimensionOf (directionOf q))))
-  unfolding i
-  own-fits =
-      same-test (packetFits S n q p) (eqb q injectionQueue || leb 2 (size S i))
-      (λ f. room (packet-of S n q p f) (ℕ-discrete q injectionQueue))
-      (λ r. packet-by S n q p (own-clauses (either (or-e (eqb q injectionQueue) (leb 2 (size S i)) r))))
+  unfolding HasRoom
+  own-fits = same-test (packetFits S n q p) (a || b) (λ f. room (packet-of S n q p f) (ℕ-discrete q injectionQueue)) (λ r. packet-by S n q p (own-clauses (either (or-e a b r))))
     where
-      room : PacketFits S n q p → Dec (q ≡ injectionQueue) → T (eqb q injectionQueue || leb 2 (size S i))
-      room f (yes e) = or-l (eqb q injectionQueue) (leb 2 (size S i)) (eq-T q injectionQueue e)
-      room f (no ne) =
-          let l = f .near i (omega arith) in
-          let r = reach-own ne in
-          or-r (eqb q injectionQueue) (leb 2 (size S i)) (le→leb 2 (size S i) (omega arith))
+      a : Bool
+      a = eqb q injectionQueue
 
-      either : T (eqb q injectionQueue) ⊎ T (leb 2 (size S i)) → (q ≡ injectionQueue) ⊎ (2 ≤ size S i)
+      b : Bool
+      b = leb 2 (size S (dimensionOf (directionOf q)))
+
+      room : PacketFits S n q p → Dec (q ≡ injectionQueue) → T (a || b)
+      room f (yes e) = or-l a b (eq-T q injectionQueue e)
+      room f (no ne) =
+          let l = f .near (dimensionOf (directionOf q)) (omega arith) in
+          let r = reach-own q p ne in
+          or-r a b (le→leb 2 (size S (dimensionOf (directionOf q))) (omega arith))
+
+      either : T a ⊎ T b → HasRoom
       either (inl t) = inl (eqb→eq q injectionQueue t)
-      either (inr t) = inr (leb→le 2 (size S i) t)
+      either (inr t) = inr (leb→le 2 (size S (dimensionOf (directionOf q))) t)
 
 -- the clauses for queue q of node n
 pub record QueueFits (S : Shape) (w : List ℕ) (n q : ℕ) : Type 0 where

@@ -19,7 +19,7 @@ use Rattle.network.specs.Check.{isNetwork}
 use Rattle.network.specs.CheckLaws.{Network, network-of, network-by}
 use Rattle.network.specs.Routes.{routes, deliver, target, freeSlots, entersRing, slotsNeeded}
 use Rattle.network.specs.RoutesLaws.{free-slots-is}
-use Rattle.network.specs.Refusals.{refuse, elseBy, networkRefusal, noNode, isOwnNode, countIsSpent, injectionIsFull, offerRules, head, flowRules, moveRules, shortStore, wrongSize, noNetwork, noSuchNode, noSuchQueue, noSuchOutput, injectionFull, countSpent, queueEmpty, noRoute, noSlot, noBubble, ownNode}
+use Rattle.network.specs.Refusals.{refuse, elseBy, networkRefusal, countIsSpent, injectionIsFull, offerRules, head, flowRules, moveRules, shortStore, wrongSize, noNetwork, noSuchNode, noSuchQueue, noSuchOutput, injectionFull, countSpent, queueEmpty, noRoute, noSlot, noBubble, ownNode}
 
 -- a test that would refuse by k + 1 did not apply, and the later ones say 0
 pub not-refused : (b : Bool) (k later : ℕ) → refuse b (suc k) later ≡ 0 → (b ≡ false) × (later ≡ 0)
