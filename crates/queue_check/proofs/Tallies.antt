@@ -54,6 +54,14 @@ or-none (suc a) b =
     some : (o n : ℕ) → o + n ≡ suc a + b → n ≤ b → o ≡ 0 → ⊥
     some o n e l z = omega arith
 
+either-way : (a : ℕ) → eqb a 0 ≡ eqb 0 a
+either-way zero = refl
+either-way (suc a) = eqb·suc-zero a ∙ sym (eqb·zero-suc a)
+
+regroup : (a b c : Bool) → a && (b && c) ≡ a && b && c
+regroup true b c = refl
+regroup false b c = refl
+
 -- the words from place i on, two by two: both, and those behind them; the last one; none
 module _ (l : List ℕ) (i : ℕ) where
   two-words : i + 1 < length l → allOf (eqb 0) (drop i l) ≡ eqb (bitOr (getD l i 0) (getD l (i + 1) 0)) 0 && allOf (eqb 0) (drop (i + 2) l)
@@ -62,10 +70,6 @@ module _ (l : List ℕ) (i : ℕ) where
       ∙ ap (λ (t : Bool). eqb 0 (getD l i 0) && t) (all-from (eqb 0) l (i + 1) h)
       ∙ regroup (eqb 0 (getD l i 0)) (eqb 0 (getD l (i + 1) 0)) (allOf (eqb 0) (drop (i + 1 + 1) l))
       ∙ ap₂ (λ (t : Bool) (j : ℕ). t && allOf (eqb 0) (drop j l)) (sym (or-none (getD l i 0) (getD l (i + 1) 0))) (let e : i + 1 + 1 ≡ i + 2 = omega arith in e)
-    where
-      regroup : (a b c : Bool) → a && (b && c) ≡ a && b && c
-      regroup true b c = refl
-      regroup false b c = refl
 
   pub pair-stop : i + 1 < length l → (bitOr (getD l i 0) (getD l (i + 1) 0) ≡ 0 → ⊥) → false ≡ allOf (eqb 0) (drop i l)
   pair-stop h ne = sym (two-words h ∙ and-stop _ _ (ne-eqb (bitOr (getD l i 0) (getD l (i + 1) 0)) 0 ne))
@@ -83,6 +87,33 @@ module _ (l : List ℕ) (i : ℕ) where
 
   pub no-word : length l ≤ i → true ≡ allOf (eqb 0) (drop i l)
   no-word n = sym (all-end (eqb 0) l i n)
+
+-- four by four, which are two pairs
+module _ (l : List ℕ) (i : ℕ) where
+  abbrev four : ℕ
+  four = bitOr (bitOr (getD l i 0) (getD l (i + 1) 0)) (bitOr (getD l (i + 2) 0) (getD l (i + 3) 0))
+
+  four-words : i + 3 < length l → allOf (eqb 0) (drop i l) ≡ eqb four 0 && allOf (eqb 0) (drop (i + 4) l)
+  four-words h =
+      let third : i + 2 + 1 ≡ i + 3 = omega arith in
+      let fourth : i + 2 + 2 ≡ i + 4 = omega arith in
+      two-words l i (omega arith)
+      ∙ ap (λ (t : Bool). eqb x 0 && t)
+      (two-words l (i + 2) (omega arith) ∙ ap₂ (λ (j k : ℕ). eqb (bitOr (getD l (i + 2) 0) (getD l j 0)) 0 && allOf (eqb 0) (drop k l)) third fourth)
+      ∙ regroup (eqb x 0) (eqb y 0) (allOf (eqb 0) (drop (i + 4) l))
+      ∙ ap (λ (t : Bool). t && allOf (eqb 0) (drop (i + 4) l)) (ap₂ (λ (s t : Bool). s && t) (either-way x) (either-way y) ∙ sym (or-none x y))
+    where
+      x : ℕ
+      x = bitOr (getD l i 0) (getD l (i + 1) 0)
+
+      y : ℕ
+      y = bitOr (getD l (i + 2) 0) (getD l (i + 3) 0)
+
+  pub four-stop : i + 3 < length l → (four ≡ 0 → ⊥) → false ≡ allOf (eqb 0) (drop i l)
+  four-stop h ne = sym (four-words h ∙ and-stop _ _ (ne-eqb four 0 ne))
+
+  pub four-on : i + 3 < length l → four ≡ 0 → allOf (eqb 0) (drop (i + 4) l) ≡ allOf (eqb 0) (drop i l)
+  four-on h e = sym (four-words h ∙ and-on _ _ (eq-eqb four 0 e))
 
 -- the first i have passed, and the sum of theirs is `sum`
 pub record Left (f : ℕ → Bool) (g : ℕ → ℕ) (l : List ℕ) (i sum : ℕ) : Type 0 where

@@ -45,8 +45,8 @@ fn unfit() -> Tally
     }
 }
 
-// Whether the words from this place on are 0. Two are tested at once: a network is mostly unused words.
-fn all_zero(part: &[u64], from: usize) -> bool
+// Whether the words from this place on are 0, two at a time.
+fn pairs_zero(part: &[u64], from: usize) -> bool
     requires { ⌜ from ≤ length (now part) ⌝ }
     ensures { λ r. ⌜ r ≡ allOf (eqb 0) (drop from (now (part .entry))) ⌝ }
 {
@@ -62,6 +62,22 @@ fn all_zero(part: &[u64], from: usize) -> bool
         return part[i] == 0;
     }
     true
+}
+
+// The same, four at a time and then the rest: a network is mostly unused words, and an empty one nothing else.
+fn all_zero(part: &[u64], from: usize) -> bool
+    requires { ⌜ from ≤ length (now part) ⌝ }
+    ensures { λ r. ⌜ r ≡ allOf (eqb 0) (drop from (now (part .entry))) ⌝ }
+{
+    let mut i = from;
+    while i + 3 < part.len() {
+        let four = part[i] | part[i + 1] | (part[i + 2] | part[i + 3]);
+        if four != 0 {
+            return false;
+        }
+        i += 4;
+    }
+    pairs_zero(part, i)
 }
 
 // The packets of a queue's words, which hold no more than they have room for.

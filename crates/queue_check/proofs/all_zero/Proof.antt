@@ -5,7 +5,7 @@ use native.Mathlib.Omega.{arith}
 use lib.Dec.{eqb}
 use lib.ListN.{length, drop}
 use Rattle.base.specs.Tests.{allOf}
-use Rattle.queue_check.proofs.Tallies.{pair-stop, pair-on, last-word, no-word}
+use Rattle.queue_check.proofs.Tallies.{four-stop, four-on}
 use Rattle.queue_check.proofs.all_zero.Statement.{statement}
 use Rattle.queue_check.proofs.all_zero.Tie as tie
 
@@ -16,27 +16,23 @@ abbrev μ-loop : tie.MeasureT-loop
 μ-loop part from i₀ i = length part - i
 
 loop-holds : tie.Need-loop-holds Inv-loop μ-loop
-loop-holds c = (refl, c .pre)
+loop-holds c = (refl, c .before .pre)
 
 returns : tie.Need-returns Inv-loop μ-loop
 returns c =
-    let l = c .before .before .before .before in
-    pair-stop (l .before .args .part .now) (l .loop .i) (c .before .before .before .loop-test .taken) (c .if1 .taken) ∙ l .loop .inv .0
+    let l = c .before .before .before .before .before .before in
+    four-stop (l .before .before .args .part .now) (l .loop .i) (c .before .before .before .before .before .loop-test .taken) (c .if1 .taken) ∙ l .loop .inv .0
 
 loop-again : tie.Need-loop-again Inv-loop μ-loop
 loop-again c =
-    let l = c .before .before .before .before in
-    (pair-on (l .before .args .part .now) (l .loop .i) (c .before .before .before .loop-test .taken) (c .if1 .left) ∙ l .loop .inv .0, omega arith)
+    let l = c .before .before .before .before .before .before in
+    (four-on (l .before .before .args .part .now) (l .loop .i) (c .before .before .before .before .before .loop-test .taken) (c .if1 .left) ∙ l .loop .inv .0, omega arith)
+
+pairs-zero-requires : tie.Need-pairs-zero-requires Inv-loop μ-loop
+pairs-zero-requires c κs = c .before .loop .inv .1
 
 returns-2 : tie.Need-returns-2 Inv-loop μ-loop
-returns-2 c =
-    let l = c .before .before .before in
-    last-word (l .before .args .part .now) (l .loop .i) (c .before .if2 .taken) (c .before .before .loop-test .left) ∙ l .loop .inv .0
-
-returns-3 : tie.Need-returns-3 Inv-loop μ-loop
-returns-3 c =
-    let l = c .before .before in
-    no-word (l .before .args .part .now) (l .loop .i) (c .if2 .left) ∙ l .loop .inv .0
+returns-2 c = c .pairs-zero .ensures ∙ c .before .before .loop .inv .0
 
 pub all-zero-spec : {M : Type 1} → statement M
 all-zero-spec =
@@ -51,11 +47,15 @@ all-zero-spec =
     (λ c. omega arith)
     (λ c. omega arith)
     (λ c. omega arith)
+    (λ c. omega arith)
+    (λ c. omega arith)
+    (λ c. omega arith)
+    (λ c. omega arith)
+    (λ c. omega arith)
+    (λ c. omega arith)
     returns
     (λ c. omega arith)
     (λ c. omega arith)
     loop-again
-    (λ c. omega arith)
-    (λ c. omega arith)
-    returns-2
-    returns-3)
+    pairs-zero-requires
+    returns-2)
