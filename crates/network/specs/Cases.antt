@@ -31,7 +31,7 @@ use Rattle.network.specs.Check.{rightPlace, isQueueOf, reach, nearEnough
 use Rattle.network.specs.Routes.{deliver, inOrder, without, incoming, incomingFirst, headings, routes, target, freeSlots, entersRing, slotsNeeded}
 use Rattle.network.specs.Refusals.{refuse, noRoute, noSlot, noBubble, networkRefusal, makeRefusal, offerRules, offerRefusal, head, flowRules, moveRules, moveRefusal}
 use Rattle.network.specs.Calls.{Progress, emptyNetwork, makeWords, offered, afterOffer, offerWords, headLeaves, packetArrives, afterMove, moveAnswer, firstOutput, firstInQueue, orElse, search, firstInNode, firstMove, firstAnswer, stopped, oneMore, deliverNext, moveNext, drainFrom, drained, drainLedger, drainAnswer}
-use Rattle.network.specs.PacketLaws.{distance-le-hopsLeft}
+use Rattle.network.specs.PacketLaws.{arrived-distance}
 use Rattle.network.specs.TorusLaws.{along-lt, inRange-torus}
 use Rattle.network.specs.CheckLaws.{Network, own-fits, network-of, has-room-held}
 use Rattle.network.specs.RoutesLaws.{Onward, route-of, arrived-route, free-slots-held}
@@ -337,7 +337,7 @@ not-delivered q p e t = go (route-of q p 0 t)
     go : ((0 ≡ deliver) × (hopsLeft p ≡ 0)) ⊎ Onward p 0 → ⊥
     go (inl (z, h)) =
         let one : distance 0 p ≡ 1 = ap natAbs e in
-        let most = distance-le-hopsLeft 0 p (omega arith) in
+        let none = arrived-distance 0 p (omega arith) h in
         omega arith
     go (inr r) = way (r .by)
       where
@@ -516,8 +516,7 @@ keptCases =
       k12-held-every =
           λ w n q s z. (
             delivered-here w n q s z,
-            λ o h ne.
-                no-route w n q o s h (not-onward q (headOf w n q) o (λ i l. let m = distance-le-hopsLeft i (headOf w n q) l in omega arith) ne),
+            λ o h ne. no-route w n q o s h (not-onward q (headOf w n q) o (λ i l. arrived-distance i (headOf w n q) l z) ne),
           );
       k12-fits-every = λ w n q p r h z e. own-fits (shape w) n q p (inRange-torus (shape w) r refl) h z e;
     }

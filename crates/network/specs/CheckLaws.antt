@@ -15,7 +15,7 @@ use Rattle.base.specs.Bools.{same-test}
 use Rattle.base.specs.Digits.{rotate, rotate-rotate, rotate-rounds, radix-pos}
 use Rattle.network.specs.Sizes.{Shape, size, sizesInRange, nodes, queues, directions, dimensions, dimensionOf, directionOf, isPlus, plus, minus, isEscape, injectionQueue, capacity}
 use Rattle.network.specs.Packet.{destination, distance, hops, hopsLeft}
-use Rattle.network.specs.PacketLaws.{one-way, distance-is, hops-le, distance-le-hopsLeft}
+use Rattle.network.specs.PacketLaws.{one-way, distance-is, arrived-distance, arrived-hops}
 use Rattle.network.specs.Torus.{stride, along, neighbour, movedBy}
 use Rattle.network.specs.TorusLaws.{Torus, movedBy-here}
 use Rattle.network.specs.Layout.{held, fill, queuePart, countOf, unusedOf, need, accepted, delivered, movesMade}
@@ -220,39 +220,31 @@ packet-by S n q p f =
 -- R86: a packet for the very node where it stands passes in the injection queue and in the queues of a dimension along which a hop can have been
 -- made, and in no other
 module _ (S : Shape) (n q p : ℕ) (tor : Torus S) (node : n < nodes S) (arrived : hopsLeft p ≡ 0) (own : destination p ≡ n) where
-  no-hop : (i : ℕ) → i < dimensions → distance i p ≡ 0
-  no-hop i h = let d = distance-le-hopsLeft i p h in omega arith
+  MayStand : Type 0
+  MayStand = (q ≡ injectionQueue) ⊎ (2 ≤ size S (dimensionOf (directionOf q)))
 
-  HasRoom : Type 0
-  HasRoom = (q ≡ injectionQueue) ⊎ (2 ≤ size S (dimensionOf (directionOf q)))
-
-  own-clauses : HasRoom → PacketFits S n q p
-  unfolding HasRoom
-  own-clauses room =
+  own-clauses : MayStand → PacketFits S n q p
+  unfolding MayStand
+  own-clauses may =
       record {
         addressed = let e = own in let h = node in omega arith;
         arrives = movedBy-here S n p tor node arrived ∙ sym own;
-        near = λ i h. near i h room (ℕ-discrete (dimensionOf (directionOf q)) i);
-        sign =
-            λ ne.
-            let a = hops-le (opposite (directionOf q)) p in
-            let b = opposite-dimension (directionOf q) in
-            let c = no-hop (dimensionOf (opposite (directionOf q))) (omega arith) in
-            omega arith;
-        lower = λ e i h. no-hop i (omega arith);
+        near = λ i h. near i h may (ℕ-discrete (dimensionOf (directionOf q)) i);
+        sign = λ ne. arrived-hops (opposite (directionOf q)) p (opposite-lt (directionOf q) (omega arith)) arrived;
+        lower = λ e i h. arrived-distance i p (omega arith) arrived;
       }
     where
-      near : (i : ℕ) → i < dimensions → HasRoom → Dec (dimensionOf (directionOf q) ≡ i) → reach i q p ≤ longest S i
-      near i h (inl e) d = let r = ap (λ (k : ℕ). reach i k p) e ∙ reach-injection i p in let z = no-hop i h in omega arith
+      near : (i : ℕ) → i < dimensions → MayStand → Dec (dimensionOf (directionOf q) ≡ i) → reach i q p ≤ longest S i
+      near i h (inl e) d = let r = ap (λ (k : ℕ). reach i k p) e ∙ reach-injection i p in let z = arrived-distance i p h arrived in omega arith
       near i h (inr two) (yes e) =
           let r = reach-most i q p in
-          let z = no-hop i h in
+          let z = arrived-distance i p h arrived in
           let s : 2 ≤ size S i = rw e at two in
           omega arith
-      near i h (inr two) (no ne) = let r = reach-other i q p ne in let z = no-hop i h in omega arith
+      near i h (inr two) (no ne) = let r = reach-other i q p ne in let z = arrived-distance i p h arrived in omega arith
 
   pub own-fits : packetFits S n q p ≡ (eqb q injectionQueue || leb 2 (size S (dimensionOf (directionOf q))))
-  unfolding HasRoom
+  unfolding MayStand
   own-fits = same-test (packetFits S n q p) (a || b) (λ f. room (packet-of S n q p f) (ℕ-discrete q injectionQueue)) (λ r. packet-by S n q p (own-clauses (either (or-e a b r))))
     where
       a : Bool
@@ -268,7 +260,7 @@ module _ (S : Shape) (n q p : ℕ) (tor : Torus S) (node : n < nodes S) (arrived
           let r = reach-own q p ne in
           or-r a b (le→leb 2 (size S (dimensionOf (directionOf q))) (omega arith))
 
-      either : T a ⊎ T b → HasRoom
+      either : T a ⊎ T b → MayStand
       either (inl t) = inl (eqb→eq q injectionQueue t)
       either (inr t) = inr (leb→le 2 (size S (dimensionOf (directionOf q))) t)
 

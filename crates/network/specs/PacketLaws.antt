@@ -385,9 +385,16 @@ pub work-hop : (i p : ℕ) → i < dimensions → distance i p ≢ 0 → suc (wo
 unfolding work
 work-hop i p h some = let e = hopsLeft-hop i p h some in omega arith
 
-pub distance-le-hopsLeft : (i p : ℕ) → i < dimensions → distance i p ≤ hopsLeft p
+distance-le-hopsLeft : (i p : ℕ) → i < dimensions → distance i p ≤ hopsLeft p
 unfolding hopsLeft
 distance-le-hopsLeft i p h = term-le dimensions (λ j. distance j p) i h
+
+-- a packet that has arrived has no hop left along any dimension, in any direction
+pub arrived-distance : (i p : ℕ) → i < dimensions → hopsLeft p ≡ 0 → distance i p ≡ 0
+arrived-distance i p h z = let l = distance-le-hopsLeft i p h in omega arith
+
+pub arrived-hops : (d p : ℕ) → d < directions → hopsLeft p ≡ 0 → hops d p ≡ 0
+arrived-hops d p h z = let l = hops-le d p in let e = arrived-distance (dimensionOf d) p (dimension-lt d h) z in omega arith
 
 -- an offset's sign and value bound them
 pub distance-most : (i p : ℕ) → distance i p ≤ halfOffsets
@@ -417,9 +424,7 @@ unfolding label unsigned distance offset
 arrived-label p e = withs-own (λ j. pos 0) dimensions p (omega arith) (λ i h. sym (none i h))
   where
     none : (i : ℕ) → i < dimensions → digit fields (offsetField i) p ≡ 0
-    none i h =
-        let l : natAbs (signed (digit fields (offsetField i) p)) ≤ hopsLeft p = distance-le-hopsLeft i p h in
-        signed-zero (digit fields (offsetField i) p) (omega arith)
+    none i h = signed-zero (digit fields (offsetField i) p) (arrived-distance i p h e)
 
 pub destination-label : (p : ℕ) → destination (label p) ≡ destination p
 unfolding label

@@ -17,7 +17,7 @@ use Rattle.network.specs.Sizes.{Shape, shapeOf, size, nodes, mostNodes, 
 use Rattle.network.specs.declared.Sizes.{Sizes}
 use Rattle.network.specs.SizesLaws.{between-of, range-of}
 use Rattle.network.specs.Packet.{hops, hopsLeft, hop}
-use Rattle.network.specs.PacketLaws.{dimension-lt, hops-hop-same, hops-hop-other, one-way, hops-le, distance-le-hopsLeft}
+use Rattle.network.specs.PacketLaws.{dimension-lt, hops-hop-same, hops-hop-other, one-way, arrived-hops}
 use Rattle.network.specs.Torus.{coordinate, stride, along, neighbour, movedBelow, movedBy}
 
 -- Sizes that make a torus -------------------------------------------------------------------------------------------------------------
@@ -151,9 +151,7 @@ movedBelow-here : (S : Shape) (p e n : ℕ) → Torus S → e ≤ directions →
 unfolding movedBelow
 movedBelow-here S p zero n t k z = refl
 movedBelow-here S p (suc e) n t k z =
-    let none : hops e p ≡ 0 =
-    let a = hops-le e p in let b = distance-le-hopsLeft (dimensionOf e) p (dimension-lt e k) in omega arith in
-    ap₂ (λ (c m : ℕ). along S e c m) none (movedBelow-here S p e n t (le-of-suc-le k) z) ∙ along-zero S e n t k
+    ap₂ (λ (c m : ℕ). along S e c m) (arrived-hops e p k z) (movedBelow-here S p e n t (le-of-suc-le k) z) ∙ along-zero S e n t k
 
 pub movedBy-here : (S : Shape) (n p : ℕ) → Torus S → n < nodes S → hopsLeft p ≡ 0 → movedBy S p n ≡ n
 unfolding movedBy

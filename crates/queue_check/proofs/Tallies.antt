@@ -43,20 +43,21 @@ sum-end : (g : ℕ → ℕ) (l : List ℕ) (i : ℕ) → length l ≤ i → sumO
 unfolding sumOf
 sum-end g l i h = ap (sumOf g) (drop-of-length-le l h)
 
+-- a test for 0, either way round
+either-way : (a : ℕ) → eqb a 0 ≡ eqb 0 a
+either-way zero = refl
+either-way (suc a) = eqb·suc-zero a ∙ sym (eqb·zero-suc a)
+
 -- two words are 0 when what they have in either is
 or-none : (a b : ℕ) → eqb (bitOr a b) 0 ≡ eqb 0 a && eqb 0 b
 or-none zero zero = refl
-or-none zero (suc b) = eqb·suc-zero b ∙ sym (eqb·zero-suc b)
+or-none zero (suc b) = either-way (suc b)
 or-none (suc a) b =
     ne-eqb (bitOr (suc a) b) 0 (some (bitOr (suc a) b) (bitAnd (suc a) b) (or-add-and (suc a) b) (and-le-r (suc a) b))
     ∙ sym (and-stop _ _ (eqb·zero-suc a))
   where
     some : (o n : ℕ) → o + n ≡ suc a + b → n ≤ b → o ≡ 0 → ⊥
     some o n e l z = omega arith
-
-either-way : (a : ℕ) → eqb a 0 ≡ eqb 0 a
-either-way zero = refl
-either-way (suc a) = eqb·suc-zero a ∙ sym (eqb·zero-suc a)
 
 regroup : (a b c : Bool) → a && (b && c) ≡ a && b && c
 regroup true b c = refl

@@ -15,7 +15,7 @@ use Rattle.base.specs.Sums.{sumBelow}
 use Rattle.base.specs.Tests.{elem}
 use Rattle.network.specs.Sizes.{adaptiveQueue, escapeQueue, dimensions}
 use Rattle.network.specs.Packet.{distance, heading, hopsLeft}
-use Rattle.network.specs.PacketLaws.{distance-le-hopsLeft}
+use Rattle.network.specs.PacketLaws.{arrived-distance}
 use Rattle.network.specs.Routes.{inOrder, without, incoming, incomingFirst, headings, routes, deliver}
 use Rattle.network.specs.RoutesLaws.{incoming-lt}
 
@@ -69,7 +69,7 @@ unfolding routes
 onward q p ne = rw (ne-eqb (hopsLeft p) 0 ne)
 
 some : (i p : ℕ) → i < dimensions → distance i p ≢ 0 → hopsLeft p ≢ 0
-some i p h ne z = ne (let l = distance-le-hopsLeft i p h in omega arith)
+some i p h ne z = ne (arrived-distance i p h z)
 
 pub by-both-x : (q p : ℕ) → distance 0 p ≢ 0 → distance 1 p ≢ 0 → incoming q ≡ 0
     → routes q p ≡ adaptiveQueue (heading 0 p) ∷ adaptiveQueue (heading 1 p) ∷ escapeQueue (heading 0 p) ∷ []
