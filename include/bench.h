@@ -66,7 +66,7 @@ extern "C" {
  * each change after which a program written for the older one could be wrong.
  * Header and archive must be of one commit: the archive does not carry it.
  */
-#define BENCH_VERSION 2
+#define BENCH_VERSION 3
 
 /* The words that a network of these sizes needs. */
 #define BENCH_WORDS(x, y, e, a, j) \
@@ -129,11 +129,13 @@ uint64_t bench_check(const uint64_t *words, size_t len);
 
 /*
  * Puts a packet behind the others in queue 0 of the node (R100 to R102). It
- * will take the shorter way in each dimension, half-way round the plus way
- * (R64, R65). Refused further, tested in this order (R188): node or destination
- * is no node (4); they are the same node (14); 2^32 - 1 packets were accepted
- * (8); queue 0 is full (7). Words that already hold a packet for the very node
- * where it stands are a network as before, and it is delivered (R86).
+ * will take the shorter way in each dimension (R67). Where both ways are as long
+ * as each other, this node's coordinate in that dimension decides: plus if it is
+ * even, minus if it is odd (R68). A packet that is held already keeps its way.
+ * Refused further, tested in this order (R188): node or destination is no node
+ * (4); they are the same node (14); 2^32 - 1 packets were accepted (8); queue 0
+ * is full (7). Words that already hold a packet for the very node where it
+ * stands are a network as before, and it is delivered (R86).
  */
 uint64_t bench_offer(uint64_t *words, size_t len, uint64_t node, uint64_t destination,
                      uint32_t tag);

@@ -293,14 +293,15 @@ pub fn offer(words: &mut [u64], node: u64, destination: u64, tag: u32) -> u64 {
     0
 }
 
-/// The offset byte of an offer in one dimension.
+/// The offset byte of an offer in one dimension; half-way round it is minus
+/// from an odd coordinate.
 fn shorter_way(from: usize, to: usize, size: usize) -> u8 {
     let plus = if to >= from {
         to - from
     } else {
         to + size - from
     };
-    if 2 * plus <= size {
+    if 2 * plus < size || (2 * plus == size && from % 2 == 0) {
         plus as u8
     } else {
         (plus as u8).wrapping_sub(size as u8)

@@ -1,5 +1,7 @@
 //! The torus: nodes, directions, neighbours and offsets.
 
+use std::cmp::Ordering;
+
 /// A two-dimensional torus. Dimension 0 is x (columns), dimension 1 is y (rows).
 pub const DIMENSIONS: usize = 2;
 
@@ -72,7 +74,8 @@ impl Torus {
     }
 
     /// The offsets that a packet gets at its offer: in each dimension the
-    /// shorter way round, and plus where both ways are equal.
+    /// shorter way round; where both ways are equal, plus if the sending node
+    /// stands at an even coordinate of that dimension and minus if at an odd one.
     pub fn offsets(&self, from: usize, to: usize) -> [i32; DIMENSIONS] {
         let (from, to) = (self.place(from), self.place(to));
         let mut offsets = [0; DIMENSIONS];
@@ -80,11 +83,12 @@ impl Torus {
             let size = self.sizes[d] as i32;
             let plus_way = (to[d] as i32 - from[d] as i32).rem_euclid(size);
             let minus_way = size - plus_way;
-            offsets[d] = if plus_way <= minus_way {
-                plus_way
-            } else {
-                -minus_way
+            let goes_plus = match plus_way.cmp(&minus_way) {
+                Ordering::Less => true,
+                Ordering::Equal => from[d] % 2 == 0,
+                Ordering::Greater => false,
             };
+            offsets[d] = if goes_plus { plus_way } else { -minus_way };
         }
         offsets
     }

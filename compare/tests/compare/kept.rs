@@ -1,4 +1,4 @@
-//! The kept cases K1 to K12 (R281 to R298), the listing (R257) and the
+//! The kept cases (R281 to R298, R361 to R364), the listing (R257) and the
 //! misreadings (R301 to R305), with the numbers that RULES gives.
 
 use compare::bench::Call;
@@ -9,9 +9,10 @@ const K1: Shape = Shape::new(4, 3, 2, 1, 1);
 const K2: Shape = Shape::new(16, 16, 8, 8, 8);
 
 pub fn all(lab: &mut Lab) {
-    let cases: [crate::Part; 13] = [
+    let cases: [crate::Part; 14] = [
         ("K1 and K2", needs),
         ("K3 and K4", offered_words),
+        ("K3 from every node", half_way_offers),
         ("K5 to K7", bubble_rule),
         ("K8", wrong_sizes),
         ("K9", not_its_way),
@@ -86,13 +87,61 @@ fn needs(lab: &mut Lab) {
 }
 
 fn offered_words(lab: &mut Lab) {
-    for (destination, tag, word) in [(6, 7, 30_065_164_801), (11, 0, 786_431)] {
-        let mut words = make(lab, K1);
-        assert_eq!(lab.call(&mut words, offer(0, destination, tag)).refusal, 0);
-        let look = lab.call(&mut words, Call::Look { node: 0, queue: 0 });
-        assert_eq!(look.out, [9, 1, 0, 0]);
-        assert_eq!(words[9], word);
+    let six_by_two = Shape::new(6, 2, 2, 1, 1);
+    for (shape, node, destination, tag, word) in [
+        (K1, 0, 6, 7, 30_065_164_801),
+        (K1, 0, 11, 0, 786_431),
+        // Half-way round from an odd column, from an odd row, and where column
+        // and row differ in parity.
+        (K1, 1, 7, 7, 30_065_294_849),
+        (six_by_two, 6, 0, 7, 30_064_771_327),
+        (six_by_two, 1, 10, 7, 30_065_491_201),
+        (six_by_two, 6, 3, 7, 30_064_968_703),
+    ] {
+        let mut words = make(lab, shape);
+        assert_eq!(
+            lab.call(&mut words, offer(node, destination, tag)).refusal,
+            0
+        );
+        let look = lab.call(&mut words, Call::Look { node, queue: 0 });
+        let at = shape.count_word(node, 0) + 1;
+        assert_eq!(look.out, [at as u64, 1, 0, 0]);
+        assert_eq!(words[at], word);
         assert_eq!(words[5..8], [1, 0, 0]);
+    }
+}
+
+/// From every node to the one half-way round: each offset's sign by the parity
+/// of its own coordinate, and of no other number.
+fn half_way_offers(lab: &mut Lab) {
+    for (x, y) in [
+        (2, 1),
+        (1, 2),
+        (2, 2),
+        (2, 6),
+        (6, 2),
+        (4, 3),
+        (3, 4),
+        (16, 16),
+    ] {
+        let shape = Shape::new(x, y, 2, 1, 1);
+        let mut words = make(lab, shape);
+        for node in 0..shape.nodes() {
+            let (dx, dy) = (half_way_from(node % x, x), half_way_from(node / x, y));
+            let destination = end_node(&shape, node, dx, dy);
+            assert_eq!(lab.call(&mut words, offer(node, destination, 9)).refusal, 0);
+            let at = shape.count_word(node, 0);
+            assert_eq!(words[at + 1], packet_word(9, destination, dx, dy));
+        }
+    }
+}
+
+/// The offset of an offer to the coordinate half-way round, 0 if there is none.
+fn half_way_from(coordinate: u64, size: u64) -> i64 {
+    match (size % 2, coordinate % 2) {
+        (1, _) => 0,
+        (_, 0) => size as i64 / 2,
+        _ => -(size as i64 / 2),
     }
 }
 
@@ -229,18 +278,39 @@ fn order_of_escapes(lab: &mut Lab) {
     assert_eq!(lab.call(&mut words, Call::First).out, [1, 0, 3, 3]);
 }
 
+/// Held packets may have either sign half-way round, wherever they stand, and
+/// no hop turns one round: in an odd column too, where an offer would go minus.
 fn half_way(lab: &mut Lab) {
-    let shape = Shape::new(4, 1, 2, 1, 1);
-    let mut words = make(lab, shape);
-    assert_eq!(lab.call(&mut words, offer(0, 2, 1)).refusal, 0);
-    assert_eq!(words[9], packet_word(1, 2, 2, 0));
-    let mut words = make(lab, shape);
-    put(&shape, &mut words, 0, 0, -2, 0);
-    assert_eq!(lab.try_out(&words, Call::Check), 0);
-    assert_eq!(lab.try_out(&words, move_call(0, 0, 1)), 10);
-    assert_eq!(lab.call(&mut words, move_call(0, 0, 2)).refusal, 0);
-    let at = shape.count_word(3, 2);
-    assert_eq!(words[at..at + 2], [1, packet_word(5, 2, -1, 0)]);
+    let shape = Shape::new(4, 4, 2, 1, 1);
+    for node in 0..shape.nodes() {
+        for (dx, dy) in [(2, 2), (2, -2), (-2, 2), (-2, -2)] {
+            let mut words = make(lab, shape);
+            put(&shape, &mut words, node, 0, dx, dy);
+            assert_eq!(lab.try_out(&words, Call::Check), 0);
+            let along_x = if dx > 0 { 1 } else { 2 };
+            let along_y = if dy > 0 { 3 } else { 4 };
+            for output in 0..9 {
+                let its_way = [along_x, along_y, along_x + 4].contains(&output);
+                let refusal = if its_way { 0 } else { 10 };
+                assert_eq!(lab.try_out(&words, move_call(node, 0, output)), refusal);
+            }
+            let end = end_node(&shape, node, dx, dy);
+            // A hop along y, in the same column, and then one along x.
+            let step = (dx.signum(), dy.signum());
+            let call = move_call(node, 0, along_y);
+            assert_eq!(lab.call(&mut words, call).refusal, 0);
+            let node = end_node(&shape, node, 0, step.1);
+            let at = shape.count_word(node, along_y as usize);
+            let word = packet_word(5, end, dx, dy - step.1);
+            assert_eq!(words[at..at + 2], [1, word]);
+            let call = move_call(node, along_y as usize, along_x);
+            assert_eq!(lab.call(&mut words, call).refusal, 0);
+            let node = end_node(&shape, node, step.0, 0);
+            let at = shape.count_word(node, along_x as usize);
+            let word = packet_word(5, end, dx - step.0, dy - step.1);
+            assert_eq!(words[at..at + 2], [1, word]);
+        }
+    }
 }
 
 fn injection_alone(lab: &mut Lab) {

@@ -4,6 +4,7 @@ use mathlib.Core.Bool.{cond}
 use mathlib.Core.List.{List, [], _∷_, _++_, map}
 use Prim.Native.Nat.{ℕ, zero, suc, _+_, _*_}
 use lib.Dec.{eqb}
+use lib.IntN.{ℤ}
 use lib.ListN.{length, drop, replicate}
 use Rattle.network.specs.declared.Moved.{Moved}
 use Rattle.network.specs.declared.Credit.{Credit}
@@ -11,7 +12,7 @@ use Rattle.network.specs.declared.Found.{Found}
 use Rattle.network.specs.declared.Stop.{Stop}
 use Rattle.network.specs.declared.Drained.{Drained}
 use Rattle.network.specs.Sizes.{Shape, size, nodes, queues, injectionQueue, directionOf, dimensionOf}
-use Rattle.network.specs.Packet.{packetWord, shorterWay, hop}
+use Rattle.network.specs.Packet.{packetWord, stepsAhead, shorterWay, hop}
 use Rattle.network.specs.Torus.{coordinate}
 use Rattle.network.specs.Layout.{shape, need, nodeWords, queueStart, held, putQueue, raised, acceptedAt, deliveredAt, movesAt}
 use Rattle.network.specs.Check.{packetsHeld}
@@ -36,9 +37,12 @@ makeWords S w = unlessRefused (makeRefusal S w) (emptyNetwork S ++ drop (need S)
 
 -- Offer -------------------------------------------------------------------------------------------------------------------------------
 
--- R64 to R66: the packet of an offer goes the shorter way in each dimension
+-- R66 to R68: the offset in dimension i of a packet from node n; half-way round it goes by n's own coordinate there
+abbrev pub offeredWay : Shape → ℕ → ℕ → ℕ → ℤ
+offeredWay S n destination i = shorterWay (size S i) (stepsAhead (size S i) (coordinate S i n) (coordinate S i destination)) (coordinate S i n)
+
 unfoldable pub offered : Shape → ℕ → ℕ → ℕ → ℕ
-offered S n destination tag = packetWord tag destination (λ i. shorterWay (size S i) (coordinate S i n) (coordinate S i destination))
+offered S n destination tag = packetWord tag destination (offeredWay S n destination)
 
 -- R101, R102
 unfoldable pub afterOffer : Shape → List ℕ → ℕ → ℕ → ℕ → List ℕ

@@ -6,7 +6,7 @@ use mathlib.Core.Path.{_≡_, refl, ap, ap₂, _∙_}
 use mathlib.Core.Logic.{_⊎_, inl, inr, _≢_, _↔_}
 use mathlib.Core.Bool.{Bool, true, false, not, cond, _&&_, _||_}
 use mathlib.Core.List.{List, [], _∷_, map}
-use Prim.Native.Nat.{ℕ, zero, suc, _+_, _-_, _<_, _≤_}
+use Prim.Native.Nat.{ℕ, zero, suc, _+_, _*_, _-_, _/_, _%_, _^_, _<_, _≤_}
 use native.Mathlib.Nat.{le-trans, le-add-right, min-le-left}
 use native.Mathlib.Decide.{ℕ-discrete}
 use native.Mathlib.Omega.{arith}
@@ -24,16 +24,17 @@ use Rattle.network.specs.declared.Drained.{Drained}
 use Rattle.network.specs.declared.Sizes.{Sizes}
 use Rattle.network.specs.Sizes.{Shape, shapeOf, sized, size, within, sizesInRange, nodes, queues, directions, dimensions, dimensionOf, directionOf, isPlus, injectionQueue, adaptiveQueue, escapeQueue, capacity, largestRing}
 use Rattle.network.specs.SizesLaws.{escape-capacity}
-use Rattle.network.specs.Packet.{signed, unsigned, packetWord, tag, destination, offset, withOffset, withOffsets, distance, forward, backward, hops, heading, hopsLeft, work, shrunk, hop, shorterWay}
+use Rattle.network.specs.Packet.{signed, unsigned, packetWord, tag, destination, offset, withOffset, withOffsets, distance, forward, backward, hops, heading, hopsLeft, work, shrunk, hop, goesPlus, shorterWay}
 use Rattle.network.specs.Torus.{coordinate, stride, along, neighbour, movedBelow, movedBy}
 use Rattle.network.specs.Layout.{headerWords, shape, accepted, delivered, movesMade, raised, acceptedAt, queueLength, nodeWords, queueStart, queueEnd, need, queueWords, queuePart, countOf, packetsOf, unusedOf, held, load, fill, putQueue, total}
 use Rattle.network.specs.Check.{rightPlace, isQueueOf, reach, nearEnough, opposite, rightSign, lowerDone, packetFits, queueFits, queuesFit, hasRoom, ringHasRoom, ringsHaveRoom, packetsHeld, workLeft, countersFit, isNetwork}
 use Rattle.network.specs.Routes.{deliver, inOrder, without, incoming, incomingFirst, headings, routes, target, freeSlots, entersRing, slotsNeeded}
 use Rattle.network.specs.Refusals.{refuse, noRoute, noSlot, noBubble, networkRefusal, makeRefusal, offerRules, offerRefusal, head, flowRules, moveRules, moveRefusal}
-use Rattle.network.specs.Calls.{Progress, emptyNetwork, makeWords, offered, afterOffer, offerWords, headLeaves, packetArrives, afterMove, moveAnswer, firstOutput, firstInQueue, orElse, search, firstInNode, firstMove, firstAnswer, stopped, oneMore, deliverNext, moveNext, drainFrom, drained, drainLedger, drainAnswer}
-use Rattle.network.specs.PacketLaws.{arrived-distance}
-use Rattle.network.specs.TorusLaws.{along-lt, inRange-torus}
-use Rattle.network.specs.CheckLaws.{Network, own-fits, network-of, has-room-held}
+use Rattle.network.specs.Calls.{Progress, emptyNetwork, makeWords, offered, afterOffer, offerWords, headLeaves, packetArrives, afterMove, moveWords, moveAnswer, firstOutput, firstInQueue, orElse, search, firstInNode, firstMove, firstAnswer, stopped, oneMore, deliverNext, moveNext, drainFrom, drained, drainLedger, drainAnswer}
+use Rattle.network.specs.PacketLaws.{hops-hop-le, arrived-distance}
+use Rattle.network.specs.TorusLaws.{Torus, along-lt, inRange-torus, inRange-size, inRange-nodes}
+use Rattle.network.specs.OfferLaws.{ShortRings, offeredSteps, offset-nearer, offset-halfway}
+use Rattle.network.specs.CheckLaws.{Network, halfway-fits, own-fits, network-of, has-room-held}
 use Rattle.network.specs.RoutesLaws.{Onward, route-of, arrived-route, free-slots-held}
 use Rattle.network.specs.RefusalLaws.{elseBy-zero, network-passes, own-node-exactly, no-node-first, permitted-by}
 
@@ -60,6 +61,17 @@ holding w n q ps = set (putQueue (shape w) w n q ps) acceptedAt (accepted w + le
 -- K1, K3, K4: 4 by 3, E 2, A 1, J 1
 abbrev four-by-three : Shape
 four-by-three = shapeOf (sized 4 3 2 1 1)
+
+-- K3: 6 by 2, where half-way round leads from an even column or row to an odd one
+abbrev six-by-two : Shape
+six-by-two = shapeOf (sized 6 2 2 1 1)
+
+-- 4 by 2, and by hand two packets half-way round both dimensions: plus from an odd column and an odd row, minus from an even column and an even row
+abbrev four-by-two : Shape
+four-by-two = shapeOf (sized 4 2 2 1 1)
+
+abbrev against-parity : List ℕ
+against-parity = holding (holding (empty 4 2 2 1 1) 5 injectionQueue (packet 3 (pos 2) (pos 1) ∷ [])) 0 injectionQueue (packet 6 (negsuc 1) (negsuc 0) ∷ [])
 
 -- K2: the largest sizes
 abbrev largest : Shape
@@ -117,6 +129,23 @@ alone = holding (empty 1 1 2 1 1) 0 injectionQueue (here 0 ∷ [])
 abbrev in-every-queue : List ℕ
 in-every-queue = inEach (empty 2 2 2 1 1) (here 0) (inOrder 0 queues)
 
+-- in any words of sizes in range: two nodes and a dimension; the steps from the one to the other along it, going plus, and all steps round
+pub record Between (w : List ℕ) (n destination i : ℕ) : Type 0 where
+  pub in-range : T (sizesInRange (shape w))
+  pub from : n < nodes (shape w)
+  pub to : destination < nodes (shape w)
+  pub dimension : i < dimensions
+
+abbrev stepsTo : List ℕ → ℕ → ℕ → ℕ → ℕ
+stepsTo w n destination i = offeredSteps (shape w) n destination i
+
+abbrev allRound : List ℕ → ℕ → ℕ
+allRound w i = size (shape w) i
+
+-- the offset of an offer from the one to the other
+abbrev offeredOffset : List ℕ → ℕ → ℕ → ℕ → ℕ → ℤ
+offeredOffset w n destination tag i = offset i (offered (shape w) n destination tag)
+
 -- in any words: the head of queue q of node n, and that it is there to be moved
 abbrev headOf : List ℕ → ℕ → ℕ → ℕ
 headOf w n q = head (held (shape w) w n q)
@@ -160,6 +189,38 @@ pub record KeptCases : Type 0 where
       × ((w : List ℕ) → length w ≡ 20743 → shape w ≡ largest → networkRefusal w ≡ 1)
   -- the word of an offer from node 0 to node 6 with tag 7, and where it stands
   pub k3 : (offered four-by-three 0 6 7 ≡ 30065164801) × (held four-by-three (offerWords (empty 4 3 2 1 1) 0 6 7) 0 0 ≡ 30065164801 ∷ [])
+  -- the same one column on: half-way round from an odd column is minus
+  pub k3-odd-column : (offered four-by-three 1 7 7 ≡ 30065294849) × (held four-by-three (offerWords (empty 4 3 2 1 1) 1 7 7) 1 0 ≡ 30065294849 ∷ [])
+  -- from an odd row, of a node with an even number, to an even row
+  pub k3-odd-row : (offered six-by-two 6 0 7 ≡ 30064771327) × (held six-by-two (offerWords (empty 6 2 2 1 1) 6 0 7) 6 0 ≡ 30064771327 ∷ [])
+  -- from an odd column of an even row, and from an even column of an odd row: each offset by its own coordinate
+  pub k3-parities-differ : (offered six-by-two 1 10 7 ≡ 30065491201)
+      × (held six-by-two (offerWords (empty 6 2 2 1 1) 1 10 7) 1 0 ≡ 30065491201 ∷ [])
+      × (offered six-by-two 6 3 7 ≡ 30064968703)
+      × (held six-by-two (offerWords (empty 6 2 2 1 1) 6 3 7) 6 0 ≡ 30064968703 ∷ [])
+  -- any network and dimension: where one way is shorter the offset is that way, from every coordinate; where both are equal it is plus from an even
+  -- coordinate of the sending node and minus from an odd one; and no ring of an odd size has two equal ways
+  pub k3-every : (w : List ℕ) (n destination tag i : ℕ) → Between w n destination i
+      → (2 * stepsTo w n destination i < allRound w i → offeredOffset w n destination tag i ≡ pos (stepsTo w n destination i))
+      × (allRound w i < 2 * stepsTo w n destination i → offeredOffset w n destination tag i ≡ negsuc (allRound w i - stepsTo w n destination i - 1))
+      × (2 * stepsTo w n destination i ≡ allRound w i
+      → offeredOffset w n destination tag i ≡ cond (eqb (coordinate (shape w) i n % 2) 0) (pos (allRound w i / 2)) (negsuc (allRound w i / 2 - 1)))
+      × (allRound w i % 2 ≢ 0 → 2 * stepsTo w n destination i ≢ allRound w i)
+  -- R304, packets held half-way round against the parity of their column and row: they pass the check, their moves are those of their signs and
+  -- all others are refused by 10; after a hop along y, in the same column, dx is as it was, and so it is after the next, along x, but for that hop
+  pub k3-held : (networkRefusal against-parity ≡ 0)
+      × (map (λ o. moveRefusal against-parity 5 0 o) (inOrder 0 queues) ≡ 10 ∷ 0 ∷ 10 ∷ 0 ∷ 10 ∷ 0 ∷ 10 ∷ 10 ∷ 10 ∷ [])
+      × (map (λ o. moveRefusal against-parity 0 0 o) (inOrder 0 queues) ≡ 10 ∷ 10 ∷ 0 ∷ 10 ∷ 0 ∷ 10 ∷ 0 ∷ 10 ∷ 10 ∷ [])
+      × (held four-by-two (moveWords against-parity 5 0 3) 1 3 ≡ packet 3 (pos 2) (pos 0) ∷ [])
+      × (held four-by-two (moveWords against-parity 0 0 4) 4 4 ≡ packet 6 (negsuc 1) (pos 0) ∷ [])
+      × (held four-by-two (moveWords (moveWords against-parity 5 0 3) 1 3 1) 2 1 ≡ packet 3 (pos 1) (pos 0) ∷ [])
+      × (held four-by-two (moveWords (moveWords against-parity 0 0 4) 4 4 2) 7 2 ≡ packet 6 (negsuc 0) (pos 0) ∷ [])
+  -- any packet: no hop adds hops left in any direction
+  pub k3-held-every : (i d p : ℕ) → i < dimensions → d < directions → hops d (hop i p) ≤ hops d p
+  -- any sizes, node, queue and packet: half-way round the check judges both signs alike
+  pub k3-fits-every : (w : List ℕ) (n q i h p : ℕ) → T (sizesInRange (shape w)) → n < nodes (shape w) → i < dimensions
+      → 2 * h ≡ size (shape w) i
+      → packetFits (shape w) n q (withOffset i (pos h) p) ≡ packetFits (shape w) n q (withOffset i (negsuc (h - 1)) p)
   -- from node 0 to node 11, both offsets negative
   pub k4 : (offered four-by-three 0 11 0 ≡ 786431) × (held four-by-three (offerWords (empty 4 3 2 1 1) 0 11 0) 0 0 ≡ 786431 ∷ [])
   -- the rows K5 to K7 go through these queues, for x+, x−, y+ and y− (directions 0 to 3): the ring's own, then the injection queue, the adaptive
@@ -246,15 +307,48 @@ by-rules : (w : List ℕ) (n q o refusal : ℕ) → networkRefusal w ≡ 0 → m
 unfolding moveRefusal
 by-rules w n q o refusal e r = elseBy-zero (networkRefusal w) (moveRules (shape w) w n q o) e ∙ r
 
-all-by-rules : (w : List ℕ) (n o : ℕ) (qs : List ℕ) → networkRefusal w ≡ 0
-    → map (λ q. moveRefusal w n q o) qs ≡ map (λ q. moveRules (shape w) w n q o) qs
-all-by-rules w n o [] e = refl
-all-by-rules w n o (q ∷ qs) e =
-    ap₂ (λ (r : ℕ) (rs : List ℕ). r ∷ rs) (by-rules w n q o (moveRules (shape w) w n q o) e refl) (all-by-rules w n o qs e)
+all-by-rules : (w : List ℕ) (n : ℕ) (q o : ℕ → ℕ) (xs : List ℕ) → networkRefusal w ≡ 0
+    → map (λ x. moveRefusal w n (q x) (o x)) xs ≡ map (λ x. moveRules (shape w) w n (q x) (o x)) xs
+all-by-rules w n q o [] e = refl
+all-by-rules w n q o (x ∷ xs) e =
+    ap₂ (λ (r : ℕ) (rs : List ℕ). r ∷ rs) (by-rules w n (q x) (o x) (moveRules (shape w) w n (q x) (o x)) e refl) (all-by-rules w n q o xs e)
 
 entries : (d count : ℕ) (refusals : List ℕ) → networkRefusal (crossing d count) ≡ 0
     → map (λ q. moveRules (shape (crossing d count)) (crossing d count) 0 q (escapeQueue d)) (sources d) ≡ refusals → Entries d count refusals
-entries d count refusals e r = (e, all-by-rules (crossing d count) 0 (escapeQueue d) (sources d) e ∙ r)
+entries d count refusals e r = (e, all-by-rules (crossing d count) 0 (λ q. q) (λ q. escapeQueue d) (sources d) e ∙ r)
+
+-- K3: every output of an injection queue
+outputs : (w : List ℕ) (n : ℕ) (refusals : List ℕ) → networkRefusal w ≡ 0
+    → map (λ o. moveRules (shape w) w n injectionQueue o) (inOrder 0 queues) ≡ refusals
+    → map (λ o. moveRefusal w n injectionQueue o) (inOrder 0 queues) ≡ refusals
+outputs w n refusals e r = all-by-rules w n (λ o. injectionQueue) (λ o. o) (inOrder 0 queues) e ∙ r
+
+module _ (w : List ℕ) (n destination tag i : ℕ) (b : Between w n destination i) where
+  tor : Torus (shape w)
+  unfolding shape
+  tor = inRange-torus (shape w) (b .in-range) refl
+
+  fits : nodes (shape w) ≤ 2 ^ 16
+  unfolding shape
+  fits = le-trans (inRange-nodes (shape w) (b .in-range) refl) (omega arith)
+
+  short : ShortRings (shape w)
+  short j k = inRange-size (shape w) j (b .in-range)
+
+  one-shorter : 2 * stepsTo w n destination i ≢ allRound w i
+      → offeredOffset w n destination tag i
+      ≡ cond (ltb (2 * stepsTo w n destination i) (allRound w i)) (pos (stepsTo w n destination i)) (negsuc (allRound w i - stepsTo w n destination i - 1))
+  one-shorter = offset-nearer (shape w) n destination tag tor (b .from) (b .to) fits short i (b .dimension)
+
+  plus-shorter : 2 * stepsTo w n destination i < allRound w i → offeredOffset w n destination tag i ≡ pos (stepsTo w n destination i)
+  plus-shorter l = one-shorter (λ e. omega arith) ∙ rw (lt-ltb (2 * stepsTo w n destination i) (allRound w i) l)
+
+  minus-shorter : allRound w i < 2 * stepsTo w n destination i → offeredOffset w n destination tag i ≡ negsuc (allRound w i - stepsTo w n destination i - 1)
+  minus-shorter l = one-shorter (λ e. omega arith) ∙ rw (le-ltb (2 * stepsTo w n destination i) (allRound w i) (omega arith))
+
+  none-shorter : 2 * stepsTo w n destination i ≡ allRound w i
+      → offeredOffset w n destination tag i ≡ cond (eqb (coordinate (shape w) i n % 2) 0) (pos (allRound w i / 2)) (negsuc (allRound w i / 2 - 1))
+  none-shorter = offset-halfway (shape w) n destination tag tor (b .from) (b .to) fits short i (b .dimension)
 
 -- where a packet stands, Move's first four tests of its own do not apply
 past-holds : (w : List ℕ) (n q o : ℕ) → Standing w n q → o < queues
@@ -479,12 +573,25 @@ delivered-here w n q s z =
     rw (eq-eqb (moveRefusal w n q deliver) 0 permitted)
 
 pub keptCases : KeptCases
-unfolding next oneHop chosen outside sources inEach crossing allBelow someBelow allOf elem sumBelow sumOf product digit putDigit rotate size within sizesInRange nodes capacity signed unsigned packetWord tag destination offset withOffset withOffsets distance forward backward hops heading hopsLeft work shrunk hop shorterWay coordinate stride along neighbour movedBelow movedBy shape accepted delivered movesMade raised queueLength nodeWords queueStart queueEnd need queueWords queuePart countOf packetsOf unusedOf held load fill putQueue total rightPlace isQueueOf reach nearEnough opposite rightSign lowerDone packetFits queueFits queuesFit hasRoom ringHasRoom ringsHaveRoom packetsHeld workLeft countersFit isNetwork inOrder without incoming incomingFirst headings routes target freeSlots entersRing slotsNeeded networkRefusal makeRefusal offerRules offerRefusal head flowRules moveRules moveRefusal shapeOf emptyNetwork makeWords offered afterOffer offerWords headLeaves packetArrives afterMove firstOutput firstInQueue orElse search firstInNode firstMove firstAnswer stopped oneMore deliverNext moveNext drainFrom drained drainLedger drainAnswer
+unfolding next oneHop chosen outside sources inEach crossing allBelow someBelow allOf elem sumBelow sumOf product digit putDigit rotate size within sizesInRange nodes capacity signed unsigned packetWord tag destination offset withOffset withOffsets distance forward backward hops heading hopsLeft work shrunk hop goesPlus shorterWay coordinate stride along neighbour movedBelow movedBy shape accepted delivered movesMade raised queueLength nodeWords queueStart queueEnd need queueWords queuePart countOf packetsOf unusedOf held load fill putQueue total rightPlace isQueueOf reach nearEnough opposite rightSign lowerDone packetFits queueFits queuesFit hasRoom ringHasRoom ringsHaveRoom packetsHeld workLeft countersFit isNetwork inOrder without incoming incomingFirst headings routes target freeSlots entersRing slotsNeeded networkRefusal makeRefusal offerRules offerRefusal head flowRules moveRules moveRefusal shapeOf emptyNetwork makeWords offered afterOffer offerWords headLeaves packetArrives afterMove moveWords firstOutput firstInQueue orElse search firstInNode firstMove firstAnswer stopped oneMore deliverNext moveNext drainFrom drained drainLedger drainAnswer
 keptCases =
     record {
       k1 = refl;
       k2 = (refl, (λ w e. rw e), (λ w e. rw e), λ w e. too-short largest w refl (omega arith) (let l : need largest ≡ 20744 = refl in omega arith));
       k3 = (refl, refl);
+      k3-odd-column = (refl, refl);
+      k3-odd-row = (refl, refl);
+      k3-parities-differ = (refl, refl, refl, refl);
+      k3-every =
+          λ w n destination tag i b. (
+            plus-shorter w n destination tag i b,
+            minus-shorter w n destination tag i b,
+            none-shorter w n destination tag i b,
+            λ odd e. odd (omega arith),
+          );
+      k3-held = (refl, outputs against-parity 5 _ refl refl, outputs against-parity 0 _ refl refl, refl, refl, refl, refl);
+      k3-held-every = hops-hop-le;
+      k3-fits-every = λ w n q i h p r hn hi e. halfway-fits (shape w) n q i h p (inRange-torus (shape w) r refl) hn hi e (inRange-size (shape w) i r);
       k4 = (refl, refl);
       k5-sources = (refl, refl, refl, refl);
       k5 = (entries 0 1 _ refl refl, entries 1 1 _ refl refl, entries 2 1 _ refl refl, entries 3 1 _ refl refl);

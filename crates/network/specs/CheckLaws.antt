@@ -9,15 +9,16 @@ use native.Mathlib.Decide.{ℕ-discrete}
 use native.Mathlib.Omega.{arith}
 use borrow.Author.Tests.{eq-eqb, ne-eqb}
 use lib.Dec.{T, leb, ltb, eqb, leb→le, le→leb, ltb→lt, lt→ltb, eqb→eq, eqb-refl, T-not}
+use lib.IntN.{ℤ, pos, negsuc, natAbs}
 use lib.ListN.{length, getD}
 use Rattle.base.specs.Tests.{allBelow, allOf, and-l, and-r, and-i, or-l, or-r, or-e, all-at, all-by, passed?}
 use Rattle.base.specs.Bools.{same-test}
 use Rattle.base.specs.Digits.{rotate, rotate-rotate, rotate-rounds, radix-pos}
-use Rattle.network.specs.Sizes.{Shape, size, sizesInRange, nodes, queues, directions, dimensions, dimensionOf, directionOf, isPlus, plus, minus, isEscape, injectionQueue, capacity}
-use Rattle.network.specs.Packet.{destination, distance, hops, hopsLeft}
-use Rattle.network.specs.PacketLaws.{one-way, distance-is, arrived-distance, arrived-hops}
-use Rattle.network.specs.Torus.{stride, along, neighbour, movedBy}
-use Rattle.network.specs.TorusLaws.{Torus, movedBy-here}
+use Rattle.network.specs.Sizes.{Shape, size, sizesInRange, nodes, queues, directions, dimensions, dimensionOf, directionOf, isPlus, plus, minus, isEscape, injectionQueue, capacity, largestRing}
+use Rattle.network.specs.Packet.{destination, offset, withOffset, distance, forward, backward, hops, hopsLeft}
+use Rattle.network.specs.PacketLaws.{OffsetRange, destination-with, offset-with-same, offset-with-other, one-way, distance-is, arrived-distance, arrived-hops, landing, landing-plus, landing-minus}
+use Rattle.network.specs.Torus.{coordinate, stride, along, neighbour, movedBy}
+use Rattle.network.specs.TorusLaws.{Torus, size-pos, coordinates-eq, movedBy-lt, movedBy-here, coordinate-landing}
 use Rattle.network.specs.Layout.{held, fill, queuePart, countOf, unusedOf, need, accepted, delivered, movesMade}
 use Rattle.network.specs.LayoutLaws.{fill-length}
 use Rattle.network.specs.Check.{longest, rightPlace, isQueueOf, reach, nearEnough, opposite, rightSign, lowerDone, packetFits, queueFits, queuesFit, hasRoom, ringHasRoom, ringsHaveRoom, packetsHeld, workLeft, mostAccepted, mostWork, countersFit, isNetwork}
@@ -216,6 +217,100 @@ packet-by S n q p f =
         or-r (not (isEscape q)) (allBelow (dimensionOf (directionOf q)) (λ j. eqb (distance j p) 0))
         (all-by (dimensionOf (directionOf q)) (λ j. eqb (distance j p) 0) (λ i h. eq-T (distance i p) 0 (f .lower e i h)))
     low (inr no′) = or-l (not (isEscape q)) (allBelow (dimensionOf (directionOf q)) (λ j. eqb (distance j p) 0)) no′
+
+-- R76 to R79: the check judges both signs of an offset half-way round alike. They lead to the same node; and in a queue of that dimension neither
+-- passes, since a hop along it has been made
+module _ (S : Shape) (n q i h p : ℕ) (tor : Torus S) (node : n < nodes S) (k : i < dimensions) (half : 2 * h ≡ size S i) where
+  -- one of the two in the place of the other
+  module _ (y z : ℤ) (ry : OffsetRange y) (rz : OffsetRange z) (ny : natAbs y ≡ h) (nz : natAbs z ≡ h)
+      (lands : landing (size S i) (coordinate S i n) z ≡ landing (size S i) (coordinate S i n) y) where
+    destination-same : destination (withOffset i z p) ≡ destination (withOffset i y p)
+    destination-same = destination-with i z p k rz ∙ sym (destination-with i y p k ry)
+
+    offset-same : (j : ℕ) → j < dimensions → j ≢ i → offset j (withOffset i z p) ≡ offset j (withOffset i y p)
+    offset-same j l ne = offset-with-other i j z p k l ne rz ∙ sym (offset-with-other i j y p k l ne ry)
+
+    distance-same : (j : ℕ) → j < dimensions → distance j (withOffset i z p) ≡ distance j (withOffset i y p)
+    unfolding distance
+    distance-same j l = go (ℕ-discrete j i)
+      where
+        go : Dec (j ≡ i) → natAbs (offset j (withOffset i z p)) ≡ natAbs (offset j (withOffset i y p))
+        go (yes e) = rw e (ap natAbs (offset-with-same i z p k rz) ∙ nz ∙ sym ny ∙ sym (ap natAbs (offset-with-same i y p k ry)))
+        go (no ne) = ap natAbs (offset-same j l ne)
+
+    movedBy-same : movedBy S (withOffset i z p) n ≡ movedBy S (withOffset i y p) n
+    movedBy-same =
+        coordinates-eq S (movedBy S (withOffset i z p) n) (movedBy S (withOffset i y p) n) tor
+        (movedBy-lt S n (withOffset i z p) tor node) (movedBy-lt S n (withOffset i y p) tor node)
+        (λ j l. coordinate-landing S j n (withOffset i z p) tor l ∙ there j l (ℕ-discrete j i) ∙ sym (coordinate-landing S j n (withOffset i y p) tor l))
+      where
+        there : (j : ℕ) → j < dimensions → Dec (j ≡ i)
+            → landing (size S j) (coordinate S j n) (offset j (withOffset i z p)) ≡ landing (size S j) (coordinate S j n) (offset j (withOffset i y p))
+        there j l (yes e) =
+            rw e
+            (ap (landing (size S i) (coordinate S i n)) (offset-with-same i z p k rz)
+            ∙ lands
+            ∙ sym (ap (landing (size S i) (coordinate S i n)) (offset-with-same i y p k ry)))
+        there j l (no ne) = ap (landing (size S j) (coordinate S j n)) (offset-same j l ne)
+
+    reach-same : (j : ℕ) → j < dimensions → reach j q (withOffset i z p) ≡ reach j q (withOffset i y p)
+    unfolding reach
+    reach-same j l = ap (λ (a : ℕ). cond (isQueueOf j q) (a + 1) a) (distance-same j l)
+
+    -- in a queue of that dimension
+    too-far : PacketFits S n q (withOffset i y p) → q ≢ injectionQueue → dimensionOf (directionOf q) ≡ i → ⊥
+    unfolding distance
+    too-far f ne e =
+        let near = f .near (dimensionOf (directionOf q)) (omega arith) in
+        let own = reach-own q (withOffset i y p) ne in
+        let far : natAbs (offset (dimensionOf (directionOf q)) (withOffset i y p)) ≡ h = rw e (ap natAbs (offset-with-same i y p k ry) ∙ ny) in
+        let long : 2 * h ≡ size S (dimensionOf (directionOf q)) = rw e half in
+        omega arith
+
+    either-sign : PacketFits S n q (withOffset i y p) → PacketFits S n q (withOffset i z p)
+    unfolding hops
+    either-sign f =
+        record {
+          addressed = let e = destination-same in let l = f .addressed in omega arith;
+          arrives = movedBy-same ∙ f .arrives ∙ sym destination-same;
+          near = λ j l. let e = reach-same j l in let m = f .near j l in omega arith;
+          sign = λ ne. sign ne (ℕ-discrete (dimensionOf (opposite (directionOf q))) i);
+          lower = λ e j l. distance-same j (omega arith) ∙ f .lower e j l;
+        }
+      where
+        sign : q ≢ injectionQueue → Dec (dimensionOf (opposite (directionOf q)) ≡ i) → hops (opposite (directionOf q)) (withOffset i z p) ≡ 0
+        sign ne (yes e) = absurd (too-far f ne (sym (opposite-dimension (directionOf q)) ∙ e))
+        sign ne (no apart) =
+            let d : ℕ = opposite (directionOf q) in
+            ap (λ (o : ℤ). cond (isPlus d) (forward o) (backward o))
+            (offset-same (dimensionOf d) (let same = opposite-dimension (directionOf q) in omega arith) apart)
+            ∙ f .sign ne
+
+  pub halfway-fits : size S i ≤ largestRing → packetFits S n q (withOffset i (pos h) p) ≡ packetFits S n q (withOffset i (negsuc (h - 1)) p)
+  unfolding forward backward
+  halfway-fits short =
+      same-test (packetFits S n q (withOffset i (pos h) p)) (packetFits S n q (withOffset i (negsuc (h - 1)) p))
+      (λ t. packet-by S n q _ (either-sign (pos h) (negsuc (h - 1)) plus minus refl away (sym lands) (packet-of S n q _ t)))
+      (λ t. packet-by S n q _ (either-sign (negsuc (h - 1)) (pos h) minus plus away refl lands (packet-of S n q _ t)))
+    where
+      some : 0 < size S i
+      some = size-pos S i tor k
+
+      plus : OffsetRange (pos h)
+      plus = record { most = omega arith; least = omega arith }
+
+      minus : OffsetRange (negsuc (h - 1))
+      minus = let s = some in record { most = omega arith; least = omega arith }
+
+      away : natAbs (negsuc (h - 1)) ≡ h
+      away = let s = some in omega arith
+
+      lands : landing (size S i) (coordinate S i n) (pos h) ≡ landing (size S i) (coordinate S i n) (negsuc (h - 1))
+      lands =
+          let s = some in
+          landing-plus (size S i) (coordinate S i n) h
+          ∙ sym (landing-minus (size S i) (coordinate S i n) h (omega arith))
+          ∙ ap (λ (m : ℕ). landing (size S i) (coordinate S i n) (negsuc m)) (let rest : size S i - h - 1 ≡ h - 1 = omega arith in rest)
 
 -- R86: a packet for the very node where it stands passes in the injection queue and in the queues of a dimension along which a hop can have been
 -- made, and in no other

@@ -1,31 +1,36 @@
--- Laws of the packet of an offer (`offered` of Calls.antt), between nodes of a torus whose rings are no longer than the largest. Order: its fields; how far it
--- has to go; that its offsets lead from its node to its destination, and have a hop left where the two differ. Assumes nothing.
+-- Laws of the packet of an offer (`offered` of Calls.antt), between nodes of a torus whose rings are no longer than the largest. Order: its fields; its
+-- direction; how far it has to go; that its offsets lead from its node to its destination, and have a hop left where the two differ. Assumes nothing.
 use mathlib.Core.Path.{_≡_, ap, ap₂, sym, _∙_}
+use mathlib.Core.Bool.{cond}
 use mathlib.Core.Logic.{_≢_}
-use Prim.Native.Nat.{ℕ, _+_, _*_, _-_, _%_, _^_, _<_, _≤_}
+use Prim.Native.Nat.{ℕ, _+_, _*_, _-_, _/_, _%_, _^_, _<_, _≤_}
 use native.Mathlib.Omega.{arith}
-use lib.IntN.{ℤ, natAbs}
+use lib.Dec.{ltb, eqb}
+use lib.IntN.{ℤ, pos, negsuc, natAbs}
 use Rattle.base.specs.Sums.{sum-most}
 use Rattle.network.specs.Sizes.{Shape, size, nodes, dimensions, largestRing}
-use Rattle.network.specs.Packet.{tag, destination, offset, distance, forward, backward, hopsLeft, work, shorterWay}
-use Rattle.network.specs.PacketLaws.{OffsetRange, tag-packet, destination-packet, offset-packet, hops-plus, hops-minus, shorterWay-range, shorterWay-half, shorterWay-reaches}
+use Rattle.network.specs.Packet.{tag, destination, offset, distance, hopsLeft, work, stepsAhead, shorterWay}
+use Rattle.network.specs.PacketLaws.{OffsetRange, tag-packet, destination-packet, offset-packet, landing, ahead-lt, shorterWay-nearer, shorterWay-halfway, shorterWay-range, shorterWay-half, shorterWay-reaches}
 use Rattle.network.specs.Torus.{coordinate, movedBy}
-use Rattle.network.specs.TorusLaws.{Torus, coordinate-lt, coordinates-eq, coordinate-movedBy, movedBy-lt, movedBy-here}
+use Rattle.network.specs.TorusLaws.{Torus, coordinate-lt, coordinates-eq, coordinate-landing, movedBy-lt, movedBy-here}
 use Rattle.network.specs.Check.{longest, mostWork}
-use Rattle.network.specs.Calls.{offered}
+use Rattle.network.specs.Calls.{offeredWay, offered}
 
 -- no ring is longer than the largest
 abbrev pub ShortRings : Shape → Type 0
 ShortRings S = (i : ℕ) → i < dimensions → size S i ≤ largestRing
 
--- the way that an offer chooses in dimension i
-abbrev pub offeredWay : Shape → ℕ → ℕ → ℕ → ℤ
-offeredWay S n dest i = shorterWay (size S i) (coordinate S i n) (coordinate S i dest)
+-- the steps from node n to node dest along dimension i, going plus
+abbrev pub offeredSteps : Shape → ℕ → ℕ → ℕ → ℕ
+offeredSteps S n dest i = stepsAhead (size S i) (coordinate S i n) (coordinate S i dest)
+
+steps-lt : (S : Shape) (n dest i : ℕ) → Torus S → i < dimensions → offeredSteps S n dest i < size S i
+steps-lt S n dest i t h = ahead-lt (size S i) (coordinate S i n) (coordinate S i dest) (coordinate-lt S i n t h)
 
 pub offered-range : (S : Shape) (n dest i : ℕ) → Torus S → ShortRings S → i < dimensions → OffsetRange (offeredWay S n dest i)
 offered-range S n dest i t s h =
     let m = s i h in
-    shorterWay-range (size S i) (coordinate S i n) (coordinate S i dest) (coordinate-lt S i n t h) (coordinate-lt S i dest t h) (omega arith)
+    shorterWay-range (size S i) (offeredSteps S n dest i) _ (steps-lt S n dest i t h) (omega arith)
 
 -- Its fields --------------------------------------------------------------------------------------------------------------------------
 
@@ -48,6 +53,23 @@ module _ (S : Shape) (n dest tag′ : ℕ) (t : Torus S) (h : n < nodes S) (hd :
   unfolding offered
   offset-offered i k = offset-packet i tag′ dest (λ i. offeredWay S n dest i) k small ranges
 
+  -- Its direction ---------------------------------------------------------------------------------------------------------------------
+
+  -- R67: where one way is shorter it is that one, from every coordinate
+  pub offset-nearer : (i : ℕ) → i < dimensions → 2 * offeredSteps S n dest i ≢ size S i
+      → offset i (offered S n dest tag′)
+      ≡ cond (ltb (2 * offeredSteps S n dest i) (size S i)) (pos (offeredSteps S n dest i)) (negsuc (size S i - offeredSteps S n dest i - 1))
+  offset-nearer i k ne = offset-offered i k ∙ shorterWay-nearer (size S i) (offeredSteps S n dest i) _ ne
+
+  -- R68: half-way round it is plus from an even coordinate of the sending node and minus from an odd one, in each dimension by its own
+  pub offset-halfway : (i : ℕ) → i < dimensions → 2 * offeredSteps S n dest i ≡ size S i
+      → offset i (offered S n dest tag′) ≡ cond (eqb (coordinate S i n % 2) 0) (pos (size S i / 2)) (negsuc (size S i / 2 - 1))
+  offset-halfway i k e =
+      let half : offeredSteps S n dest i ≡ size S i / 2 = omega arith in
+      offset-offered i k
+      ∙ shorterWay-halfway (size S i) (offeredSteps S n dest i) (coordinate S i n) e
+      ∙ ap (λ (h : ℕ). cond (eqb (coordinate S i n % 2) 0) (pos h) (negsuc (h - 1))) half
+
   -- How far it has to go -------------------------------------------------------------------------------------------------------------
 
   pub distance-offered : (i : ℕ) → i < dimensions → distance i (offered S n dest tag′) ≤ longest S i
@@ -55,7 +77,7 @@ module _ (S : Shape) (n dest tag′ : ℕ) (t : Torus S) (h : n < nodes S) (hd :
   distance-offered i k =
       let e : natAbs (offset i (offered S n dest tag′)) ≡ natAbs (offeredWay S n dest i) = ap natAbs (offset-offered i k) in
       let l : natAbs (offeredWay S n dest i) ≤ longest S i =
-      shorterWay-half (size S i) (coordinate S i n) (coordinate S i dest) (coordinate-lt S i n t k) (coordinate-lt S i dest t k) in
+      shorterWay-half (size S i) (offeredSteps S n dest i) _ (steps-lt S n dest i t k) in
       omega arith
 
   pub work-offered : work (offered S n dest tag′) ≤ mostWork
@@ -70,11 +92,9 @@ module _ (S : Shape) (n dest tag′ : ℕ) (t : Torus S) (h : n < nodes S) (hd :
   movedBy-offered =
       coordinates-eq S (movedBy S (offered S n dest tag′) n) dest t (movedBy-lt S n (offered S n dest tag′) t h) hd
       (λ i k.
-      coordinate-movedBy S i n (offered S n dest tag′) t k
-      ∙ ap₂ (λ (a b : ℕ). (coordinate S i n + (a * 1 + b * (size S i - 1))) % size S i)
-      (hops-plus i (offered S n dest tag′) ∙ ap forward (offset-offered i k))
-      (hops-minus i (offered S n dest tag′) ∙ ap backward (offset-offered i k))
-      ∙ shorterWay-reaches (size S i) (coordinate S i n) (coordinate S i dest) (coordinate-lt S i n t k) (coordinate-lt S i dest t k))
+      coordinate-landing S i n (offered S n dest tag′) t k
+      ∙ ap (landing (size S i) (coordinate S i n)) (offset-offered i k)
+      ∙ shorterWay-reaches (size S i) (coordinate S i n) (coordinate S i dest) _ (coordinate-lt S i n t k) (coordinate-lt S i dest t k))
 
   pub hops-offered : n ≢ dest → hopsLeft (offered S n dest tag′) ≢ 0
   hops-offered apart none = apart (sym (movedBy-here S n (offered S n dest tag′) t h none) ∙ movedBy-offered)

@@ -1,8 +1,8 @@
--- R60 to R66, R84, R110 and R228: the packet word. Order: the fields of a word; its offsets; the word of some fields; hops left; a hop; the label; the
--- shorter way of an offer. Assumes nothing.
-use mathlib.Core.Bool.{cond}
+-- R60 to R63, R67, R68, R84, R110 and R228: the packet word. Order: the fields of a word; its offsets; the word of some fields; hops left; a hop; the
+-- label; the shorter way of an offer. Assumes nothing.
+use mathlib.Core.Bool.{Bool, cond, _&&_, _||_}
 use Prim.Native.Nat.{ℕ, zero, suc, _+_, _*_, _-_, _/_, _%_}
-use lib.Dec.{leb, ltb, eqb}
+use lib.Dec.{ltb, eqb}
 use lib.IntN.{ℤ, pos, negsuc, natAbs}
 use mathlib.Core.List.{List, [], _∷_, _++_}
 use lib.ListN.{replicate}
@@ -96,9 +96,14 @@ hop i p = withOffset i (shrunk (offset i p)) p
 unfoldable pub label : ℕ → ℕ
 label p = withOffsets dimensions (λ i. pos 0) p
 
--- R64 to R66: from one coordinate to another, round a dimension of that size, by the shorter way; half-way round goes plus
+-- R67: how many steps lead from one coordinate to another, going plus round a dimension of that size
+abbrev pub stepsAhead : ℕ → ℕ → ℕ → ℕ
+stepsAhead size from to = (to + (size - from)) % size
+
+-- R67, R68: whether an offer goes those steps ahead, and not the rest of the round back: where that is the shorter way; and where both ways are
+-- equal, from an even coordinate of the sending node
+unfoldable pub goesPlus : ℕ → ℕ → ℕ → Bool
+goesPlus size ahead from = ltb (2 * ahead) size || (eqb (2 * ahead) size && eqb (from % 2) 0)
+
 unfoldable pub shorterWay : ℕ → ℕ → ℕ → ℤ
-shorterWay size from to = way size ((to + (size - from)) % size)
-  where
-    way : ℕ → ℕ → ℤ
-    way size ahead = cond (leb (2 * ahead) size) (pos ahead) (negsuc (size - ahead - 1))
+shorterWay size ahead from = cond (goesPlus size ahead from) (pos ahead) (negsuc (size - ahead - 1))

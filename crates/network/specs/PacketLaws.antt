@@ -1,7 +1,7 @@
 -- Laws of the packet word (Packet.antt). Order: signed offsets; a word with one offset replaced; a hop; hops left by direction and in all; the
 -- label; the word that fields make; the shorter way round. `i` and `j` are dimensions, `d` a direction, `p` any number. Assumes nothing.
 use mathlib.Core.Path.{_≡_, refl, ap, ap₂, sym, _∙_}
-use mathlib.Core.Bool.{Bool, true, false, cond}
+use mathlib.Core.Bool.{Bool, true, false, cond, _&&_, _||_}
 use mathlib.Core.Logic.{_⊎_, inl, inr, _≢_}
 use Prim.Native.Nat.{ℕ, zero, suc, _+_, _*_, _-_, _/_, _%_, _^_, _<_, _≤_}
 use native.Mathlib.Nat.{mod-lt, add-mod-mod, add-mod-right, mod-eq-of-lt, add-mul-mod-self-right, suc-mul, mul-suc}
@@ -15,7 +15,7 @@ use Rattle.base.specs.Tests.{allOf}
 use Rattle.base.specs.Sums.{sumBelow, sum-change, sum-most, term-le}
 use Rattle.network.specs.Sizes.{dimensions, directions, dimensionOf, isPlus, plus, minus}
 use Rattle.base.specs.Digits.{product, digit, putDigit, weight, Positive, positive-by, digit-weight, digit-lt, digit-put-same, digit-put-other, put-put, put-comm, put-digit, above-put}
-use Rattle.network.specs.Packet.{offsetValues, destinationValues, fields, offsetField, destinationField, withOffsets, signed, unsigned, packetWord, tag, destination, offset, withOffset, distance, forward, backward, hops, heading, hopsLeft, work, shrunk, hop, label, shorterWay}
+use Rattle.network.specs.Packet.{offsetValues, destinationValues, fields, offsetField, destinationField, withOffsets, signed, unsigned, packetWord, tag, destination, offset, withOffset, distance, forward, backward, hops, heading, hopsLeft, work, shrunk, hop, label, stepsAhead, goesPlus, shorterWay}
 
 -- a choice whose test is known
 chosen : {A : Type 0} (b : Bool) (x y : A) → b ≡ true → cond b x y ≡ x
@@ -289,6 +289,14 @@ unfolding hops
 hops-hop-other i d p h k ne =
     ap (λ z. cond (isPlus d) (forward z) (backward z)) (offset-hop-other i (dimensionOf d) p h (dimension-lt d k) ne)
 
+-- so a hop adds hops left in no direction: no packet is turned round
+pub hops-hop-le : (i d p : ℕ) → i < dimensions → d < directions → hops d (hop i p) ≤ hops d p
+hops-hop-le i d p h k = go (ℕ-discrete (dimensionOf d) i)
+  where
+    go : Dec (dimensionOf d ≡ i) → hops d (hop i p) ≤ hops d p
+    go (yes e) = rw (← e) (let same = hops-hop-same d p k in omega arith)
+    go (no ne) = let same = hops-hop-other i d p h k ne in omega arith
+
 -- of an even direction, and of an odd one
 pub even-hops : (d p : ℕ) → d % 2 ≡ 0 → hops d p ≡ forward (offset (dimensionOf d) p)
 unfolding hops
@@ -455,52 +463,74 @@ offset-packet i t dest offs k h r = offset-withs offs dimensions i (putDigit fie
 
 -- The shorter way round ---------------------------------------------------------------------------------------------------------------
 
--- by how many steps are ahead, from one coordinate to the other going plus
-pub shorterWay-plus : (size from to : ℕ) → 2 * ((to + (size - from)) % size) ≤ size → shorterWay size from to ≡ pos ((to + (size - from)) % size)
-unfolding shorterWay
-shorterWay-plus size from to h =
-    chosen (leb (2 * ((to + (size - from)) % size)) size)
-    (pos ((to + (size - from)) % size))
-    (negsuc (size - (to + (size - from)) % size - 1))
-    (le-leb (2 * ((to + (size - from)) % size)) size h)
-
-pub shorterWay-minus : (size from to : ℕ) → size < 2 * ((to + (size - from)) % size)
-    → shorterWay size from to ≡ negsuc (size - (to + (size - from)) % size - 1)
-unfolding shorterWay
-shorterWay-minus size from to h =
-    passed-over (leb (2 * ((to + (size - from)) % size)) size)
-    (pos ((to + (size - from)) % size))
-    (negsuc (size - (to + (size - from)) % size - 1))
-    (lt-leb (2 * ((to + (size - from)) % size)) size h)
-
-pub shorterWay-halfway : (size from to : ℕ) → 2 * ((to + (size - from)) % size) ≡ size → shorterWay size from to ≡ pos ((to + (size - from)) % size)
-shorterWay-halfway size from to e = shorterWay-plus size from to (omega arith)
-
-pub shorterWay-half : (size from to : ℕ) → from < size → to < size → natAbs (shorterWay size from to) ≤ size / 2
-shorterWay-half size from to h k = go ((to + (size - from)) % size) refl (mod-lt (to + (size - from)) (omega arith))
+-- a coordinate's parity decides where both ways are equal, and one step more cannot where they are not
+goesPlus-is : (size ahead from : ℕ) → goesPlus size ahead from ≡ leb (2 * ahead + from % 2) size
+unfolding goesPlus
+goesPlus-is size ahead from = go (decLt (2 * ahead) size) (ℕ-discrete (2 * ahead) size) (ℕ-discrete (from % 2) 0)
   where
-    go : (a : ℕ) → (to + (size - from)) % size ≡ a → a < size → natAbs (shorterWay size from to) ≤ size / 2
-    go a e l = by (decLe (2 * a) size)
-      where
-        by : Dec (2 * a ≤ size) → natAbs (shorterWay size from to) ≤ size / 2
-        by (yes s) = rw (shorterWay-plus size from to (omega arith)) (omega arith)
-        by (no g) = rw (shorterWay-minus size from to (omega arith)) (omega arith)
+    go : Dec (2 * ahead < size) → Dec (2 * ahead ≡ size) → Dec (from % 2 ≡ 0)
+        → (ltb (2 * ahead) size || (eqb (2 * ahead) size && eqb (from % 2) 0)) ≡ leb (2 * ahead + from % 2) size
+    go (yes l) e z = rw (lt-ltb (2 * ahead) size l, le-leb (2 * ahead + from % 2) size (omega arith))
+    go (no g) (yes e) (yes z) =
+        rw (le-ltb (2 * ahead) size (omega arith), eq-eqb (2 * ahead) size e, eq-eqb (from % 2) 0 z, le-leb (2 * ahead + from % 2) size (omega arith))
+    go (no g) (yes e) (no z) =
+        rw (le-ltb (2 * ahead) size (omega arith), eq-eqb (2 * ahead) size e, ne-eqb (from % 2) 0 z, lt-leb (2 * ahead + from % 2) size (omega arith))
+    go (no g) (no e) z =
+        rw (le-ltb (2 * ahead) size (omega arith), ne-eqb (2 * ahead) size e, lt-leb (2 * ahead + from % 2) size (omega arith))
 
-pub shorterWay-range : (size from to : ℕ) → from < size → to < size → size < offsetValues → OffsetRange (shorterWay size from to)
-shorterWay-range size from to h k s =
-    let half = shorterWay-half size from to h k in
-    let parts = natAbs-is (shorterWay size from to) in
+pub shorterWay-plus : (size ahead from : ℕ) → 2 * ahead + from % 2 ≤ size → shorterWay size ahead from ≡ pos ahead
+unfolding shorterWay
+shorterWay-plus size ahead from h =
+    chosen (goesPlus size ahead from) (pos ahead) (negsuc (size - ahead - 1)) (goesPlus-is size ahead from ∙ le-leb (2 * ahead + from % 2) size h)
+
+pub shorterWay-minus : (size ahead from : ℕ) → size < 2 * ahead + from % 2 → shorterWay size ahead from ≡ negsuc (size - ahead - 1)
+unfolding shorterWay
+shorterWay-minus size ahead from h =
+    passed-over (goesPlus size ahead from) (pos ahead) (negsuc (size - ahead - 1)) (goesPlus-is size ahead from ∙ lt-leb (2 * ahead + from % 2) size h)
+
+-- where one way is shorter it is that one, whatever the coordinate; where both are equal the coordinate's parity decides
+pub shorterWay-nearer : (size ahead from : ℕ) → 2 * ahead ≢ size
+    → shorterWay size ahead from ≡ cond (ltb (2 * ahead) size) (pos ahead) (negsuc (size - ahead - 1))
+unfolding shorterWay goesPlus
+shorterWay-nearer size ahead from ne = rw (ne-eqb (2 * ahead) size ne) (go (ltb (2 * ahead) size))
+  where
+    go : (b : Bool) → cond (b || false) (pos ahead) (negsuc (size - ahead - 1)) ≡ cond b (pos ahead) (negsuc (size - ahead - 1))
+    go true = refl
+    go false = refl
+
+pub shorterWay-halfway : (size ahead from : ℕ) → 2 * ahead ≡ size → shorterWay size ahead from ≡ cond (eqb (from % 2) 0) (pos ahead) (negsuc (ahead - 1))
+unfolding shorterWay goesPlus
+shorterWay-halfway size ahead from e =
+    rw (le-ltb (2 * ahead) size (omega arith), eq-eqb (2 * ahead) size e)
+    (ap (λ (m : ℕ). cond (eqb (from % 2) 0) (pos ahead) (negsuc m)) (let rest : size - ahead - 1 ≡ ahead - 1 = omega arith in rest))
+
+-- one of the two it is
+shorterWay-by : (P : ℤ → Type 0) (size ahead from : ℕ) → (2 * ahead ≤ size → P (pos ahead)) → (size ≤ 2 * ahead → P (negsuc (size - ahead - 1)))
+    → P (shorterWay size ahead from)
+shorterWay-by P size ahead from plus minus = go (decLe (2 * ahead + from % 2) size)
+  where
+    go : Dec (2 * ahead + from % 2 ≤ size) → P (shorterWay size ahead from)
+    go (yes l) = rw (shorterWay-plus size ahead from l) (plus (omega arith))
+    go (no g) = rw (shorterWay-minus size ahead from (omega arith)) (minus (omega arith))
+
+pub shorterWay-half : (size ahead from : ℕ) → ahead < size → natAbs (shorterWay size ahead from) ≤ size / 2
+shorterWay-half size ahead from h = shorterWay-by (λ z. natAbs z ≤ size / 2) size ahead from (λ l. omega arith) (λ l. omega arith)
+
+pub shorterWay-range : (size ahead from : ℕ) → ahead < size → size < offsetValues → OffsetRange (shorterWay size ahead from)
+shorterWay-range size ahead from h s =
+    let half = shorterWay-half size ahead from h in
+    let parts = natAbs-is (shorterWay size ahead from) in
     record { most = omega arith; least = omega arith }
 
--- so many steps forward and so many back, each of these being all steps round but one, lead to the other coordinate
-ahead-reaches : (size from to : ℕ) → from < size → to < size → (from + (to + (size - from)) % size) % size ≡ to
-ahead-reaches size from to h k =
-    add-mod-mod from (to + (size - from)) size
-    ∙ ap (λ (n : ℕ). n % size) (omega arith)
-    ∙ add-mod-right to size
-    ∙ mod-eq-of-lt k
+-- fewer steps than a round are ahead
+pub ahead-lt : (size from to : ℕ) → from < size → stepsAhead size from to < size
+ahead-lt size from to h = mod-lt (to + (size - from)) (omega arith)
 
--- b steps back are the rest of the round forward, and whole rounds
+-- the coordinate to which an offset leads: so many steps forward and so many back, each of these being all steps round but one
+abbrev pub landing : ℕ → ℕ → ℤ → ℕ
+landing size from z = (from + (forward z * 1 + backward z * (size - 1))) % size
+
+-- the rest of the round back, and whole rounds
 back-is-ahead : (from size a : ℕ) → a < size → (from + suc (size - a - 1) * (size - 1)) % size ≡ (from + a) % size
 back-is-ahead from zero a h = absurd (native.Mathlib.Nat.not-suc-le-zero h)
 back-is-ahead from (suc k) a h = go (suc k - a - 1) refl
@@ -514,24 +544,27 @@ back-is-ahead from (suc k) a h = go (suc k - a - 1) refl
         let total : from + suc c * (suc k - 1) ≡ from + a + c * suc k = omega arith in
         ap (λ (x : ℕ). x % suc k) total ∙ add-mul-mod-self-right (from + a) c (suc k)
 
-pub shorterWay-reaches : (size from to : ℕ) → from < size → to < size
-    → (from + (forward (shorterWay size from to) * 1 + backward (shorterWay size from to) * (size - 1))) % size ≡ to
+-- so the steps ahead and the rest of the round back lead to the same coordinate
+pub landing-plus : (size from a : ℕ) → landing size from (pos a) ≡ (from + a) % size
 unfolding forward backward
-shorterWay-reaches size from to h k = by (decLe (2 * ((to + (size - from)) % size)) size)
+landing-plus size from a = let z = native.Mathlib.Nat.zero-mul (size - 1) in ap (λ (n : ℕ). (from + n) % size) (omega arith)
+
+pub landing-minus : (size from a : ℕ) → a < size → landing size from (negsuc (size - a - 1)) ≡ (from + a) % size
+unfolding forward backward
+landing-minus size from a h = ap (λ (n : ℕ). (from + n) % size) (plain (suc (size - a - 1) * (size - 1))) ∙ back-is-ahead from size a h
   where
-    by : Dec (2 * ((to + (size - from)) % size) ≤ size)
-        → (from + (forward (shorterWay size from to) * 1 + backward (shorterWay size from to) * (size - 1))) % size ≡ to
-    by (yes s) =
-        rw (shorterWay-plus size from to s)
-        (ap (λ (n : ℕ). (from + n) % size) (plain ((to + (size - from)) % size) (size - 1)) ∙ ahead-reaches size from to h k)
-      where
-        plain : (a b : ℕ) → a * 1 + 0 * b ≡ a
-        plain a b = let z = native.Mathlib.Nat.zero-mul b in omega arith
-    by (no g) =
-        rw (shorterWay-minus size from to (omega arith))
-        (ap (λ (n : ℕ). (from + n) % size) (plain (suc (size - (to + (size - from)) % size - 1) * (size - 1)))
-        ∙ back-is-ahead from size ((to + (size - from)) % size) (mod-lt (to + (size - from)) (omega arith))
-        ∙ ahead-reaches size from to h k)
-      where
-        plain : (a : ℕ) → 0 * 1 + a ≡ a
-        plain a = omega arith
+    plain : (b : ℕ) → 0 * 1 + b ≡ b
+    plain b = omega arith
+
+ahead-reaches : (size from to : ℕ) → from < size → to < size → (from + stepsAhead size from to) % size ≡ to
+ahead-reaches size from to h k =
+    add-mod-mod from (to + (size - from)) size
+    ∙ ap (λ (n : ℕ). n % size) (omega arith)
+    ∙ add-mod-right to size
+    ∙ mod-eq-of-lt k
+
+pub shorterWay-reaches : (size from to c : ℕ) → from < size → to < size → landing size from (shorterWay size (stepsAhead size from to) c) ≡ to
+shorterWay-reaches size from to c h k =
+    shorterWay-by (λ z. landing size from z ≡ to) size (stepsAhead size from to) c
+    (λ l. landing-plus size from (stepsAhead size from to) ∙ ahead-reaches size from to h k)
+    (λ l. landing-minus size from (stepsAhead size from to) (ahead-lt size from to h) ∙ ahead-reaches size from to h k)

@@ -16,8 +16,8 @@ use Rattle.base.specs.Digits.{product, digit, rotate, Positive, product-pos, di
 use Rattle.network.specs.Sizes.{Shape, shapeOf, size, nodes, mostNodes, within, sizesInRange, dimensions, directions, dimensionOf, isPlus, plus, minus, largestRing}
 use Rattle.network.specs.declared.Sizes.{Sizes}
 use Rattle.network.specs.SizesLaws.{between-of, range-of}
-use Rattle.network.specs.Packet.{hops, hopsLeft, hop}
-use Rattle.network.specs.PacketLaws.{dimension-lt, hops-hop-same, hops-hop-other, one-way, arrived-hops}
+use Rattle.network.specs.Packet.{offset, hops, hopsLeft, hop}
+use Rattle.network.specs.PacketLaws.{dimension-lt, hops-hop-same, hops-hop-other, one-way, hops-plus, hops-minus, arrived-hops, landing}
 use Rattle.network.specs.Torus.{coordinate, stride, along, neighbour, movedBelow, movedBy}
 
 -- Sizes that make a torus -------------------------------------------------------------------------------------------------------------
@@ -287,6 +287,13 @@ pub coordinate-movedBy : (S : Shape) (i n p : ℕ) → Torus S → i < dimension
     → coordinate S i (movedBy S p n) ≡ (coordinate S i n + (hops (plus i) p * 1 + hops (minus i) p * (size S i - 1))) % size S i
 unfolding movedBy moved
 coordinate-movedBy S i n p t h = by-then S i n p t h dimensions h (le-refl dimensions)
+
+-- so in each dimension it is where the offset leads
+pub coordinate-landing : (S : Shape) (i n p : ℕ) → Torus S → i < dimensions
+    → coordinate S i (movedBy S p n) ≡ landing (size S i) (coordinate S i n) (offset i p)
+coordinate-landing S i n p t h =
+    coordinate-movedBy S i n p t h
+    ∙ ap₂ (λ (a b : ℕ). (coordinate S i n + (a * 1 + b * (size S i - 1))) % size S i) (hops-plus i p) (hops-minus i p)
 
 -- Neighbours are apart ----------------------------------------------------------------------------------------------------------------
 

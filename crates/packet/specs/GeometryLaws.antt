@@ -19,7 +19,8 @@ use Rattle.network.specs.Sizes.{Shape, shapeOf, size, nodes, mostNodes, largest
 use Rattle.network.specs.PacketLaws.{OffsetRange, dimension-lt}
 use Rattle.network.specs.Torus.{coordinate, stride, along, neighbour}
 use Rattle.network.specs.TorusLaws.{Torus, sizes-torus, inRange-size, size-pos, coordinate-lt, neighbour-lt}
-use Rattle.network.specs.OfferLaws.{offeredWay, offered-range}
+use Rattle.network.specs.Calls.{offeredWay}
+use Rattle.network.specs.OfferLaws.{offered-range}
 use Rattle.network.specs.declared.Sizes.{Sizes}
 use Rattle.packet.specs.declared.torus.Place.{Place}
 use Rattle.packet.specs.Geometry.{nodeAt, OnTorus, WalkTo}

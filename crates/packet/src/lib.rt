@@ -146,13 +146,13 @@ pub fn hop(i: u64, p: u64) -> u64
 
 // The shorter way round -----------------------------------------------------------------------------------------------------
 
-// From one coordinate to another; where both ways are equal, the positive one.
-pub fn shorter_way(size: u64, from: u64, to: u64) -> i64
-    requires { ⌜ (from < size) × (to < size) × (size ≤ largestRing) ⌝ }
-    ensures { λ r. ⌜ r ≡ shorterWay size from to ⌝ }
+// So many steps ahead, or the rest of the round back. Where both ways are equal an even coordinate of the sending node
+// means ahead: the one step more of an odd one decides nothing where they are not.
+pub fn shorter_way(size: u64, ahead: u64, from: u64) -> i64
+    requires { ⌜ (ahead < size) × (size ≤ largestRing) ⌝ }
+    ensures { λ r. ⌜ r ≡ shorterWay size ahead from ⌝ }
 {
-    let ahead = (to + (size - from)) % size;
-    if 2 * ahead <= size {
+    if 2 * ahead + from % 2 <= size {
         ahead as i64
     } else {
         -((size - ahead) as i64)

@@ -12,8 +12,7 @@ ghost use lib.Dec.{T};
 ghost use Rattle.base.specs.Digits.{weight};
 ghost use Rattle.network.specs.Sizes.{shapeOf, sizesInRange, dimensions, directions, dimensionOf, nodes, size};
 ghost use Rattle.network.specs.Torus.{coordinate, neighbour};
-ghost use Rattle.network.specs.Calls.{offered};
-ghost use Rattle.network.specs.OfferLaws.{offeredWay};
+ghost use Rattle.network.specs.Calls.{offeredWay, offered};
 ghost use Rattle.packet.specs.Geometry.{nodeAt, OnTorus};
 
 pub fn nodes(s: Sizes) -> u64
@@ -99,7 +98,7 @@ pub fn next_place(s: Sizes, place: Place) -> Place
     Place { at }
 }
 
-// The shorter way from a node to a destination in dimension i.
+// The offset of an offer in dimension i.
 fn way(s: Sizes, i: u64, n: u64, destination: u64) -> i64
     requires { ⌜ T (sizesInRange (shapeOf s)) × (i < dimensions) × (n < nodes (shapeOf s)) × (destination < nodes (shapeOf s)) ⌝ }
     ensures { λ r. ⌜ r ≡ offeredWay (shapeOf s) n destination i ⌝ }
@@ -107,7 +106,8 @@ fn way(s: Sizes, i: u64, n: u64, destination: u64) -> i64
     let k = size(s, i);
     let from = coordinate(s, i, n);
     let to = coordinate(s, i, destination);
-    shorter_way(k, from, to)
+    let ahead = (to + (k - from)) % k;
+    shorter_way(k, ahead, from)
 }
 
 // The packet word of an offer.

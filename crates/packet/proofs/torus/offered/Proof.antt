@@ -7,8 +7,7 @@ use Rattle.base.specs.Digits.{product, putDigit}
 use Rattle.network.specs.Sizes.{shapeOf, dimensions}
 use Rattle.network.specs.Packet.{fields, destinationField, withOffsets, packetWord}
 use Rattle.network.specs.TorusLaws.{sizes-nodes}
-use Rattle.network.specs.Calls.{offered}
-use Rattle.network.specs.OfferLaws.{offeredWay}
+use Rattle.network.specs.Calls.{offeredWay, offered}
 use Rattle.packet.specs.GeometryLaws.{sizes-way}
 use Rattle.packet.proofs.Numbers.{back, range-back}
 use Rattle.packet.proofs.FieldWords.{word-start, word-more, word-end}
