@@ -37,10 +37,15 @@ makeWords S w = unlessRefused (makeRefusal S w) (emptyNetwork S ++ drop (need S)
 
 -- Offer -------------------------------------------------------------------------------------------------------------------------------
 
--- R66 to R68: the offset in dimension i of a packet from node n; half-way round it goes by n's own coordinate there
-abbrev pub offeredWay : Shape → ℕ → ℕ → ℕ → ℤ
-offeredWay S n destination i = shorterWay (size S i) (stepsAhead (size S i) (coordinate S i n) (coordinate S i destination)) (coordinate S i n)
+-- R66 to R68, in each dimension i: the steps from node n to the destination, going plus; and the offset of an offer, by the shorter way, half-way round
+-- by n's own coordinate
+abbrev pub offeredSteps : Shape → ℕ → ℕ → ℕ → ℕ
+offeredSteps S n destination i = stepsAhead (size S i) (coordinate S i n) (coordinate S i destination)
 
+abbrev pub offeredWay : Shape → ℕ → ℕ → ℕ → ℤ
+offeredWay S n destination i = shorterWay (size S i) (offeredSteps S n destination i) (coordinate S i n)
+
+-- R60: the packet of an offer
 unfoldable pub offered : Shape → ℕ → ℕ → ℕ → ℕ
 offered S n destination tag = packetWord tag destination (offeredWay S n destination)
 

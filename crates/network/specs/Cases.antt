@@ -30,10 +30,10 @@ use Rattle.network.specs.Layout.{headerWords, shape, accepted, delivered
 use Rattle.network.specs.Check.{rightPlace, isQueueOf, reach, nearEnough, opposite, rightSign, lowerDone, packetFits, queueFits, queuesFit, hasRoom, ringHasRoom, ringsHaveRoom, packetsHeld, workLeft, countersFit, isNetwork}
 use Rattle.network.specs.Routes.{deliver, inOrder, without, incoming, incomingFirst, headings, routes, target, freeSlots, entersRing, slotsNeeded}
 use Rattle.network.specs.Refusals.{refuse, noRoute, noSlot, noBubble, networkRefusal, makeRefusal, offerRules, offerRefusal, head, flowRules, moveRules, moveRefusal}
-use Rattle.network.specs.Calls.{Progress, emptyNetwork, makeWords, offered, afterOffer, offerWords, headLeaves, packetArrives, afterMove, moveWords, moveAnswer, firstOutput, firstInQueue, orElse, search, firstInNode, firstMove, firstAnswer, stopped, oneMore, deliverNext, moveNext, drainFrom, drained, drainLedger, drainAnswer}
+use Rattle.network.specs.Calls.{Progress, emptyNetwork, makeWords, offeredSteps, offered, afterOffer, offerWords, headLeaves, packetArrives, afterMove, moveWords, moveAnswer, firstOutput, firstInQueue, orElse, search, firstInNode, firstMove, firstAnswer, stopped, oneMore, deliverNext, moveNext, drainFrom, drained, drainLedger, drainAnswer}
 use Rattle.network.specs.PacketLaws.{hops-hop-le, arrived-distance}
 use Rattle.network.specs.TorusLaws.{Torus, along-lt, inRange-torus, inRange-size, inRange-nodes}
-use Rattle.network.specs.OfferLaws.{ShortRings, offeredSteps, offset-nearer, offset-halfway}
+use Rattle.network.specs.OfferLaws.{ShortRings, offset-nearer, offset-halfway}
 use Rattle.network.specs.CheckLaws.{Network, halfway-fits, own-fits, network-of, has-room-held}
 use Rattle.network.specs.RoutesLaws.{Onward, route-of, arrived-route, free-slots-held}
 use Rattle.network.specs.RefusalLaws.{elseBy-zero, network-passes, own-node-exactly, no-node-first, permitted-by}

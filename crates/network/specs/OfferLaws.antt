@@ -1,28 +1,24 @@
 -- Laws of the packet of an offer (`offered` of Calls.antt), between nodes of a torus whose rings are no longer than the largest. Order: its fields; its
 -- direction; how far it has to go; that its offsets lead from its node to its destination, and have a hop left where the two differ. Assumes nothing.
-use mathlib.Core.Path.{_≡_, ap, ap₂, sym, _∙_}
+use mathlib.Core.Path.{_≡_, ap, sym, _∙_}
 use mathlib.Core.Bool.{cond}
 use mathlib.Core.Logic.{_≢_}
-use Prim.Native.Nat.{ℕ, _+_, _*_, _-_, _/_, _%_, _^_, _<_, _≤_}
+use Prim.Native.Nat.{ℕ, _*_, _-_, _/_, _%_, _^_, _<_, _≤_}
 use native.Mathlib.Omega.{arith}
 use lib.Dec.{ltb, eqb}
-use lib.IntN.{ℤ, pos, negsuc, natAbs}
+use lib.IntN.{pos, negsuc, natAbs}
 use Rattle.base.specs.Sums.{sum-most}
 use Rattle.network.specs.Sizes.{Shape, size, nodes, dimensions, largestRing}
-use Rattle.network.specs.Packet.{tag, destination, offset, distance, hopsLeft, work, stepsAhead, shorterWay}
+use Rattle.network.specs.Packet.{tag, destination, offset, distance, hopsLeft, work}
 use Rattle.network.specs.PacketLaws.{OffsetRange, tag-packet, destination-packet, offset-packet, landing, ahead-lt, shorterWay-nearer, shorterWay-halfway, shorterWay-range, shorterWay-half, shorterWay-reaches}
 use Rattle.network.specs.Torus.{coordinate, movedBy}
 use Rattle.network.specs.TorusLaws.{Torus, coordinate-lt, coordinates-eq, coordinate-landing, movedBy-lt, movedBy-here}
 use Rattle.network.specs.Check.{longest, mostWork}
-use Rattle.network.specs.Calls.{offeredWay, offered}
+use Rattle.network.specs.Calls.{offeredSteps, offeredWay, offered}
 
 -- no ring is longer than the largest
 abbrev pub ShortRings : Shape → Type 0
 ShortRings S = (i : ℕ) → i < dimensions → size S i ≤ largestRing
-
--- the steps from node n to node dest along dimension i, going plus
-abbrev pub offeredSteps : Shape → ℕ → ℕ → ℕ → ℕ
-offeredSteps S n dest i = stepsAhead (size S i) (coordinate S i n) (coordinate S i dest)
 
 steps-lt : (S : Shape) (n dest i : ℕ) → Torus S → i < dimensions → offeredSteps S n dest i < size S i
 steps-lt S n dest i t h = ahead-lt (size S i) (coordinate S i n) (coordinate S i dest) (coordinate-lt S i n t h)

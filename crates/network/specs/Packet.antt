@@ -101,9 +101,10 @@ abbrev pub stepsAhead : ℕ → ℕ → ℕ → ℕ
 stepsAhead size from to = (to + (size - from)) % size
 
 -- R67, R68: whether an offer goes those steps ahead, and not the rest of the round back: where that is the shorter way; and where both ways are
--- equal, from an even coordinate of the sending node
+-- equal, if the sending node's coordinate is even
 unfoldable pub goesPlus : ℕ → ℕ → ℕ → Bool
 goesPlus size ahead from = ltb (2 * ahead) size || (eqb (2 * ahead) size && eqb (from % 2) 0)
 
+-- so the offset: the steps ahead, or with a minus the rest of the round
 unfoldable pub shorterWay : ℕ → ℕ → ℕ → ℤ
 shorterWay size ahead from = cond (goesPlus size ahead from) (pos ahead) (negsuc (size - ahead - 1))

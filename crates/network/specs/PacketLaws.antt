@@ -463,7 +463,7 @@ offset-packet i t dest offs k h r = offset-withs offs dimensions i (putDigit fie
 
 -- The shorter way round ---------------------------------------------------------------------------------------------------------------
 
--- a coordinate's parity decides where both ways are equal, and one step more cannot where they are not
+-- an odd coordinate counts as one more: that decides where both ways are equal, and changes nothing where they are not
 goesPlus-is : (size ahead from : ℕ) → goesPlus size ahead from ≡ leb (2 * ahead + from % 2) size
 unfolding goesPlus
 goesPlus-is size ahead from = go (decLt (2 * ahead) size) (ℕ-discrete (2 * ahead) size) (ℕ-discrete (from % 2) 0)
@@ -488,7 +488,7 @@ unfolding shorterWay
 shorterWay-minus size ahead from h =
     passed-over (goesPlus size ahead from) (pos ahead) (negsuc (size - ahead - 1)) (goesPlus-is size ahead from ∙ lt-leb (2 * ahead + from % 2) size h)
 
--- where one way is shorter it is that one, whatever the coordinate; where both are equal the coordinate's parity decides
+-- where one way is shorter it is that one, from every coordinate; where both are equal the coordinate's parity decides
 pub shorterWay-nearer : (size ahead from : ℕ) → 2 * ahead ≢ size
     → shorterWay size ahead from ≡ cond (ltb (2 * ahead) size) (pos ahead) (negsuc (size - ahead - 1))
 unfolding shorterWay goesPlus
@@ -504,7 +504,7 @@ shorterWay-halfway size ahead from e =
     rw (le-ltb (2 * ahead) size (omega arith), eq-eqb (2 * ahead) size e)
     (ap (λ (m : ℕ). cond (eqb (from % 2) 0) (pos ahead) (negsuc m)) (let rest : size - ahead - 1 ≡ ahead - 1 = omega arith in rest))
 
--- one of the two it is
+-- what holds of both, each where it is no longer than the other, holds of the way that is taken
 shorterWay-by : (P : ℤ → Type 0) (size ahead from : ℕ) → (2 * ahead ≤ size → P (pos ahead)) → (size ≤ 2 * ahead → P (negsuc (size - ahead - 1)))
     → P (shorterWay size ahead from)
 shorterWay-by P size ahead from plus minus = go (decLe (2 * ahead + from % 2) size)
@@ -530,7 +530,7 @@ ahead-lt size from to h = mod-lt (to + (size - from)) (omega arith)
 abbrev pub landing : ℕ → ℕ → ℤ → ℕ
 landing size from z = (from + (forward z * 1 + backward z * (size - 1))) % size
 
--- the rest of the round back, and whole rounds
+-- going the rest of the round back
 back-is-ahead : (from size a : ℕ) → a < size → (from + suc (size - a - 1) * (size - 1)) % size ≡ (from + a) % size
 back-is-ahead from zero a h = absurd (native.Mathlib.Nat.not-suc-le-zero h)
 back-is-ahead from (suc k) a h = go (suc k - a - 1) refl

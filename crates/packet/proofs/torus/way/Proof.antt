@@ -1,12 +1,11 @@
 -- `packet::torus::way` meets its contract. Assumes nothing.
-use mathlib.Core.Path.{_≡_, ap, _∙_}
+use mathlib.Core.Path.{_≡_, _∙_}
 use Prim.Native.Nat.{ℕ, _<_, _≤_}
 use native.Mathlib.Omega.{arith}
 use borrow.Author.Needs.{needs}
-use Rattle.network.specs.Sizes.{shapeOf, largestRing}
+use Rattle.network.specs.Sizes.{largestRing}
 use Rattle.network.specs.Packet.{stepsAhead, shorterWay}
 use Rattle.network.specs.PacketLaws.{ahead-lt}
-use Rattle.network.specs.Calls.{offeredWay}
 use Rattle.packet.specs.GeometryLaws.{on-ring, sizes-way}
 use Rattle.packet.proofs.Numbers.{back}
 use Rattle.packet.proofs.torus.way.Statement.{statement}
