@@ -74,8 +74,8 @@ impl Torus {
     }
 
     /// The offsets that a packet gets at its offer: in each dimension the
-    /// shorter way round; where both ways are equal, plus if the sending node
-    /// stands at an even coordinate of that dimension and minus if at an odd one.
+    /// shorter way round. Between two of one length the sending node's
+    /// coordinate in that dimension decides, plus if even and minus if odd.
     pub fn offsets(&self, from: usize, to: usize) -> [i32; DIMENSIONS] {
         let (from, to) = (self.place(from), self.place(to));
         let mut offsets = [0; DIMENSIONS];

@@ -10,7 +10,7 @@ use lib.ListN.{length, take, drop}
 use Rattle.base.specs.Tests.{allOf}
 use Rattle.base.specs.Sums.{sumOf}
 use Rattle.network.specs.Sizes.{Shape, nodes, directions}
-use Rattle.network.specs.Packet.{label, destination}
+use Rattle.network.specs.Packet.{label, destination, hops}
 use Rattle.network.specs.Layout.{shape, need, total, delivered, movesMade}
 use Rattle.network.specs.Check.{packetsHeld, workLeft, ringHasRoom}
 use Rattle.network.specs.Routes.{deliver}
@@ -102,6 +102,13 @@ heldWith l S w = total S w (sumOf (isLabelled l))
 
 unfoldable pub handedWith : ℕ → List Delivery → ℕ
 handedWith l ds = sumOf (λ d. isLabelled l (d .packet)) ds
+
+-- R304: the hops left in direction d, of one packet if it has that label, and of all those held
+unfoldable pub hopsOf : ℕ → ℕ → ℕ → ℕ
+hopsOf l d p = cond (eqb (label p) l) (hops d p) 0
+
+unfoldable pub hopsWith : ℕ → ℕ → Shape → List ℕ → ℕ
+hopsWith l d S w = total S w (sumOf (hopsOf l d))
 
 -- R230, R231
 unfoldable pub atHome : Delivery → Bool

@@ -1,9 +1,9 @@
--- What a reader asks of demand 3. Order: First and an empty network; a Drain that may go on to the end; the arbiter's order of moves. Reached.antt has
--- that Make and accepted offers lead to networks. Assumes nothing.
+-- What a reader asks of demand 3. Order: First and an empty network; a Drain that may go on to the end; no packet turned round; the arbiter's order of
+-- moves. Reached.antt has that Make and accepted offers lead to networks. Assumes nothing.
 use mathlib.Core.Path.{_≡_, refl, ap, sym, _∙_}
 use mathlib.Core.Logic.{_↔_, _≢_}
 use mathlib.Core.List.{List, [], _∷_}
-use Prim.Native.Nat.{ℕ, _-_, _≤_}
+use Prim.Native.Nat.{ℕ, _-_, _<_, _≤_}
 use native.Mathlib.Decide.{ℕ-discrete}
 use native.Mathlib.Omega.{arith}
 use borrow.Author.Tests.{eq-eqb}
@@ -12,7 +12,7 @@ use Rattle.network.specs.declared.Found.{Found}
 use Rattle.network.specs.declared.Stop.{Stop}
 use Rattle.network.specs.declared.Drained.{Drained}
 use Rattle.base.specs.Sums.{sumOf, sumBelow, sum-zero}
-use Rattle.network.specs.Sizes.{Shape, nodes, queues}
+use Rattle.network.specs.Sizes.{Shape, nodes, queues, directions}
 use Rattle.network.specs.Layout.{shape, held, total}
 use Rattle.network.specs.LayoutLaws.{total-zero}
 use Rattle.network.specs.Check.{packetsHeld, workLeft}
@@ -21,12 +21,12 @@ use Rattle.network.specs.Refusals.{networkRefusal}
 use Rattle.network.specs.RefusalLaws.{network-passed, Permitted}
 use Rattle.network.specs.FirstLaws.{Finds, nothing, named, first-finds, first-nothing}
 use Rattle.network.specs.Calls.{Progress, firstMove, firstAnswer, drainFrom, drained, drainAnswer, drainedMoves}
-use Rattle.network.specs.Run.{Call, drain, Outcome, outcome, run, isLabelled, heldWith, handedWith, Demand3}
+use Rattle.network.specs.Run.{Call, drain, Outcome, outcome, run, isLabelled, heldWith, handedWith, hopsWith, Demand3}
 use Rattle.run.specs.Step.{Ran}
 use Rattle.run.specs.Alive.{Some, alive}
 use Rattle.run.specs.DrainMoves.{drain-ran}
 use Rattle.run.specs.Stops.{Why, nothing-held, budget-used, ledger-full, drain-why}
-use Rattle.run.specs.Theorem.{torus, no-work, no-packets, demand3}
+use Rattle.run.specs.Theorem.{torus, no-work, no-packets, run-made, demand3}
 
 -- a permitted move's queue holds something
 held-some : (S : Shape) (w : List ℕ) (n q o : ℕ) → Permitted S w n q o → packetsHeld S w ≢ 0
@@ -101,6 +101,11 @@ all-handed-out w budget ledger e b r l =
     let none = none-with (shape w) (run (drain budget ledger ∷ []) w .words) l empty in
     let all = after .none-lost-or-doubled l in
     omega arith
+
+-- R304: over every list of calls no packet is turned round: of no label are more hops left in any direction than before
+pub none-turned : (w : List ℕ) (calls : List Call) → networkRefusal w ≡ 0
+    → (l d : ℕ) → d < directions → hopsWith l d (shape w) (run calls w .words) ≤ hopsWith l d (shape w) w
+none-turned w calls e = run-made calls w (network-passed w e) .ran .none-turned
 
 -- whatever the arbiter picks: two runs that empty the same network make as many moves, and hand out as many packets of every label
 pub record SameInTheEnd (a b : Outcome) : Type 0 where

@@ -2,19 +2,19 @@
 -- the head leaving its queue; a delivery; a hop; a permitted move. Assumes nothing.
 use mathlib.Core.Path.{_≡_, refl, ap, sym, _∙_, fun-ext}
 use mathlib.Core.Logic.{_⊎_, inl, inr, _≢_}
-use mathlib.Core.Bool.{true, cond, _&&_}
+use mathlib.Core.Bool.{Bool, true, false, cond, _&&_}
 use mathlib.Core.List.{List, [], _∷_, _++_}
 use Prim.Native.Nat.{ℕ, suc, _+_, _*_, _<_, _≤_}
-use native.Mathlib.Nat.{zero-add, add-zero}
+use native.Mathlib.Nat.{zero-add, add-zero, le-refl, le-trans}
 use native.Mathlib.Omega.{arith}
 use borrow.Author.Tests.{eq-eqb, ne-eqb}
 use lib.Dec.{T, eqb}
 use lib.ListN.{length, drop, length-append}
 use Rattle.base.specs.Tests.{allOf, allOf-append, and-i}
 use Rattle.base.specs.Sums.{sumOf, sumOf-append, sumOf-one, sumOf-ones}
-use Rattle.network.specs.Sizes.{Shape, size, nodes, queues, directions, dimensionOf, directionOf, escapeQueue, capacity}
+use Rattle.network.specs.Sizes.{Shape, size, nodes, queues, dimensions, directions, dimensionOf, directionOf, escapeQueue, capacity}
 use Rattle.network.specs.Packet.{destination, distance, hops, heading, hop, label, hopsLeft, work}
-use Rattle.network.specs.PacketLaws.{arrived-label, label-hop, work-hop, hops-le, dimension-lt}
+use Rattle.network.specs.PacketLaws.{arrived-label, label-hop, hops-hop-le, work-hop, hops-le, dimension-lt}
 use Rattle.network.specs.Torus.{along, neighbour}
 use Rattle.network.specs.TorusLaws.{Torus, along-lt, neighbour-lt, neighbour-apart, movedBy-here}
 use Rattle.network.specs.Layout.{headerWords, shape, need, held, load, fill, putQueue, raised, total, accepted, delivered, movesMade, acceptedAt, deliveredAt, movesAt}
@@ -26,7 +26,7 @@ use Rattle.network.specs.RoutesLaws.{Onward, route-of}
 use Rattle.network.specs.Refusals.{head}
 use Rattle.network.specs.RefusalLaws.{Permitted, target-takes}
 use Rattle.network.specs.Calls.{Delivery, headLeaves, packetArrives, afterMove}
-use Rattle.network.specs.Run.{isLabelled, heldWith, handedWith, atHome}
+use Rattle.network.specs.Run.{isLabelled, heldWith, handedWith, hopsOf, hopsWith, atHome}
 use Rattle.run.specs.Queues.{same?, held-few, fill-few, AllFit, fit-put, fit-raised, length-rest, first-rest, allOf-rest, allOf-first, allOf-newest}
 use Rattle.run.specs.Rings.{Shifted, ring-kept, ring-of, ring-by, Room, RingRoom, escape-lt}
 use Rattle.run.specs.Hop.{Going, going, hopped-fits}
@@ -39,6 +39,7 @@ pub record Ran (S : Shape) (w v : List ℕ) (ds : List Delivery) (m : ℕ) : Typ
   pub labels : (l : ℕ) → handedWith l ds + heldWith l S v ≡ heldWith l S w
   pub packets : length ds + packetsHeld S v ≡ packetsHeld S w
   pub work-done : m + workLeft S v ≡ workLeft S w
+  pub none-turned : (l d : ℕ) → d < directions → hopsWith l d S v ≤ hopsWith l d S w
   pub moves : movesMade v ≡ movesMade w + m
   pub deliveries : delivered v ≡ delivered w + length ds
   pub same-length : length v ≡ length w
@@ -60,6 +61,7 @@ ran-none S w N =
       labels = λ l. zero-add (heldWith l S w);
       packets = zero-add (packetsHeld S w);
       work-done = zero-add (workLeft S w);
+      none-turned = λ l d h. le-refl (hopsWith l d S w);
       moves = sym (add-zero (movesMade w));
       deliveries = sym (add-zero (delivered w));
       same-length = refl;
@@ -90,6 +92,7 @@ ran-then S u w v ds es m k a b =
           let x : m + workLeft S w ≡ workLeft S u = a .work-done in
           let y : k + workLeft S v ≡ workLeft S w = b .work-done in
           omega arith;
+      none-turned = λ l d h. le-trans (b .none-turned l d h) (a .none-turned l d h);
       moves =
           let x : movesMade w ≡ movesMade u + m = a .moves in
           let y : movesMade v ≡ movesMade w + k = b .moves in
@@ -119,6 +122,15 @@ sum-head g ps ne = ap (sumOf g) (first-rest ps ne)
 label-same : (l p r : ℕ) → label p ≡ label r → isLabelled l p ≡ isLabelled l r
 unfolding isLabelled
 label-same l p r e = rw e
+
+-- a packet of any label has no more hops left in any direction after a hop
+hopsOf-hop : (l e i p : ℕ) → i < dimensions → e < directions → hopsOf l e (hop i p) ≤ hopsOf l e p
+unfolding hopsOf
+hopsOf-hop l e i p h k = rw (label-hop i p h) (go (eqb (label p) l))
+  where
+    go : (own : Bool) → cond own (hops e (hop i p)) 0 ≤ cond own (hops e p) 0
+    go true = hops-hop-le i e p h k
+    go false = le-refl 0
 
 -- one packet handed out where it belongs
 home-one : (n p : ℕ) → label p ≡ p → destination p ≡ n → T (allOf atHome (record { node = n; packet = p } ∷ []))
@@ -331,7 +343,7 @@ module _ (S : Shape) (w : List ℕ) (n q : ℕ) (tor : Torus S) (N : Network S w
         }
 
     handed-ran : Ran S w handed (record { node = n; packet = head (held S w n q) } ∷ []) 1
-    unfolding allOf atHome handedWith heldWith handed
+    unfolding allOf atHome handedWith heldWith hopsWith handed
     handed-ran =
         record {
           network = handed-network;
@@ -347,6 +359,7 @@ module _ (S : Shape) (w : List ℕ) (n q : ℕ) (tor : Torus S) (N : Network S w
               omega arith;
           packets = let a = handed-packets in omega arith;
           work-done = let a = handed-work in omega arith;
+          none-turned = λ l e h. let a = handed-sum (hopsOf l e) in omega arith;
           moves = handed-moves;
           deliveries = handed-delivered;
           same-length = handed-length;
@@ -592,7 +605,7 @@ module _ (S : Shape) (w : List ℕ) (n q : ℕ) (tor : Torus S) (N : Network S w
         }
 
     moved-ran : Ran S w moved [] 1
-    unfolding allOf handedWith sumOf heldWith moved gone packetArrives joined
+    unfolding allOf handedWith sumOf heldWith hopsWith moved gone packetArrives joined
     moved-ran =
         record {
           network = moved-network;
@@ -606,6 +619,12 @@ module _ (S : Shape) (w : List ℕ) (n q : ℕ) (tor : Torus S) (N : Network S w
               omega arith;
           packets = zero-add (packetsHeld S moved) ∙ moved-packets;
           work-done = let a = moved-work in omega arith;
+          none-turned =
+              λ l e h.
+              let a = moved-sum (hopsOf l e) in
+              let b : hopsOf l e hopped ≤ hopsOf l e (head (held S w n q)) =
+              rw hopped-is (hopsOf-hop l e (dimensionOf d) (head (held S w n q)) (dimension-lt d (g .direction)) h) in
+              omega arith;
           moves = moved-moves;
           deliveries = moved-delivered ∙ sym (add-zero (delivered w));
           same-length = moved-length;
