@@ -74,7 +74,7 @@ impl Torus {
     }
 
     /// The offsets that a packet gets at its offer: in each dimension the
-    /// shorter way round. Between two of one length the sending node's
+    /// shorter way round. Between two ways of the same length the sending node's
     /// coordinate in that dimension decides, plus if even and minus if odd.
     pub fn offsets(&self, from: usize, to: usize) -> [i32; DIMENSIONS] {
         let (from, to) = (self.place(from), self.place(to));

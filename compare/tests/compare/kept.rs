@@ -294,21 +294,28 @@ fn half_way(lab: &mut Lab) {
                 let refusal = if its_way { 0 } else { 10 };
                 assert_eq!(lab.try_out(&words, move_call(node, 0, output)), refusal);
             }
+            let (node_x, node_y) = (
+                end_node(&shape, node, dx.signum(), 0),
+                end_node(&shape, node, 0, dy.signum()),
+            );
             let end = end_node(&shape, node, dx, dy);
-            // A hop along y, in the same column, and then one along x.
-            let step = (dx.signum(), dy.signum());
+            let (dx_on, dy_on) = (dx - dx.signum(), dy - dy.signum());
+            // A hop along x leaves dy as it is.
+            let mut other = words.clone();
+            let call = move_call(node, 0, along_x);
+            assert_eq!(lab.call(&mut other, call).refusal, 0);
+            let at = shape.count_word(node_x, along_x as usize);
+            assert_eq!(other[at..at + 2], [1, packet_word(5, end, dx_on, dy)]);
+            // A hop along y leaves dx as it is, and then one along x.
             let call = move_call(node, 0, along_y);
             assert_eq!(lab.call(&mut words, call).refusal, 0);
-            let node = end_node(&shape, node, 0, step.1);
-            let at = shape.count_word(node, along_y as usize);
-            let word = packet_word(5, end, dx, dy - step.1);
-            assert_eq!(words[at..at + 2], [1, word]);
-            let call = move_call(node, along_y as usize, along_x);
+            let at = shape.count_word(node_y, along_y as usize);
+            assert_eq!(words[at..at + 2], [1, packet_word(5, end, dx, dy_on)]);
+            let call = move_call(node_y, along_y as usize, along_x);
             assert_eq!(lab.call(&mut words, call).refusal, 0);
-            let node = end_node(&shape, node, step.0, 0);
-            let at = shape.count_word(node, along_x as usize);
-            let word = packet_word(5, end, dx - step.0, dy - step.1);
-            assert_eq!(words[at..at + 2], [1, word]);
+            let there = end_node(&shape, node_y, dx.signum(), 0);
+            let at = shape.count_word(there, along_x as usize);
+            assert_eq!(words[at..at + 2], [1, packet_word(5, end, dx_on, dy_on)]);
         }
     }
 }

@@ -62,7 +62,7 @@ holding w n q ps = set (putQueue (shape w) w n q ps) acceptedAt (accepted w + le
 abbrev four-by-three : Shape
 four-by-three = shapeOf (sized 4 3 2 1 1)
 
--- K3: 6 by 2, where half-way round leads from an even column or row to an odd one
+-- K3: 6 by 2, where half-way round leads from an even column or row to an odd one, and back
 abbrev six-by-two : Shape
 six-by-two = shapeOf (sized 6 2 2 1 1)
 
@@ -198,7 +198,7 @@ pub record KeptCases : Type 0 where
       × (held six-by-two (offerWords (empty 6 2 2 1 1) 1 10 7) 1 0 ≡ 30065491201 ∷ [])
       × (offered six-by-two 6 3 7 ≡ 30064968703)
       × (held six-by-two (offerWords (empty 6 2 2 1 1) 6 3 7) 6 0 ≡ 30064968703 ∷ [])
-  -- any network and dimension: where one way is shorter the offset is that way, from every coordinate; where both are equal it is plus from an even
+  -- any sizes in range, and each dimension: where one way is shorter the offset is that way, from every coordinate; where both are equal it is plus from an even
   -- coordinate of the sending node and minus from an odd one; and no ring of an odd size has two equal ways
   pub k3-every : (w : List ℕ) (n destination tag i : ℕ) → Between w n destination i
       → (2 * stepsTo w n destination i < allRound w i → offeredOffset w n destination tag i ≡ pos (stepsTo w n destination i))
@@ -207,12 +207,14 @@ pub record KeptCases : Type 0 where
       → offeredOffset w n destination tag i ≡ cond (eqb (coordinate (shape w) i n % 2) 0) (pos (allRound w i / 2)) (negsuc (allRound w i / 2 - 1)))
       × (allRound w i % 2 ≢ 0 → 2 * stepsTo w n destination i ≢ allRound w i)
   -- R304, packets held half-way round against the parity of their column and row: they pass the check, their moves are those of their signs and
-  -- all others are refused by 10; after a hop along y, in the same column, dx is as it was, and so it is after the next, along x, but for that hop
+  -- all others are refused by 10; a hop along y, in the same column, leaves dx as it was, and one along x, in the same row, dy; the next hop is along x
   pub k3-held : (networkRefusal against-parity ≡ 0)
       × (map (λ o. moveRefusal against-parity 5 0 o) (inOrder 0 queues) ≡ 10 ∷ 0 ∷ 10 ∷ 0 ∷ 10 ∷ 0 ∷ 10 ∷ 10 ∷ 10 ∷ [])
       × (map (λ o. moveRefusal against-parity 0 0 o) (inOrder 0 queues) ≡ 10 ∷ 10 ∷ 0 ∷ 10 ∷ 0 ∷ 10 ∷ 0 ∷ 10 ∷ 10 ∷ [])
       × (held four-by-two (moveWords against-parity 5 0 3) 1 3 ≡ packet 3 (pos 2) (pos 0) ∷ [])
       × (held four-by-two (moveWords against-parity 0 0 4) 4 4 ≡ packet 6 (negsuc 1) (pos 0) ∷ [])
+      × (held four-by-two (moveWords against-parity 5 0 1) 6 1 ≡ packet 3 (pos 1) (pos 1) ∷ [])
+      × (held four-by-two (moveWords against-parity 0 0 2) 3 2 ≡ packet 6 (negsuc 0) (negsuc 0) ∷ [])
       × (held four-by-two (moveWords (moveWords against-parity 5 0 3) 1 3 1) 2 1 ≡ packet 3 (pos 1) (pos 0) ∷ [])
       × (held four-by-two (moveWords (moveWords against-parity 0 0 4) 4 4 2) 7 2 ≡ packet 6 (negsuc 0) (pos 0) ∷ [])
   -- any packet: no hop adds hops left in any direction
@@ -589,7 +591,7 @@ keptCases =
             none-shorter w n destination tag i b,
             λ odd e. odd (omega arith),
           );
-      k3-held = (refl, outputs against-parity 5 _ refl refl, outputs against-parity 0 _ refl refl, refl, refl, refl, refl);
+      k3-held = (refl, outputs against-parity 5 _ refl refl, outputs against-parity 0 _ refl refl, refl, refl, refl, refl, refl, refl);
       k3-held-every = hops-hop-le;
       k3-fits-every = λ w n q i h p r hn hi e. halfway-fits (shape w) n q i h p (inRange-torus (shape w) r refl) hn hi e (inRange-size (shape w) i r);
       k4 = (refl, refl);

@@ -463,7 +463,7 @@ offset-packet i t dest offs k h r = offset-withs offs dimensions i (putDigit fie
 
 -- The shorter way round ---------------------------------------------------------------------------------------------------------------
 
--- an odd coordinate counts as one more: that decides where both ways are equal, and changes nothing where they are not
+-- as the code tests it: the parity, added to twice the steps, decides between equal ways, and is too little to change any other
 goesPlus-is : (size ahead from : ℕ) → goesPlus size ahead from ≡ leb (2 * ahead + from % 2) size
 unfolding goesPlus
 goesPlus-is size ahead from = go (decLt (2 * ahead) size) (ℕ-discrete (2 * ahead) size) (ℕ-discrete (from % 2) 0)

@@ -146,8 +146,8 @@ pub fn hop(i: u64, p: u64) -> u64
 
 // The shorter way round -----------------------------------------------------------------------------------------------------
 
-// So many steps ahead, or the rest of the round back, whichever is shorter. Where they are equal the sending node's
-// coordinate decides: an odd one counts as one more, which changes nothing where they are not.
+// So many steps ahead, or the rest of the round back, whichever is shorter. The parity of the sending node's coordinate
+// is added to twice the steps: that decides between equal ways, and is too little to change any other.
 pub fn shorter_way(size: u64, ahead: u64, from: u64) -> i64
     requires { ⌜ (ahead < size) × (size ≤ largestRing) ⌝ }
     ensures { λ r. ⌜ r ≡ shorterWay size ahead from ⌝ }

@@ -1,5 +1,5 @@
--- What a reader asks of demand 3. Order: First and an empty network; a Drain that may go on to the end; no packet turned round; the arbiter's order of
--- moves. Reached.antt has that Make and accepted offers lead to networks. Assumes nothing.
+-- What a reader asks of demand 3. Order: First and an empty network; a Drain that may go on to the end; the hops left by direction; the arbiter's order
+-- of moves. Reached.antt has that Make and accepted offers lead to networks. Assumes nothing.
 use mathlib.Core.Path.{_≡_, refl, ap, sym, _∙_}
 use mathlib.Core.Logic.{_↔_, _≢_}
 use mathlib.Core.List.{List, [], _∷_}
@@ -102,10 +102,11 @@ all-handed-out w budget ledger e b r l =
     let all = after .none-lost-or-doubled l in
     omega arith
 
--- R304: over every list of calls no packet is turned round: of no label are more hops left in any direction than before
-pub none-turned : (w : List ℕ) (calls : List Call) → networkRefusal w ≡ 0
+-- R304: over every run the packets of a label have together no more hops left in any direction than before; so where a label is one packet's own,
+-- that packet is not turned round. Of a single hop of any packet `hops-hop-le` says it (PacketLaws.antt)
+pub no-more-hops : (w : List ℕ) (calls : List Call) → networkRefusal w ≡ 0
     → (l d : ℕ) → d < directions → hopsWith l d (shape w) (run calls w .words) ≤ hopsWith l d (shape w) w
-none-turned w calls e = run-made calls w (network-passed w e) .ran .none-turned
+no-more-hops w calls e = run-made calls w (network-passed w e) .ran .no-more-hops
 
 -- whatever the arbiter picks: two runs that empty the same network make as many moves, and hand out as many packets of every label
 pub record SameInTheEnd (a b : Outcome) : Type 0 where

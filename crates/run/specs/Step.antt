@@ -39,7 +39,7 @@ pub record Ran (S : Shape) (w v : List ℕ) (ds : List Delivery) (m : ℕ) : Typ
   pub labels : (l : ℕ) → handedWith l ds + heldWith l S v ≡ heldWith l S w
   pub packets : length ds + packetsHeld S v ≡ packetsHeld S w
   pub work-done : m + workLeft S v ≡ workLeft S w
-  pub none-turned : (l d : ℕ) → d < directions → hopsWith l d S v ≤ hopsWith l d S w
+  pub no-more-hops : (l d : ℕ) → d < directions → hopsWith l d S v ≤ hopsWith l d S w
   pub moves : movesMade v ≡ movesMade w + m
   pub deliveries : delivered v ≡ delivered w + length ds
   pub same-length : length v ≡ length w
@@ -61,7 +61,7 @@ ran-none S w N =
       labels = λ l. zero-add (heldWith l S w);
       packets = zero-add (packetsHeld S w);
       work-done = zero-add (workLeft S w);
-      none-turned = λ l d h. le-refl (hopsWith l d S w);
+      no-more-hops = λ l d h. le-refl (hopsWith l d S w);
       moves = sym (add-zero (movesMade w));
       deliveries = sym (add-zero (delivered w));
       same-length = refl;
@@ -92,7 +92,7 @@ ran-then S u w v ds es m k a b =
           let x : m + workLeft S w ≡ workLeft S u = a .work-done in
           let y : k + workLeft S v ≡ workLeft S w = b .work-done in
           omega arith;
-      none-turned = λ l d h. le-trans (b .none-turned l d h) (a .none-turned l d h);
+      no-more-hops = λ l d h. le-trans (b .no-more-hops l d h) (a .no-more-hops l d h);
       moves =
           let x : movesMade w ≡ movesMade u + m = a .moves in
           let y : movesMade v ≡ movesMade w + k = b .moves in
@@ -359,7 +359,7 @@ module _ (S : Shape) (w : List ℕ) (n q : ℕ) (tor : Torus S) (N : Network S w
               omega arith;
           packets = let a = handed-packets in omega arith;
           work-done = let a = handed-work in omega arith;
-          none-turned = λ l e h. let a = handed-sum (hopsOf l e) in omega arith;
+          no-more-hops = λ l e h. let a = handed-sum (hopsOf l e) in omega arith;
           moves = handed-moves;
           deliveries = handed-delivered;
           same-length = handed-length;
@@ -619,7 +619,7 @@ module _ (S : Shape) (w : List ℕ) (n q : ℕ) (tor : Torus S) (N : Network S w
               omega arith;
           packets = zero-add (packetsHeld S moved) ∙ moved-packets;
           work-done = let a = moved-work in omega arith;
-          none-turned =
+          no-more-hops =
               λ l e h.
               let a = moved-sum (hopsOf l e) in
               let b : hopsOf l e hopped ≤ hopsOf l e (head (held S w n q)) =

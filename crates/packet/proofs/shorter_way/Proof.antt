@@ -16,13 +16,13 @@ sub-result-2 c = let a = c .before .args in small-negation-fits (a .size - a .ah
 returns : tie.Need-returns
 returns c =
     let a = c .before .args in
-    toZ-pos w64 {n = a .ahead} (omega arith) ∙ sym (shorterWay-plus (a .size) (a .ahead) (a .from) (c .if1 .taken))
+    toZ-pos w64 {n = a .ahead} (omega arith) ∙ sym (shorterWay-plus (a .size) (a .ahead) (a .from) (let t = c .if1 .taken in omega arith))
 
 returns-2 : tie.Need-returns-2
 returns-2 c =
     let a = c .before .args in
     let m = a .size - a .ahead in
-    small-negation m (m - 1) (omega arith) (omega arith) ∙ sym (shorterWay-minus (a .size) (a .ahead) (a .from) (c .if1 .left))
+    small-negation m (m - 1) (omega arith) (omega arith) ∙ sym (shorterWay-minus (a .size) (a .ahead) (a .from) (let t = c .if1 .left in omega arith))
 
 pub shorter-way-spec : {M : Type 1} → statement M
 shorter-way-spec =
