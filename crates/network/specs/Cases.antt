@@ -129,22 +129,12 @@ alone = holding (empty 1 1 2 1 1) 0 injectionQueue (here 0 ∷ [])
 abbrev in-every-queue : List ℕ
 in-every-queue = inEach (empty 2 2 2 1 1) (here 0) (inOrder 0 queues)
 
--- in any words of sizes in range: two nodes and a dimension; the steps from the one to the other along it, going plus, and all steps round
+-- two nodes and a dimension of any sizes in range
 pub record Between (w : List ℕ) (n destination i : ℕ) : Type 0 where
   pub in-range : T (sizesInRange (shape w))
   pub from : n < nodes (shape w)
   pub to : destination < nodes (shape w)
   pub dimension : i < dimensions
-
-abbrev stepsTo : List ℕ → ℕ → ℕ → ℕ → ℕ
-stepsTo w n destination i = offeredSteps (shape w) n destination i
-
-abbrev allRound : List ℕ → ℕ → ℕ
-allRound w i = size (shape w) i
-
--- the offset of an offer from the one to the other
-abbrev offeredOffset : List ℕ → ℕ → ℕ → ℕ → ℕ → ℤ
-offeredOffset w n destination tag i = offset i (offered (shape w) n destination tag)
 
 -- in any words: the head of queue q of node n, and that it is there to be moved
 abbrev headOf : List ℕ → ℕ → ℕ → ℕ
@@ -198,14 +188,17 @@ pub record KeptCases : Type 0 where
       × (held six-by-two (offerWords (empty 6 2 2 1 1) 1 10 7) 1 0 ≡ 30065491201 ∷ [])
       × (offered six-by-two 6 3 7 ≡ 30064968703)
       × (held six-by-two (offerWords (empty 6 2 2 1 1) 6 3 7) 6 0 ≡ 30064968703 ∷ [])
-  -- any sizes in range, and each dimension: where one way is shorter the offset is that way, from every coordinate; where both are equal it is plus from an even
-  -- coordinate of the sending node and minus from an odd one; and no ring of an odd size has two equal ways
+  -- any sizes in range, and each dimension: where one way is shorter the offset is that way, from every coordinate; where both are equal it is plus
+  -- from an even coordinate of the sending node and minus from an odd one; and no ring of an odd size has two equal ways
   pub k3-every : (w : List ℕ) (n destination tag i : ℕ) → Between w n destination i
-      → (2 * stepsTo w n destination i < allRound w i → offeredOffset w n destination tag i ≡ pos (stepsTo w n destination i))
-      × (allRound w i < 2 * stepsTo w n destination i → offeredOffset w n destination tag i ≡ negsuc (allRound w i - stepsTo w n destination i - 1))
-      × (2 * stepsTo w n destination i ≡ allRound w i
-      → offeredOffset w n destination tag i ≡ cond (eqb (coordinate (shape w) i n % 2) 0) (pos (allRound w i / 2)) (negsuc (allRound w i / 2 - 1)))
-      × (allRound w i % 2 ≢ 0 → 2 * stepsTo w n destination i ≢ allRound w i)
+      → (2 * offeredSteps (shape w) n destination i ≢ size (shape w) i
+      → offset i (offered (shape w) n destination tag)
+      ≡ cond (ltb (2 * offeredSteps (shape w) n destination i) (size (shape w) i)) (pos (offeredSteps (shape w) n destination i))
+      (negsuc (size (shape w) i - offeredSteps (shape w) n destination i - 1)))
+      × (2 * offeredSteps (shape w) n destination i ≡ size (shape w) i
+      → offset i (offered (shape w) n destination tag)
+      ≡ cond (eqb (coordinate (shape w) i n % 2) 0) (pos (size (shape w) i / 2)) (negsuc (size (shape w) i / 2 - 1)))
+      × (size (shape w) i % 2 ≢ 0 → 2 * offeredSteps (shape w) n destination i ≢ size (shape w) i)
   -- R304, packets held half-way round against the parity of their column and row: they pass the check, their moves are those of their signs and
   -- all others are refused by 10; a hop along y, in the same column, leaves dx as it was, and one along x, in the same row, dy; the next hop is along x
   pub k3-held : (networkRefusal against-parity ≡ 0)
@@ -325,32 +318,18 @@ outputs : (w : List ℕ) (n : ℕ) (refusals : List ℕ) → networkRefusal w �
     → map (λ o. moveRefusal w n injectionQueue o) (inOrder 0 queues) ≡ refusals
 outputs w n refusals e r = all-by-rules w n (λ o. injectionQueue) (λ o. o) (inOrder 0 queues) e ∙ r
 
-module _ (w : List ℕ) (n destination tag i : ℕ) (b : Between w n destination i) where
+-- K3: what sizes in range give
+module _ (w : List ℕ) (r : T (sizesInRange (shape w))) where
   tor : Torus (shape w)
   unfolding shape
-  tor = inRange-torus (shape w) (b .in-range) refl
+  tor = inRange-torus (shape w) r refl
 
   fits : nodes (shape w) ≤ 2 ^ 16
   unfolding shape
-  fits = le-trans (inRange-nodes (shape w) (b .in-range) refl) (omega arith)
+  fits = le-trans (inRange-nodes (shape w) r refl) (omega arith)
 
   short : ShortRings (shape w)
-  short j k = inRange-size (shape w) j (b .in-range)
-
-  one-shorter : 2 * stepsTo w n destination i ≢ allRound w i
-      → offeredOffset w n destination tag i
-      ≡ cond (ltb (2 * stepsTo w n destination i) (allRound w i)) (pos (stepsTo w n destination i)) (negsuc (allRound w i - stepsTo w n destination i - 1))
-  one-shorter = offset-nearer (shape w) n destination tag tor (b .from) (b .to) fits short i (b .dimension)
-
-  plus-shorter : 2 * stepsTo w n destination i < allRound w i → offeredOffset w n destination tag i ≡ pos (stepsTo w n destination i)
-  plus-shorter l = one-shorter (λ e. omega arith) ∙ rw (lt-ltb (2 * stepsTo w n destination i) (allRound w i) l)
-
-  minus-shorter : allRound w i < 2 * stepsTo w n destination i → offeredOffset w n destination tag i ≡ negsuc (allRound w i - stepsTo w n destination i - 1)
-  minus-shorter l = one-shorter (λ e. omega arith) ∙ rw (le-ltb (2 * stepsTo w n destination i) (allRound w i) (omega arith))
-
-  none-shorter : 2 * stepsTo w n destination i ≡ allRound w i
-      → offeredOffset w n destination tag i ≡ cond (eqb (coordinate (shape w) i n % 2) 0) (pos (allRound w i / 2)) (negsuc (allRound w i / 2 - 1))
-  none-shorter = offset-halfway (shape w) n destination tag tor (b .from) (b .to) fits short i (b .dimension)
+  short i h = inRange-size (shape w) i r
 
 -- where a packet stands, Move's first four tests of its own do not apply
 past-holds : (w : List ℕ) (n q o : ℕ) → Standing w n q → o < queues
@@ -586,14 +565,13 @@ keptCases =
       k3-parities-differ = (refl, refl, refl, refl);
       k3-every =
           λ w n destination tag i b. (
-            plus-shorter w n destination tag i b,
-            minus-shorter w n destination tag i b,
-            none-shorter w n destination tag i b,
+            offset-nearer (shape w) n destination tag (tor w (b .in-range)) (b .from) (b .to) (fits w (b .in-range)) (short w (b .in-range)) i (b .dimension),
+            offset-halfway (shape w) n destination tag (tor w (b .in-range)) (b .from) (b .to) (fits w (b .in-range)) (short w (b .in-range)) i (b .dimension),
             λ odd e. odd (omega arith),
           );
       k3-held = (refl, outputs against-parity 5 _ refl refl, outputs against-parity 0 _ refl refl, refl, refl, refl, refl, refl, refl);
       k3-held-every = hops-hop-le;
-      k3-fits-every = λ w n q i h p r hn hi e. halfway-fits (shape w) n q i h p (inRange-torus (shape w) r refl) hn hi e (inRange-size (shape w) i r);
+      k3-fits-every = λ w n q i h p r hn hi e. halfway-fits (shape w) n q i h p (tor w r) hn hi e (short w r i hi);
       k4 = (refl, refl);
       k5-sources = (refl, refl, refl, refl);
       k5 = (entries 0 1 _ refl refl, entries 1 1 _ refl refl, entries 2 1 _ refl refl, entries 3 1 _ refl refl);
@@ -627,7 +605,7 @@ keptCases =
             delivered-here w n q s z,
             λ o h ne. no-route w n q o s h (not-onward q (headOf w n q) o (λ i l. arrived-distance i (headOf w n q) l z) ne),
           );
-      k12-fits-every = λ w n q p r h z e. own-fits (shape w) n q p (inRange-torus (shape w) r refl) h z e;
+      k12-fits-every = λ w n q p r h z e. own-fits (shape w) n q p (tor w r) h z e;
     }
   where
     -- whatever budget is left after it

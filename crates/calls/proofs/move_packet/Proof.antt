@@ -3,6 +3,7 @@ use borrow.Author.Needs.{needs}
 use mathlib.Core.Path.{_≡_, sym, _∙_, subst}
 use mathlib.Core.List.{List}
 use Prim.Native.Nat.{ℕ}
+use native.Mathlib.Omega.{arith}
 use denote.Ref.{now}
 use Rattle.network.specs.Sizes.{shapeOf}
 use Rattle.network.specs.declared.Moved.{Moved}
@@ -30,7 +31,7 @@ returns c =
     let a = o .before .before .before .before .before .args in
     let k = is-open (o .before .before .«open» .ensures) (o .opened2 .given .1) in
     let x = move-refused (now (a .words)) (a .node) (a .queue) (a .output) (t .result)
-    (move-rules (shapeOf (o .opened2 .given .0 .0)) (now (a .words)) (a .node) (a .queue) (a .output) (k .passed) (k .sizes) ∙ sym (t .ensures)) (c .if1 .taken) in
+    (move-rules (shapeOf (o .opened2 .given .0 .0)) (now (a .words)) (a .node) (a .queue) (a .output) (k .passed) (k .sizes) ∙ sym (t .ensures)) (λ z. c .if1 .taken (omega (arith, z))) in
     (x .says, (x .leaves, told _ _ _ _ _ (x .says)))
 
 make-move-requires : tie.Need-make-move-requires
@@ -39,7 +40,7 @@ make-move-requires c κs =
     let o = c .before .before .before .before .before in
     let a = o .before .before .before .before .before .args in
     let k = is-open (o .before .before .«open» .ensures) (o .opened2 .given .1) in
-    (k .network, permitted-of (shapeOf (o .opened2 .given .0 .0)) (now (a .words)) (a .node) (a .queue) (a .output) (sym (t .ensures) ∙ c .before .if1 .left))
+    (k .network, permitted-of (shapeOf (o .opened2 .given .0 .0)) (now (a .words)) (a .node) (a .queue) (a .output) (let e = t .ensures in let l = c .before .if1 .left in omega arith))
 
 returns-2 : tie.Need-returns-2
 returns-2 c =
