@@ -7,6 +7,8 @@
 mod drains;
 #[path = "compare/kept.rs"]
 mod kept;
+#[path = "compare/routes.rs"]
+mod routes;
 
 use compare::bench::Call;
 use compare::damage::{one_word, FAULTS};
@@ -23,8 +25,9 @@ fn main() {
     let start = Instant::now();
     let mut lab = Lab::new();
     println!("compared: {}", lab.names().join("; "));
-    let parts: [Part; 11] = [
+    let parts: [Part; 12] = [
         ("kept cases and listing", kept::all),
+        ("the table of routes", routes::every_case),
         ("stores of 0 to 7 words", tiny_stores),
         ("stores too short and too long", short_and_long),
         ("every number on small networks", every_number),

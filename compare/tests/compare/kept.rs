@@ -31,7 +31,7 @@ pub fn all(lab: &mut Lab) {
     }
 }
 
-fn make(lab: &mut Lab, shape: Shape) -> Vec<u64> {
+pub fn make(lab: &mut Lab, shape: Shape) -> Vec<u64> {
     let mut words = vec![u64::MAX; shape.need()];
     let sizes = shape.sizes();
     assert_eq!(lab.call(&mut words, Call::Make { sizes }).refusal, 0);
@@ -44,7 +44,7 @@ fn make(lab: &mut Lab, shape: Shape) -> Vec<u64> {
 }
 
 /// Puts a packet at the end of a queue and counts it as accepted.
-fn put(shape: &Shape, words: &mut [u64], node: u64, queue: usize, dx: i64, dy: i64) {
+pub fn put(shape: &Shape, words: &mut [u64], node: u64, queue: usize, dx: i64, dy: i64) {
     let at = shape.count_word(node, queue);
     words[at] += 1;
     let slot = at + words[at] as usize;
@@ -52,7 +52,7 @@ fn put(shape: &Shape, words: &mut [u64], node: u64, queue: usize, dx: i64, dy: i
     words[5] += 1;
 }
 
-fn move_call(node: u64, queue: usize, output: u64) -> Call {
+pub fn move_call(node: u64, queue: usize, output: u64) -> Call {
     Call::Move {
         node,
         queue: queue as u64,

@@ -1,11 +1,12 @@
 -- Tests over ranges and lists, as Booleans that compute, and the laws that turn a test into a fact and back.
 -- Order: below n; for some below n; of every element; of a list's members. Assumes nothing.
-use mathlib.Core.Path.{_≡_, refl}
+use mathlib.Core.Path.{_≡_, refl, subst}
 use mathlib.Core.Bool.{Bool, true, false, not, _&&_, _||_}
 use mathlib.Core.List.{List, [], _∷_, _++_}
 use mathlib.Core.Logic.{_⊎_, inl, inr, _≢_}
-use Prim.Native.Nat.{ℕ, zero, suc, _+_, _<_}
-use native.Mathlib.Nat.{eq-or-lt-of-le, le-of-suc-le-suc, not-suc-le-zero, le-step, lt-suc-self}
+use Prim.Native.Nat.{ℕ, zero, suc, _+_, _-_, _<_, _≤_}
+use native.Mathlib.Nat.{eq-or-lt-of-le, le-of-suc-le-suc, not-suc-le-zero, le-step, lt-suc-self, add-sub-of-le}
+use native.Mathlib.Omega.{arith}
 use lib.Dec.{T, eqb}
 
 -- both tests pass
@@ -69,6 +70,24 @@ pub all-by : (n : ℕ) (f : ℕ → Bool) → ((i : ℕ) → i < n → T (f i)) 
 unfolding allBelow
 all-by zero f h = tt
 all-by (suc n) f h = and-i (allBelow n f) (f n) (all-by n f (λ i h′. h i (le-step h′))) (h n (lt-suc-self n))
+
+-- what holds of every number below n, as a tuple of what holds of each: ((tt, of 0), of 1) and so on
+unfoldable pub EachBelow : (ℕ → Type 0) → ℕ → Type 0
+EachBelow P zero = Unit
+EachBelow P (suc n) = EachBelow P n × P n
+
+pub each-at : (P : ℕ → Type 0) (n : ℕ) → EachBelow P n → (i : ℕ) → i < n → P i
+unfolding EachBelow
+each-at P zero k i h = absurd (not-suc-le-zero h)
+each-at P (suc n) (ks, k) i h = go (eq-or-lt-of-le (le-of-suc-le-suc h)) (λ h′. each-at P n ks i h′)
+  where
+    go : (i ≡ n) ⊎ (i < n) → (i < n → P i) → P i
+    go (inl e) r = rw e k
+    go (inr h′) r = r h′
+
+-- the same of n numbers from m on
+pub each-from : (P : ℕ → Type 0) (m n : ℕ) → EachBelow (λ (k : ℕ). P (m + k)) n → (i : ℕ) → m ≤ i → i < m + n → P i
+each-from P m n ks i l h = subst P (add-sub-of-le l) (each-at (λ (k : ℕ). P (m + k)) n ks (i - m) (omega arith))
 
 -- the test passes at some number below n
 unfoldable pub someBelow : ℕ → (ℕ → Bool) → Bool

@@ -2,19 +2,18 @@
 -- Order: numbers searched in order; the routes of a head; a queue as the code reads it; the invariants of the three loops; a network
 -- that holds nothing. Assumes nothing.
 use mathlib.Core.Path.{_≡_, refl, ap, sym, _∙_, subst}
-use mathlib.Core.Bool.{Bool, false, cond}
+use mathlib.Core.Bool.{Bool, true, false, cond}
 use mathlib.Core.List.{List, [], _∷_}
 use mathlib.Core.Logic.{_⊎_, inl, inr, _≢_}
-use Prim.Native.Nat.{ℕ, zero, suc, _+_, _*_, _-_, _<_, _≤_}
-use native.Mathlib.Nat.{suc-mul, zero-mul, not-suc-le-zero, le-of-suc-le-suc, pos-of-ne-zero}
+use Prim.Native.Nat.{ℕ, suc, _+_, _*_, _-_, _<_, _≤_}
+use native.Mathlib.Nat.{suc-mul, zero-mul, pos-of-ne-zero}
 use native.Mathlib.Numerals.{add-one}
 use native.Mathlib.Omega.{arith}
 use borrow.Author.Tests.{eq-eqb, ne-eqb}
-use lib.Dec.{T, eqb, eqb-refl}
+use lib.Dec.{T, eqb}
 use lib.ListN.{length, getD, drop}
-use lib.Seq.{drop-cons, drop-length}
 use Rattle.base.specs.Sums.{sumBelow}
-use Rattle.base.specs.Tests.{elem, or-l, or-r}
+use Rattle.base.specs.Tests.{elem}
 use Rattle.network.specs.declared.Found.{Found}
 use Rattle.network.specs.Sizes.{Shape, shapeOf, nodes, queues, adaptiveQueue, escapeQueue, capacity, directions}
 use Rattle.network.specs.Layout.{nodeWords, queueStart, queueEnd, queueLength, held, total, accepted, delivered}
@@ -31,9 +30,8 @@ use Rattle.network.specs.Calls.{firstOutput, firstInQueue, orElse, search, firs
 use Rattle.network.specs.FirstLaws.{Finds, nothing, named, first-finds}
 use Rattle.network.specs.declared.Sizes.{Sizes}
 use Rattle.queue.specs.QueueLaws.{checked-fits}
-use Rattle.routes.specs.declared.HeadRoutes.{HeadRoutes}
-use Rattle.routes.specs.AreRoutes.{AreRoutes}
-use Rattle.routes.specs.AreRoutesLaws.{routes-count, route-at}
+use Rattle.routes.specs.Lines.{lines, applies, outputsFrom, AreRoutes}
+use Rattle.routes.specs.LinesLaws.{line-taken, line-passed, lines-end, line-member}
 use Rattle.flow.specs.QueueOf.{QueueOf}
 use Rattle.flow.specs.HeldWords.{queue-checked, count-at, head-at}
 
@@ -73,12 +71,6 @@ route-lt q p o t = go (route-of q p o t)
     go (inl e) = let f = e .0 in omega arith
     go (inr r) = by r (heading-lt (r .dimension) p (r .below)) (r .by)
 
-elem-getD : (os : List ℕ) (k : ℕ) → k < length os → T (elem (getD os k 0) os)
-unfolding elem
-elem-getD [] k h = absurd (not-suc-le-zero h)
-elem-getD (o ∷ os) zero h = or-l (eqb o o) (elem o os) (eqb-refl o)
-elem-getD (o ∷ os) (suc k) h = or-r (eqb (getD os k 0) o) (elem (getD os k 0) os) (elem-getD os k (le-of-suc-le-suc h))
-
 module _ (S : Shape) (w : List ℕ) (n q : ℕ) where
   -- an empty queue has no permitted move
   none-of : (os : List ℕ) → length (held S w n q) ≡ 0 → firstOutput S w n q os ≡ Found.Nothing
@@ -92,26 +84,17 @@ module _ (S : Shape) (w : List ℕ) (n q : ℕ) where
   unfolding firstInQueue
   empty e = none-of (routes q (head (held S w n q))) e
 
-  output-step : (os : List ℕ) (k : ℕ) → k < length os
-      → firstOutput S w n q (drop k os) ≡ cond (eqb (moveRules S w n q (getD os k 0)) 0) (Found.Move n q (getD os k 0)) (firstOutput S w n q (drop (k + 1) os))
+  output-on : (o : ℕ) (os : List ℕ) → moveRules S w n q o ≢ 0 → firstOutput S w n q (o ∷ os) ≡ firstOutput S w n q os
   unfolding firstOutput
-  output-step os k h =
-      ap (firstOutput S w n q) (drop-cons os k 0 h)
-      ∙ ap (λ (j : ℕ). cond (eqb (moveRules S w n q (getD os k 0)) 0) (Found.Move n q (getD os k 0)) (firstOutput S w n q (drop j os))) (sym (add-one k))
+  output-on o os ne = ap (λ b. cond b (Found.Move n q o) (firstOutput S w n q os)) (ne-eqb (moveRules S w n q o) 0 ne)
 
-  output-on : (os : List ℕ) (k : ℕ) → k < length os → moveRules S w n q (getD os k 0) ≢ 0 → firstOutput S w n q (drop (k + 1) os) ≡ firstOutput S w n q (drop k os)
-  output-on os k h ne =
-      sym (output-step os k h
-      ∙ ap (λ b. cond b (Found.Move n q (getD os k 0)) (firstOutput S w n q (drop (k + 1) os))) (ne-eqb (moveRules S w n q (getD os k 0)) 0 ne))
-
-  output-found : (os : List ℕ) (k : ℕ) → k < length os → moveRules S w n q (getD os k 0) ≡ 0 → firstOutput S w n q (drop k os) ≡ Found.Move n q (getD os k 0)
-  output-found os k h e =
-      output-step os k h
-      ∙ ap (λ b. cond b (Found.Move n q (getD os k 0)) (firstOutput S w n q (drop (k + 1) os))) (eq-eqb (moveRules S w n q (getD os k 0)) 0 e)
-
-  output-end : (os : List ℕ) (k : ℕ) → k ≡ length os → firstOutput S w n q (drop k os) ≡ Found.Nothing
+  output-found : (o : ℕ) (os : List ℕ) → moveRules S w n q o ≡ 0 → firstOutput S w n q (o ∷ os) ≡ Found.Move n q o
   unfolding firstOutput
-  output-end os k e = ap (λ (i : ℕ). firstOutput S w n q (drop i os)) e ∙ ap (firstOutput S w n q) (drop-length os)
+  output-found o os e = ap (λ b. cond b (Found.Move n q o) (firstOutput S w n q os)) (eq-eqb (moveRules S w n q o) 0 e)
+
+  output-end : firstOutput S w n q [] ≡ Found.Nothing
+  unfolding firstOutput
+  output-end = refl
 
   -- a route of a head that is there is permitted exactly when the flow rule lets it pass
   flow-passes : (o : ℕ) → n < nodes S → q < queues → length (held S w n q) ≢ 0 → T (elem o (routes q (head (held S w n q))))
@@ -125,65 +108,66 @@ module _ (S : Shape) (w : List ℕ) (n q : ℕ) where
 
 -- A queue as the code reads it --------------------------------------------------------------------------------------------------------
 
--- its words start at `start`, its number held is not 0, and r are the routes of the word behind that
-pub record Reading (s : Sizes) (w : List ℕ) (n q start : ℕ) (r : HeadRoutes) : Type 0 where
+-- its words start at `start`, its number held is not 0, and r is what the lines give of the word behind that
+pub record Reading (s : Sizes) (w : List ℕ) (n q start : ℕ) (r : List ℕ) : Type 0 where
   pub queue : QueueOf (shapeOf s) w n q
   pub at : start ≡ queueStart (shapeOf s) n q
   pub some : getD w start 0 ≢ 0
   pub are : AreRoutes q (getD w (start + 1) 0) r
 
--- the routes of its head, and what First finds by those from the j-th on
-abbrev pub headRoutes : Sizes → List ℕ → ℕ → ℕ → List ℕ
-headRoutes s w n q = routes q (head (held (shapeOf s) w n q))
+-- what First finds by line j and those behind it is what it finds
+abbrev pub FoundFrom : Sizes → List ℕ → ℕ → ℕ → List ℕ → ℕ → Type 0
+FoundFrom s w n q r j = firstOutput (shapeOf s) w n q (outputsFrom j (drop j r)) ≡ firstInQueue (shapeOf s) w n q
 
-abbrev pub FoundFrom : Sizes → List ℕ → ℕ → ℕ → ℕ → Type 0
-FoundFrom s w n q j = firstOutput (shapeOf s) w n q (drop j (headRoutes s w n q)) ≡ firstInQueue (shapeOf s) w n q
-
-pub found-from-first : (s : Sizes) (w : List ℕ) (n q : ℕ) → FoundFrom s w n q 0
-unfolding firstInQueue
-found-from-first s w n q = refl
-
-module _ {s : Sizes} {w : List ℕ} {n q start : ℕ} {r : HeadRoutes} (k : Reading s w n q start r) where
+module _ {s : Sizes} {w : List ℕ} {n q start : ℕ} {r : List ℕ} (k : Reading s w n q start r) where
   holds : length (held (shapeOf s) w n q) ≢ 0
   holds z = k .some (count-at s w n q (k .queue) start (k .at) ∙ z)
 
-  routes-are : AreRoutes q (head (held (shapeOf s) w n q)) r
-  routes-are =
+  lines-are : AreRoutes q (head (held (shapeOf s) w n q)) r
+  lines-are =
       let some : 0 < length (held (shapeOf s) w n q) = pos-of-ne-zero holds in
       subst (λ (p : ℕ). AreRoutes q p r) (head-at s w n q (k .queue) start (k .at) some) (k .are)
 
-  listed : (j : ℕ) → j < r .count → j < length (headRoutes s w n q)
-  listed j h = let e = routes-count routes-are in omega arith
+  among : (j : ℕ) → j < lines → j < length r
+  among j h = let e = k .are .each in omega arith
 
-  is-route : (j : ℕ) → j < r .count → T (elem (getD (headRoutes s w n q) j 0) (headRoutes s w n q))
-  is-route j h = elem-getD (headRoutes s w n q) j (listed j h)
+  is-route : (j : ℕ) → j < lines → applies j (getD r j 0) ≡ true → T (elem (getD r j 0) (routes q (head (held (shapeOf s) w n q))))
+  is-route j h a = subst (λ (os : List ℕ). T (elem (getD r j 0) os)) (lines-are .these) (line-member r j (among j h) a)
 
-  pub output-lt : (j : ℕ) → j < r .count → getD (r .outputs) j 0 < queues
-  output-lt j h =
-      let e = route-at routes-are j h in
-      let l = route-lt q (head (held (shapeOf s) w n q)) (getD (headRoutes s w n q) j 0) (is-route j h) in
-      omega arith
+  pub output-lt : (j : ℕ) → j < lines → applies j (getD r j 0) ≡ true → getD r j 0 < queues
+  output-lt j h a = route-lt q (head (held (shapeOf s) w n q)) (getD r j 0) (is-route j h a)
 
-  -- the next route, where the flow rule refuses this one; the move, where it lets it pass; and nothing, where no route is left
-  pub route-on : (j : ℕ) → j < r .count → flowRules (shapeOf s) w n q (getD (r .outputs) j 0) ≢ 0 → FoundFrom s w n q j → FoundFrom s w n q (j + 1)
-  route-on j h ne inv =
-      output-on (shapeOf s) w n q (headRoutes s w n q) j (listed j h)
-      (flow-refuses (shapeOf s) w n q (getD (headRoutes s w n q) j 0)
-      (λ z. ne (ap (flowRules (shapeOf s) w n q) (route-at routes-are j h) ∙ z)))
+  -- before the first line
+  pub found-from-first : FoundFrom s w n q r 0
+  unfolding firstInQueue
+  found-from-first = ap (firstOutput (shapeOf s) w n q) (lines-are .these)
+
+  -- the next line, where this one gives nothing or the flow rule refuses what it gives; the move, where it lets it pass; and nothing, where no
+  -- line is left
+  pub line-none : (j : ℕ) → j < lines → applies j (getD r j 0) ≡ false → FoundFrom s w n q r j → FoundFrom s w n q r (j + 1)
+  line-none j h a inv = ap (firstOutput (shapeOf s) w n q) (sym (line-passed r j (among j h) a)) ∙ inv
+
+  pub line-refused : (j : ℕ) → j < lines → applies j (getD r j 0) ≡ true → flowRules (shapeOf s) w n q (getD r j 0) ≢ 0 → FoundFrom s w n q r j
+      → FoundFrom s w n q r (j + 1)
+  line-refused j h a ne inv =
+      sym
+      (ap (firstOutput (shapeOf s) w n q) (line-taken r j (among j h) a)
+      ∙ output-on (shapeOf s) w n q (getD r j 0) (outputsFrom (j + 1) (drop (j + 1) r)) (flow-refuses (shapeOf s) w n q (getD r j 0) ne))
       ∙ inv
 
-  pub route-found : (j : ℕ) → j < r .count → flowRules (shapeOf s) w n q (getD (r .outputs) j 0) ≡ 0 → FoundFrom s w n q j
-      → firstInQueue (shapeOf s) w n q ≡ Found.Move n q (getD (r .outputs) j 0)
-  route-found j h e inv =
+  pub line-found : (j : ℕ) → j < lines → applies j (getD r j 0) ≡ true → flowRules (shapeOf s) w n q (getD r j 0) ≡ 0 → FoundFrom s w n q r j
+      → firstInQueue (shapeOf s) w n q ≡ Found.Move n q (getD r j 0)
+  line-found j h a e inv =
       sym inv
-      ∙ output-found (shapeOf s) w n q (headRoutes s w n q) j (listed j h)
-      (flow-passes (shapeOf s) w n q (getD (headRoutes s w n q) j 0) (k .queue .node) (k .queue .queue) holds (is-route j h)
-      (ap (flowRules (shapeOf s) w n q) (sym (route-at routes-are j h)) ∙ e))
-      ∙ ap (Found.Move n q) (sym (route-at routes-are j h))
+      ∙ ap (firstOutput (shapeOf s) w n q) (line-taken r j (among j h) a)
+      ∙ output-found (shapeOf s) w n q (getD r j 0) (outputsFrom (j + 1) (drop (j + 1) r))
+      (flow-passes (shapeOf s) w n q (getD r j 0) (k .queue .node) (k .queue .queue) holds (is-route j h a) e)
 
-  pub route-none : (j : ℕ) → j ≤ r .count → r .count ≤ j → FoundFrom s w n q j → firstInQueue (shapeOf s) w n q ≡ Found.Nothing
-  route-none j h l inv =
-      sym inv ∙ output-end (shapeOf s) w n q (headRoutes s w n q) j (let e = routes-count routes-are in omega arith)
+  pub lines-none : (j : ℕ) → j ≤ lines → lines ≤ j → FoundFrom s w n q r j → firstInQueue (shapeOf s) w n q ≡ Found.Nothing
+  lines-none j h l inv =
+      sym inv
+      ∙ ap (firstOutput (shapeOf s) w n q) (lines-end r j (let e = k .are .each in omega arith))
+      ∙ output-end (shapeOf s) w n q
 
 -- a queue's words end among those lent
 pub end-at : (s : Sizes) (w : List ℕ) (n q : ℕ) → QueueOf (shapeOf s) w n q → (start slots : ℕ) → start ≡ queueStart (shapeOf s) n q → slots ≡ capacity (shapeOf s) q
@@ -201,10 +185,10 @@ queue-none s w n q start k at z = empty (shapeOf s) w n q (sym (count-at s w n q
 
 -- The invariants ----------------------------------------------------------------------------------------------------------------------
 
--- what is left of a queue's routes is found
-pub record AtRoute (s : Sizes) (w : List ℕ) (n q count j : ℕ) : Type 0 where
-  pub within : j ≤ count
-  pub left : FoundFrom s w n q j
+-- what is left of the lines is found
+pub record AtLine (s : Sizes) (w : List ℕ) (n q : ℕ) (r : List ℕ) (j : ℕ) : Type 0 where
+  pub within : j ≤ lines
+  pub left : FoundFrom s w n q r j
 
 -- nothing was found yet, and what is left is found: of a node's queues, of the nodes
 pub record AtQueue (s : Sizes) (w : List ℕ) (n : ℕ) (found : Bool) (start q : ℕ) : Type 0 where

@@ -11,6 +11,8 @@ use network::Sizes;
 use packet::torus::nodes;
 use queue::capacity;
 use queue::queue_start;
+use routes::LINES;
+use routes::applies;
 use routes::routes;
 ghost use mathlib.Core.Path.{_≡_};
 ghost use Rattle.network.specs.Sizes.{shapeOf};
@@ -37,17 +39,17 @@ pub fn first_move(words: &[u64], s: Sizes) -> Found
     'search: for n in 0..total {
         for q in 0..QUEUES {
             if words[start] != 0 {
-                let r = routes(q, words[start + 1]);
-                let outputs = r.outputs;
-                let count = r.count;
-                for k in 0..count {
+                let outputs = routes(q, words[start + 1]);
+                for k in 0..LINES {
                     let o = outputs[k as usize];
-                    if flow_rules(words, s, n, q, o) == 0 {
-                        found = true;
-                        node = n;
-                        queue = q;
-                        output = o;
-                        break 'search;
+                    if applies(k, o) {
+                        if flow_rules(words, s, n, q, o) == 0 {
+                            found = true;
+                            node = n;
+                            queue = q;
+                            output = o;
+                            break 'search;
+                        }
                     }
                 }
             }
@@ -76,17 +78,17 @@ pub fn first_in_queue(words: &[u64], s: Sizes, near: &[u16], n: u64, q: u64) -> 
     if words[start] == 0 {
         return Found::Nothing;
     }
-    let r = routes(q, words[start + 1]);
-    let outputs = r.outputs;
-    let count = r.count;
-    for k in 0..count {
+    let outputs = routes(q, words[start + 1]);
+    for k in 0..LINES {
         let o = outputs[k as usize];
-        if may_flow(words, s, near, n, q, o) {
-            return Found::Move {
-                node: n,
-                queue: q,
-                output: o,
-            };
+        if applies(k, o) {
+            if may_flow(words, s, near, n, q, o) {
+                return Found::Move {
+                    node: n,
+                    queue: q,
+                    output: o,
+                };
+            }
         }
     }
     Found::Nothing

@@ -1,5 +1,5 @@
--- The kept cases K1 to K12 as rows of one theorem about the definitions that the contracts cite. A row like `k5` is computed from them; where the
--- case is meant of any network, a row like `k5-every` beside it says so of each one (K2 and K8 say it at once).
+-- The kept cases K1 to K12 as rows of one theorem about the definitions that the contracts cite, and the table of routes with them. A row like `k5` is
+-- computed from them; where the case is meant of any network, a row like `k5-every` beside it says so of each one (K2 and K8 say it at once).
 -- Order: how the rows' networks are written down; what the rows about every network speak of; the rows; what proves them; the theorem.
 -- Assumes nothing.
 use mathlib.Core.Path.{_≡_, refl, ap, ap₂, _∙_}
@@ -29,6 +29,8 @@ use Rattle.network.specs.Torus.{coordinate, stride, along, neighbour, mo
 use Rattle.network.specs.Layout.{headerWords, shape, accepted, delivered, movesMade, raised, acceptedAt, queueLength, nodeWords, queueStart, queueEnd, need, queueWords, queuePart, countOf, packetsOf, unusedOf, held, load, fill, putQueue, total}
 use Rattle.network.specs.Check.{rightPlace, isQueueOf, reach, nearEnough, opposite, rightSign, lowerDone, packetFits, queueFits, queuesFit, hasRoom, ringHasRoom, ringsHaveRoom, packetsHeld, workLeft, countersFit, isNetwork}
 use Rattle.network.specs.Routes.{deliver, inOrder, without, incoming, incomingFirst, headings, routes, target, freeSlots, entersRing, slotsNeeded}
+use Rattle.network.specs.Selection.{selected}
+use Rattle.network.specs.SelectionLaws.{selection-routes}
 use Rattle.network.specs.Refusals.{refuse, noRoute, noSlot, noBubble, networkRefusal, makeRefusal, offerRules, offerRefusal, head, flowRules, moveRules, moveRefusal}
 use Rattle.network.specs.Calls.{Progress, emptyNetwork, makeWords, offeredSteps, offered, afterOffer, offerWords, headLeaves, packetArrives, afterMove, moveWords, moveAnswer, firstOutput, firstInQueue, orElse, search, firstInNode, firstMove, firstAnswer, stopped, oneMore, deliverNext, moveNext, drainFrom, drained, drainLedger, drainAnswer}
 use Rattle.network.specs.PacketLaws.{hops-hop-le, arrived-distance}
@@ -128,6 +130,47 @@ alone = holding (empty 1 1 2 1 1) 0 injectionQueue (here 0 ∷ [])
 -- 2 by 2, and by hand such a packet in each queue of node 0
 abbrev in-every-queue : List ℕ
 in-every-queue = inEach (empty 2 2 2 1 1) (here 0) (inOrder 0 queues)
+
+-- the table of R149: packets with each pair of signs, by the largest and the least number that the field of an offset holds
+abbrev signs : List ℕ
+signs =
+    packet 0 (pos 0) (pos 0)
+    ∷ packet 0 (pos 127) (pos 0)
+    ∷ packet 0 (negsuc 127) (pos 0)
+    ∷ packet 0 (pos 0) (pos 127)
+    ∷ packet 0 (pos 0) (negsuc 127)
+    ∷ packet 0 (pos 127) (pos 127)
+    ∷ packet 0 (pos 127) (negsuc 127)
+    ∷ packet 0 (negsuc 127) (pos 127)
+    ∷ packet 0 (negsuc 127) (negsuc 127)
+    ∷ []
+
+-- its columns: the outputs of these packets, one after the other, where x is the incoming dimension, and where y is
+abbrev x-column : List (List ℕ)
+x-column =
+    (0 ∷ [])
+    ∷ (1 ∷ 5 ∷ [])
+    ∷ (2 ∷ 6 ∷ [])
+    ∷ (3 ∷ 7 ∷ [])
+    ∷ (4 ∷ 8 ∷ [])
+    ∷ (1 ∷ 3 ∷ 5 ∷ [])
+    ∷ (1 ∷ 4 ∷ 5 ∷ [])
+    ∷ (2 ∷ 3 ∷ 6 ∷ [])
+    ∷ (2 ∷ 4 ∷ 6 ∷ [])
+    ∷ []
+
+abbrev y-column : List (List ℕ)
+y-column =
+    (0 ∷ [])
+    ∷ (1 ∷ 5 ∷ [])
+    ∷ (2 ∷ 6 ∷ [])
+    ∷ (3 ∷ 7 ∷ [])
+    ∷ (4 ∷ 8 ∷ [])
+    ∷ (3 ∷ 1 ∷ 5 ∷ [])
+    ∷ (4 ∷ 1 ∷ 5 ∷ [])
+    ∷ (3 ∷ 2 ∷ 6 ∷ [])
+    ∷ (4 ∷ 2 ∷ 6 ∷ [])
+    ∷ []
 
 -- two nodes and a dimension of any sizes in range
 pub record Between (w : List ℕ) (n destination i : ℕ) : Type 0 where
@@ -296,6 +339,11 @@ pub record KeptCases : Type 0 where
       → (moveAnswer w n q deliver ≡ Moved.Delivered (headOf w n q)) × ((o : ℕ) → o < queues → o ≢ deliver → moveRefusal w n q o ≡ 10)
   pub k12-fits-every : (w : List ℕ) (n q p : ℕ) → T (sizesInRange (shape w)) → n < nodes (shape w) → hopsLeft p ≡ 0 → destination p ≡ n
       → packetFits (shape w) n q p ≡ (eqb q injectionQueue || leb 2 (size (shape w) (dimensionOf (directionOf q))))
+  -- R149, the table of routes: for queues 0 to 8 the column that holds there
+  pub routes-table : map (λ q. map (routes q) signs) (inOrder 0 queues)
+      ≡ x-column ∷ x-column ∷ x-column ∷ y-column ∷ y-column ∷ x-column ∷ x-column ∷ y-column ∷ y-column ∷ []
+  -- any head in any queue: its routes are what Selection.antt gives case by case
+  pub routes-every : (q p : ℕ) → q < queues → selected q p ≡ routes q p
 
 -- in words that pass the check a move is refused as the rules of Move say: so the rows compute the check once for each network
 by-rules : (w : List ℕ) (n q o refusal : ℕ) → networkRefusal w ≡ 0 → moveRules (shape w) w n q o ≡ refusal → moveRefusal w n q o ≡ refusal
@@ -606,6 +654,8 @@ keptCases =
             λ o h ne. no-route w n q o s h (not-onward q (headOf w n q) o (λ i l. arrived-distance i (headOf w n q) l z) ne),
           );
       k12-fits-every = λ w n q p r h z e. own-fits (shape w) n q p (tor w r) h z e;
+      routes-table = refl;
+      routes-every = selection-routes;
     }
   where
     -- whatever budget is left after it

@@ -11,6 +11,8 @@ pub mod Check
 pub mod CheckLaws
 pub mod Routes
 pub mod RoutesLaws
+pub mod Selection
+pub mod SelectionLaws
 pub mod Refusals
 pub mod RefusalLaws
 pub mod Calls

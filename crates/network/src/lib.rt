@@ -55,6 +55,13 @@ pub const MOST_ACCEPTED: u64 = 4294967295;
 // R85: the most work that a packet starts with, 8 hops in each dimension and its delivery.
 pub const MOST_WORK: u64 = 17;
 
+// R145: the sign of an offset: hops left in the plus direction of its dimension, in the minus direction, or none.
+pub enum Sign {
+    Plus,
+    Minus,
+    Zero,
+}
+
 // The numbers of the refusals.
 
 // R161: fewer words than the header or the sizes need.

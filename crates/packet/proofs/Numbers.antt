@@ -2,9 +2,7 @@
 -- its bits; so do the laws. Order: it comes back; negated; half a turn on and back; its sign; what each sign gives; one hop towards zero. Assumes nothing.
 use mathlib.Core.Path.{_≡_, refl, ap, sym, subst, _∙_}
 use mathlib.Core.Bool.{Bool, true, false, cond, true≢false, false≢true}
-use mathlib.Core.Logic.{_≢_}
 use Prim.Native.Nat.{ℕ, zero, suc, _+_, _-_, _%_, _<_, _≤_}
-use native.Mathlib.Nat.{suc-ne-zero}
 use native.Mathlib.Decide.{decLt}
 use native.Mathlib.Omega.{arith}
 use lib.Dec.{T, ltb}
@@ -14,8 +12,10 @@ use mir.Syntax.{w64}
 use mir.Val.{Fits, SFits, toZ, ofZ}
 use mir.Facts.{toZ-ofZ, toZ-pos}
 use borrow.Author.Tests.{ltb-true, ltb-false, lt-ltb, le-ltb}
+use Rattle.network.specs.declared.Sign.{Sign}
 use Rattle.network.specs.Packet.{signed, unsigned, forward, backward, shrunk, offsetValues}
 use Rattle.network.specs.PacketLaws.{halfOffsets, OffsetRange, signed-small, signed-large, signed-range, shrunk-range}
+use Rattle.network.specs.Selection.{sign}
 
 -- the number that the bits of z stand for
 abbrev pub again : ℤ → ℤ
@@ -92,14 +92,38 @@ Below z b = ltZ (again z) (pos 0) ≡ b
 abbrev pub Above : ℤ → Bool → Type 0
 Above z b = ltZ (pos 0) (again z) ≡ b
 
-sign : {y z : ℤ} {b : Bool} → y ≡ z → OffsetRange z → Below y b → ltZ z (pos 0) ≡ b
-sign e r t = ap (λ x. ltZ x (pos 0)) (sym (back e r)) ∙ t
+under : {y z : ℤ} {b : Bool} → y ≡ z → OffsetRange z → Below y b → ltZ z (pos 0) ≡ b
+under e r t = ap (λ x. ltZ x (pos 0)) (sym (back e r)) ∙ t
 
-over : {z : ℤ} {b : Bool} → OffsetRange z → Above z b → ltZ (pos 0) z ≡ b
-over r t = ap (λ x. ltZ (pos 0) x) (sym (back refl r)) ∙ t
+over : {y z : ℤ} {b : Bool} → y ≡ z → OffsetRange z → Above y b → ltZ (pos 0) z ≡ b
+over e r t = ap (λ x. ltZ (pos 0) x) (sym (back e r)) ∙ t
 
 never : (n : ℕ) → ltb n 0 ≡ true → ⊥
 never n t = let l = ltb-true n 0 t in omega arith
+
+-- by them, as the rules name it
+pub sign-minus : {y z : ℤ} → y ≡ z → OffsetRange z → Below y true → Sign.Minus ≡ sign z
+sign-minus {z = z} e r t = go z (under e r t)
+  where
+    go : (z : ℤ) → ltZ z (pos 0) ≡ true → Sign.Minus ≡ sign z
+    go (pos n) t = absurd (never n t)
+    go (negsuc n) t = refl
+
+pub sign-plus : {y z : ℤ} → y ≡ z → OffsetRange z → Above y true → Sign.Plus ≡ sign z
+sign-plus {z = z} e r t = go z (over e r t)
+  where
+    go : (z : ℤ) → ltZ (pos 0) z ≡ true → Sign.Plus ≡ sign z
+    go (pos zero) t = absurd (never 0 t)
+    go (pos (suc n)) t = refl
+    go (negsuc n) t = absurd (false≢true t)
+
+pub sign-zero : {y z : ℤ} → y ≡ z → OffsetRange z → Below y false → Above y false → Sign.Zero ≡ sign z
+sign-zero {z = z} e r s t = go z (under e r s) (over e r t)
+  where
+    go : (z : ℤ) → ltZ z (pos 0) ≡ false → ltZ (pos 0) z ≡ false → Sign.Zero ≡ sign z
+    go (pos zero) s t = refl
+    go (pos (suc n)) s t = let l = ltb-false 0 (suc n) t in absurd (omega arith)
+    go (negsuc n) s t = absurd (true≢false s)
 
 -- What each sign gives ----------------------------------------------------------------------------------------------------------------
 
@@ -126,44 +150,32 @@ minus-castable (pos n) r t = absurd (never n t)
 minus-castable (negsuc n) r t = let l : suc n ≤ halfOffsets = r .least in (tt, record { fits = omega arith })
 
 pub cast-of : {z : ℤ} → OffsetRange z → Below z false → Castable (again z)
-cast-of {z} r t = subst Castable (sym (back refl r)) (plus-castable z r (sign refl r t))
+cast-of {z} r t = subst Castable (sym (back refl r)) (plus-castable z r (under refl r t))
 
 pub cast-of-negation : {z : ℤ} → OffsetRange z → Below z true → Castable (again (pos 0 -ℤ again z))
-cast-of-negation {z} r t = subst Castable (sym (negation-back z r)) (minus-castable z r (sign refl r t))
+cast-of-negation {z} r t = subst Castable (sym (negation-back z r)) (minus-castable z r (under refl r t))
 
 pub natAbs-most : (z : ℤ) → OffsetRange z → natAbs z ≤ halfOffsets
 unfolding forward backward
 natAbs-most (pos n) r = let l : n < halfOffsets = r .most in omega arith
 natAbs-most (negsuc n) r = r .least
 
--- field, forward and backward of a number below zero
-pub record Minus (z : ℤ) : Type 0 where
-  pub unsigned-is : unsigned z ≡ offsetValues - natAbs z
-  pub forward-is : forward z ≡ 0
-  pub backward-is : backward z ≡ natAbs z
-  pub some : backward z ≢ 0
+-- the field of a number below zero, and of another
+pub field-minus : {z : ℤ} → OffsetRange z → Below z true → unsigned z ≡ offsetValues - natAbs z
+unfolding unsigned
+field-minus {z} r t = go z (under refl r t)
+  where
+    go : (z : ℤ) → ltZ z (pos 0) ≡ true → unsigned z ≡ offsetValues - natAbs z
+    go (pos n) t = absurd (never n t)
+    go (negsuc n) t = omega arith
 
-minus : (z : ℤ) → ltZ z (pos 0) ≡ true → Minus z
-unfolding unsigned forward backward
-minus (pos n) t = absurd (never n t)
-minus (negsuc n) t = record { unsigned-is = omega arith; forward-is = refl; backward-is = refl; some = suc-ne-zero n }
-
-pub minus-of : {y z : ℤ} → y ≡ z → OffsetRange z → Below y true → Minus z
-minus-of {z = z} e r t = minus z (sign e r t)
-
--- and of another
-pub record Plus (z : ℤ) : Type 0 where
-  pub unsigned-is : unsigned z ≡ natAbs z
-  pub forward-is : forward z ≡ natAbs z
-  pub backward-is : backward z ≡ 0
-
-plus : (z : ℤ) → ltZ z (pos 0) ≡ false → Plus z
-unfolding unsigned forward backward
-plus (pos n) t = record { unsigned-is = refl; forward-is = refl; backward-is = refl }
-plus (negsuc n) t = absurd (true≢false t)
-
-pub plus-of : {y z : ℤ} → y ≡ z → OffsetRange z → Below y false → Plus z
-plus-of {z = z} e r t = plus z (sign e r t)
+pub field-plus : {z : ℤ} → OffsetRange z → Below z false → unsigned z ≡ natAbs z
+unfolding unsigned
+field-plus {z} r t = go z (under refl r t)
+  where
+    go : (z : ℤ) → ltZ z (pos 0) ≡ false → unsigned z ≡ natAbs z
+    go (pos n) t = refl
+    go (negsuc n) t = absurd (true≢false t)
 
 -- One hop towards zero: up from below it, down from above it --------------------------------------------------------------------------
 
@@ -185,10 +197,10 @@ shrunk-rest (pos n) s t = let l = ltb-false 0 n t in ap pos (omega arith)
 shrunk-rest (negsuc n) s t = absurd (true≢false s)
 
 up-is : {z : ℤ} → OffsetRange z → Below z true → again z +ℤ pos 1 ≡ shrunk z
-up-is {z} r t = ap (λ x. x +ℤ pos 1) (back refl r) ∙ shrunk-up z (sign refl r t)
+up-is {z} r t = ap (λ x. x +ℤ pos 1) (back refl r) ∙ shrunk-up z (under refl r t)
 
 down-is : {z : ℤ} → OffsetRange z → Above z true → again z -ℤ pos 1 ≡ shrunk z
-down-is {z} r t = ap (λ x. x -ℤ pos 1) (back refl r) ∙ shrunk-down z (over r t)
+down-is {z} r t = ap (λ x. x -ℤ pos 1) (back refl r) ∙ shrunk-down z (over refl r t)
 
 pub up-fits : {z : ℤ} → OffsetRange z → Below z true → SFits w64 (again z +ℤ pos 1)
 up-fits {z} r t = subst (SFits w64) (sym (up-is r t)) (offset-fits (shrunk z) (shrunk-range z r))
@@ -203,4 +215,4 @@ pub down-back : {z : ℤ} → OffsetRange z → Above z true → again (again z 
 down-back {z} r t = back (down-is r t) (shrunk-range z r)
 
 pub at-zero : {z : ℤ} → OffsetRange z → Below z false → Above z false → pos 0 ≡ shrunk z
-at-zero {z} r s t = shrunk-rest z (sign refl r s) (over r t)
+at-zero {z} r s t = shrunk-rest z (under refl r s) (over refl r t)

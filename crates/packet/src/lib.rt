@@ -6,13 +6,15 @@ use network::DESTINATION_AT;
 use network::DESTINATION_VALUES;
 use network::DIMENSIONS;
 use network::OFFSET_VALUES;
+use network::Sign;
 ghost use mathlib.Core.Path.{_≡_};
 ghost use Prim.Native.Nat.{_<_, _≤_};
 ghost use lib.IntN.{natAbs};
 ghost use Rattle.base.specs.Digits.{digit};
 ghost use Rattle.network.specs.Sizes.{dimensions, largestRing};
-ghost use Rattle.network.specs.Packet.{offsetValues, fields, offsetField, signed, unsigned, offset, withOffset, distance, heading, shrunk, hop, hopsLeft, work, destination, shorterWay};
+ghost use Rattle.network.specs.Packet.{offsetValues, fields, offsetField, signed, unsigned, offset, withOffset, distance, shrunk, hop, hopsLeft, work, destination, shorterWay};
 ghost use Rattle.network.specs.PacketLaws.{OffsetRange};
+ghost use Rattle.network.specs.Selection.{sign};
 
 // Signed offsets ------------------------------------------------------------------------------------------------------------
 
@@ -108,12 +110,19 @@ pub fn distance(i: u64, p: u64) -> u64
     nat_abs(offset(i, p))
 }
 
-// The direction in which a packet goes on along dimension i.
-pub fn heading(i: u64, p: u64) -> u64
+// Whether the hops left along dimension i go plus or minus, or there are none.
+pub fn sign(i: u64, p: u64) -> Sign
     requires { ⌜ i < dimensions ⌝ }
-    ensures { λ r. ⌜ r ≡ heading i p ⌝ }
+    ensures { λ r. ⌜ r ≡ sign (offset i p) ⌝ }
 {
-    if offset(i, p) < 0 { 2 * i + 1 } else { 2 * i }
+    let z = offset(i, p);
+    if z < 0 {
+        Sign::Minus
+    } else if 0 < z {
+        Sign::Plus
+    } else {
+        Sign::Zero
+    }
 }
 
 pub fn hops_left(p: u64) -> u64

@@ -1,2 +1,2 @@
 -- Laws that several proofs of this crate cite.
-pub mod RouteCases
+pub mod Laws

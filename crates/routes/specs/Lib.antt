@@ -1,3 +1,3 @@
 -- What the contracts of this crate cite besides the definitions of `network`, and its laws.
-pub mod AreRoutes
-pub mod AreRoutesLaws
+pub mod Lines
+pub mod LinesLaws

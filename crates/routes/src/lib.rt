@@ -1,80 +1,95 @@
-// The routes of a head (R140 to R147): its outputs in the order in which First tries them, and whether an output is one of them. The
-// contracts say each answer by the definitions of the crate `network` (specs/Routes.antt).
-use network::DIRECTIONS;
-use packet::distance;
-use packet::heading;
+// The routes of a head (R140 to R149), decided case by case, line after line of the paper's selection list: by the number of its queue and the
+// signs of its offsets. The cases are those of the crate `network` (specs/Selection.antt), under the same names; what they give together is
+// proved to be `routes` (specs/Routes.antt there).
+use network::Sign;
+use packet::sign;
 ghost use mathlib.Core.Path.{_≡_};
+ghost use Prim.Native.Nat.{_<_};
 ghost use Rattle.base.specs.Tests.{elem};
-ghost use Rattle.network.specs.Routes.{incoming, routes};
-ghost use Rattle.routes.specs.AreRoutes.{AreRoutes};
+ghost use Rattle.network.specs.Sizes.{queues};
+ghost use Rattle.network.specs.Routes.{routes};
+ghost use Rattle.network.specs.Selection.{adaptiveX, adaptiveY, lastCase};
+ghost use Rattle.routes.specs.Lines.{unlessZero, applies, AreRoutes};
 
-// The first `count` outputs, in order.
-pub struct HeadRoutes {
-    pub outputs: [u64; 3],
-    pub count: u64,
-}
+// The lines of the selection list, and the last of them.
+pub const LINES: u64 = 3;
 
-// The dimension along which a packet came into queue q; of the injection queue, x.
-pub fn incoming(q: u64) -> u64
-    ensures { λ r. ⌜ r ≡ incoming q ⌝ }
+pub const LAST_LINE: u64 = 2;
+
+// Lines 1 and 2: the adaptive queue along x, or 0 where no hop is left there.
+fn adaptive_x(dx: Sign) -> u64
+    ensures { λ r. ⌜ unlessZero r ≡ adaptiveX dx ⌝ }
 {
-    if q == 0 {
-        return 0;
+    match dx {
+        Sign::Plus => 1,
+        Sign::Minus => 2,
+        Sign::Zero => 0,
     }
-    (q - 1) % DIRECTIONS / 2
 }
 
-// The routes of the head p of queue q: delivery where it has arrived; otherwise the adaptive queues, that of the incoming
-// dimension first, and then the escape queue, that of x as long as a hop is left there.
-pub fn routes(q: u64, p: u64) -> HeadRoutes
+// The same along y.
+fn adaptive_y(dy: Sign) -> u64
+    ensures { λ r. ⌜ unlessZero r ≡ adaptiveY dy ⌝ }
+{
+    match dy {
+        Sign::Plus => 3,
+        Sign::Minus => 4,
+        Sign::Zero => 0,
+    }
+}
+
+// Line 3: the escape queue of x, and that of y only where no hop is left along x. A head that has arrived is delivered.
+fn last_case(dx: Sign, dy: Sign) -> u64
+    ensures { λ r. ⌜ r ≡ lastCase dx dy ⌝ }
+{
+    match dx {
+        Sign::Plus => 5,
+        Sign::Minus => 6,
+        Sign::Zero => match dy {
+            Sign::Plus => 7,
+            Sign::Minus => 8,
+            Sign::Zero => 0,
+        },
+    }
+}
+
+// What each line gives of the head p of queue q, in their order. The number of the queue says which dimension is the incoming one and comes
+// first; for the injection queue that is x.
+pub fn routes(q: u64, p: u64) -> [u64; 3]
+    requires { ⌜ q < queues ⌝ }
     ensures { λ r. ⌜ AreRoutes q p r ⌝ }
 {
-    let dx = distance(0, p);
-    let dy = distance(1, p);
-    let adaptive_x = 1 + heading(0, p);
-    let adaptive_y = 1 + heading(1, p);
-    let escape_x = DIRECTIONS + adaptive_x;
-    let escape_y = DIRECTIONS + adaptive_y;
-    if dx == 0 {
-        if dy == 0 {
-            return HeadRoutes {
-                outputs: [0, 0, 0],
-                count: 1,
-            };
-        }
-        return HeadRoutes {
-            outputs: [adaptive_y, escape_y, 0],
-            count: 2,
-        };
+    let dx = sign(0, p);
+    let dy = sign(1, p);
+    let x = adaptive_x(dx);
+    let y = adaptive_y(dy);
+    let last = last_case(dx, dy);
+    match q {
+        0 | 1 | 2 | 5 | 6 => [x, y, last],
+        3 | 4 | 7 | 8 => [y, x, last],
+        _ => [0, 0, last],
     }
-    if dy == 0 {
-        return HeadRoutes {
-            outputs: [adaptive_x, escape_x, 0],
-            count: 2,
-        };
-    }
-    if incoming(q) == 0 {
-        return HeadRoutes {
-            outputs: [adaptive_x, adaptive_y, escape_x],
-            count: 3,
-        };
-    }
-    HeadRoutes {
-        outputs: [adaptive_y, adaptive_x, escape_x],
-        count: 3,
-    }
+}
+
+// Whether o is an output that line k gives. The last line always gives one: 0 is the delivery there, and none in the lines before.
+pub fn applies(k: u64, o: u64) -> bool
+    ensures { λ r. ⌜ r ≡ applies k o ⌝ }
+{
+    k == LAST_LINE || o != 0
 }
 
 // Whether output o is a route of the head p of queue q.
 pub fn is_route(q: u64, p: u64, o: u64) -> bool
+    requires { ⌜ q < queues ⌝ }
     ensures { λ r. ⌜ r ≡ elem o (routes q p) ⌝ }
 {
-    let r = routes(q, p);
-    let outputs = r.outputs;
-    let count = r.count;
-    for k in 0..count {
-        if outputs[k as usize] == o {
-            return true;
+    let outputs = routes(q, p);
+    for k in 0..LINES {
+        let output = outputs[k as usize];
+        if output == o {
+            if applies(k, output) {
+                return true;
+            }
         }
     }
     false

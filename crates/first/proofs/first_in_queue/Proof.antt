@@ -1,23 +1,24 @@
--- `first::first_in_queue` meets its contract. The loop's invariant: what is left of the head's routes is found. Assumes nothing.
+-- `first::first_in_queue` meets its contract. The loop's invariant: what is left of the lines is found. Assumes nothing.
 use mathlib.Core.Path.{_≡_, sym, _∙_}
 use mathlib.Core.Bool.{Bool, true, false}
-use mathlib.Core.Logic.{_≢_}
+use mathlib.Core.Logic.{_≢_, ⊎-elim}
 use Prim.Native.Nat.{ℕ, _+_, _-_, _<_}
 use native.Mathlib.Omega.{arith}
 use borrow.Author.Needs.{needs}
 use borrow.Author.Tests.{eqb-true, eqb-false}
 use lib.Dec.{eqb}
 use lib.ListN.{length}
+use Rattle.routes.specs.Lines.{lines}
 use Rattle.flow.specs.HeldWords.{asked, inside-at}
-use Rattle.first.proofs.Searching.{Reading, AtRoute, found-from-first, output-lt, route-on, route-found, route-none, queue-none}
+use Rattle.first.proofs.Searching.{Reading, AtLine, found-from-first, output-lt, line-none, line-refused, line-found, lines-none, queue-none}
 use Rattle.first.proofs.first_in_queue.Statement.{statement}
 use Rattle.first.proofs.first_in_queue.Tie as tie
 
 abbrev Inv-loop : tie.InvT-loop
-Inv-loop words s near n q start outputs count k₀ k = AtRoute s words n q count k
+Inv-loop words s near n q start outputs k₀ k = AtLine s words n q outputs k
 
 abbrev μ-loop : tie.MeasureT-loop
-μ-loop words s near n q start outputs count k₀ k = count - k
+μ-loop words s near n q start outputs k₀ k = lines - k
 
 -- a test that says whether a rule's number is 0
 passed : (said : Bool) (number : ℕ) → said ≡ eqb number 0 → said ≡ true → number ≡ 0
@@ -32,6 +33,9 @@ two-words c =
     let f = c .before .before .before in
     let a = f .args in
     inside-at (a .s) (a .words .now) (a .n) (a .q) (f .pre .0) (c .queue-start .result) (c .queue-start .ensures)
+
+routes-requires : tie.Need-routes-requires Inv-loop μ-loop
+routes-requires c κs = c .before .before .before .before .before .before .pre .0 .queue
 
 -- what was read of the queue
 reading : (c : tie.After-routes Inv-loop μ-loop)
@@ -70,51 +74,49 @@ shared-slice-read-routes : tie.Need-shared-slice-read-routes Inv-loop μ-loop
 shared-slice-read-routes c = two-words (c .before .before .before)
 
 loop-holds : tie.Need-loop-holds Inv-loop μ-loop
-loop-holds c =
-    let a = c .before .before .before .before .before .before .before .before .args in
-    record { within = omega arith; left = found-from-first (a .s) (a .words .now) (a .n) (a .q) }
-
-mul-o : tie.Need-mul-o Inv-loop μ-loop
-mul-o c = omega (arith, c .loop-test .taken, c .before .before .before .routes .ensures .few)
-
-array-read-o : tie.Need-array-read-o Inv-loop μ-loop
-array-read-o c = omega (arith, c .loop-test .taken, c .before .before .before .routes .ensures .few)
+loop-holds c = record { within = omega arith; left = found-from-first (reading c) }
 
 may-flow-requires : tie.Need-may-flow-requires Inv-loop μ-loop
 may-flow-requires c κs =
-    let r = c .before .before .before in
+    let f = c .before .before in
+    let r = f .before .before in
     let k = reading r in (
-      record { network = k .queue .network; node = k .queue .node; queue = output-lt k (c .before .loop .k) (c .loop-test .taken) },
+      record {
+        network = k .queue .network;
+        node = k .queue .node;
+        queue = output-lt k (f .before .loop .k) (f .loop-test .taken) (sym (c .before .applies .ensures) ∙ c .if2 .taken);
+      },
       r .before .before .before .before .before .before .before .pre .1,
     )
 
 returns-2 : tie.Need-returns-2 Inv-loop μ-loop
 returns-2 c =
-    let f = c .before .before in
+    let g = c .before .before in
+    let f = g .before .before in
     let i = f .before .loop in
-    sym (route-found (reading (f .before .before .before)) (i .k) (f .loop-test .taken) (passed _ _ (c .before .may-flow .ensures) (c .if2 .taken)) (i .inv .left))
-
-add-k : tie.Need-add-k Inv-loop μ-loop
-add-k c =
-    let f = c .before .before in
-    omega (arith, f .loop-test .taken, f .before .before .before .routes .ensures .few)
-
-loop-less : tie.Need-loop-less Inv-loop μ-loop
-loop-less c = omega (arith, c .before .before .loop-test .taken)
+    sym
+    (line-found (reading (f .before .before)) (i .k) (f .loop-test .taken) (sym (g .before .applies .ensures) ∙ g .if2 .taken)
+    (passed _ _ (c .before .may-flow .ensures) (c .if3 .taken)) (i .inv .left))
 
 loop-again : tie.Need-loop-again Inv-loop μ-loop
 loop-again c =
     let f = c .before .before in
     let i = f .before .loop in
+    let k = reading (f .before .before) in
     record {
       within = omega (arith, f .loop-test .taken);
-      left = route-on (reading (f .before .before .before)) (i .k) (f .loop-test .taken) (failed _ _ (c .before .may-flow .ensures) (c .if2 .left)) (i .inv .left);
+      left =
+          ⊎-elim
+          (λ w.
+          line-refused k (i .k) (f .loop-test .taken) (sym (c .before .applies .ensures) ∙ w .0 .taken) (failed _ _ (w .1 .ensures) (w .2 .left)) (i .inv .left))
+          (λ w. line-none k (i .k) (f .loop-test .taken) (sym (c .before .applies .ensures) ∙ w .left) (i .inv .left))
+          (c .if2 .came);
     }
 
 returns-3 : tie.Need-returns-3 Inv-loop μ-loop
 returns-3 c =
     let i = c .before .loop in
-    sym (route-none (reading (c .before .before .before)) (i .k) (i .inv .within) (c .loop-test .left) (i .inv .left))
+    sym (lines-none (reading (c .before .before)) (i .k) (i .inv .within) (c .loop-test .left) (i .inv .left))
 
 pub first-in-queue-spec : {M : Type 1} → statement M
 first-in-queue-spec =
@@ -129,13 +131,14 @@ first-in-queue-spec =
     add-routes
     mul-routes
     shared-slice-read-routes
-    (λ c κs. search needs)
+    routes-requires
     loop-holds
-    mul-o
-    array-read-o
+    (λ c. omega arith)
+    (λ c. omega arith)
+    (λ c κs. search needs)
     may-flow-requires
     returns-2
-    add-k
-    loop-less
+    (λ c. omega (arith, c .before .before .loop-test .taken))
+    (λ c. omega (arith, c .before .before .loop-test .taken))
     loop-again
     returns-3)

@@ -1,5 +1,5 @@
 -- `first::first_move` meets its contract. The loops' invariants: nothing was found, and what is left of the nodes, of a node's queues,
--- or of a queue's routes, is found. Assumes nothing.
+-- or of the lines of a head's routes, is found. Assumes nothing.
 use mathlib.Core.Path.{_≡_, sym, _∙_}
 use mathlib.Core.Bool.{true, false, true≢false}
 use mathlib.Core.Logic.{_⊎_, inl, inr, ⊎-elim}
@@ -11,18 +11,19 @@ use Rattle.network.specs.declared.Found.{Found}
 use Rattle.network.specs.Sizes.{shapeOf, nodes, queues}
 use Rattle.network.specs.Layout.{accepted, delivered}
 use Rattle.network.specs.Calls.{firstInQueue, firstMove}
+use Rattle.routes.specs.Lines.{lines}
 use Rattle.flow.specs.QueueOf.{QueueOf}
 use Rattle.flow.specs.HeldWords.{header, inside-at}
 use Rattle.network.specs.TorusLaws.{sizes-nodes}
-use Rattle.first.proofs.Searching.{Reading, AtRoute, AtQueue, AtNode, found-from-first, output-lt, route-on, route-found, route-none, end-at, queue-none, queues-begin, queue-next, queue-found, nodes-begin, node-next, node-found, nodes-none, nothing-held}
+use Rattle.first.proofs.Searching.{Reading, AtLine, AtQueue, AtNode, found-from-first, output-lt, line-none, line-refused, line-found, lines-none, end-at, queue-none, queues-begin, queue-next, queue-found, nodes-begin, node-next, node-found, nodes-none, nothing-held}
 use Rattle.first.proofs.first_move.Statement.{statement}
 use Rattle.first.proofs.first_move.Tie as tie
 
 abbrev Inv-loop2 : tie.InvT-loop2
-Inv-loop2 words s found₀ node₀ queue₀ output₀ start total n q outputs count k₀ found node queue output k = (found ≡ false) × AtRoute s words n q count k
+Inv-loop2 words s found₀ node₀ queue₀ output₀ start total n q outputs k₀ found node queue output k = (found ≡ false) × AtLine s words n q outputs k
 
 abbrev μ-loop2 : tie.MeasureT-loop2
-μ-loop2 words s found₀ node₀ queue₀ output₀ start total n q outputs count k₀ found node queue output k = count - k
+μ-loop2 words s found₀ node₀ queue₀ output₀ start total n q outputs k₀ found node queue output k = lines - k
 
 abbrev Inv-loop : tie.InvT-loop
 Inv-loop words s found₀ node₀ queue₀ output₀ start₀ total n q₀ found node queue output start q = AtQueue s words n found start q
@@ -107,43 +108,35 @@ mul-routes c = let f = c .before .before in omega (arith, two-words f, entry (f 
 shared-slice-read-routes : tie.Need-shared-slice-read-routes Inv-loop2 μ-loop2 Inv-loop μ-loop Inv-search μ-search
 shared-slice-read-routes c = two-words (c .before .before .before)
 
--- A queue's routes --------------------------------------------------------------------------------------------------------------------
+-- The lines of a head's routes ---------------------------------------------------------------------------------------------------------
 
 loop2-holds : tie.Need-loop2-holds Inv-loop2 μ-loop2 Inv-loop μ-loop Inv-search μ-search
-loop2-holds c =
-    let f = c .before .before .before .before .before in
-    let a = entry (f .before .before .before) .args in (
-      f .before .loop .inv .nothing,
-      record { within = omega arith; left = found-from-first (a .s) (a .words .now) (f .before .before .before .search .n) (f .before .loop .q) },
-    )
-
-mul-o : tie.Need-mul-o Inv-loop2 μ-loop2 Inv-loop μ-loop Inv-search μ-search
-mul-o c = omega (arith, c .loop2-test .taken, c .before .before .before .routes .ensures .few)
-
-array-read-o : tie.Need-array-read-o Inv-loop2 μ-loop2 Inv-loop μ-loop Inv-search μ-search
-array-read-o c = omega (arith, c .loop2-test .taken, c .before .before .before .routes .ensures .few)
+loop2-holds c = (c .before .before .before .before .before .loop .inv .nothing, record { within = omega arith; left = found-from-first (reading c) })
 
 flow-rules-requires : tie.Need-flow-rules-requires Inv-loop2 μ-loop2 Inv-loop μ-loop Inv-search μ-search
 flow-rules-requires c κs =
-    let k = reading (c .before .before .before) in
-    record { network = k .queue .network; node = k .queue .node; queue = output-lt k (c .before .loop2 .k) (c .loop2-test .taken) }
-
-add-k : tie.Need-add-k Inv-loop2 μ-loop2 Inv-loop μ-loop Inv-search μ-search
-add-k c =
     let f = c .before .before in
-    omega (arith, f .loop2-test .taken, f .before .before .before .routes .ensures .few)
-
-loop2-less : tie.Need-loop2-less Inv-loop2 μ-loop2 Inv-loop μ-loop Inv-search μ-search
-loop2-less c = omega (arith, c .before .before .loop2-test .taken)
+    let k = reading (f .before .before) in
+    record {
+      network = k .queue .network;
+      node = k .queue .node;
+      queue = output-lt k (f .before .loop2 .k) (f .loop2-test .taken) (sym (c .before .applies .ensures) ∙ c .if3 .taken);
+    }
 
 loop2-again : tie.Need-loop2-again Inv-loop2 μ-loop2 Inv-loop μ-loop Inv-search μ-search
 loop2-again c =
     let f = c .before .before in
-    let i = f .before .loop2 in (
+    let i = f .before .loop2 in
+    let k = reading (f .before .before) in (
       i .inv .0,
       record {
         within = omega (arith, f .loop2-test .taken);
-        left = route-on (reading (f .before .before .before)) (i .k) (f .loop2-test .taken) (λ z. c .if3 .left (c .before .flow-rules .ensures ∙ z)) (i .inv .1 .left);
+        left =
+            ⊎-elim
+            (λ w.
+            line-refused k (i .k) (f .loop2-test .taken) (sym (c .before .applies .ensures) ∙ w .0 .taken) (λ z. w .2 .left (w .1 .ensures ∙ z)) (i .inv .1 .left))
+            (λ w. line-none k (i .k) (f .loop2-test .taken) (sym (c .before .applies .ensures) ∙ w .left) (i .inv .1 .left))
+            (c .if3 .came);
       },
     )
 
@@ -157,10 +150,10 @@ nothing-in-queue c =
     let a = entry (f .before .before .before) .args in
     ⊎-elim
     (λ v. (
-      v .6 ∙ v .4 .inv .0,
-      route-none
+      v .5 ∙ v .3 .inv .0,
+      lines-none
           (reading (record { before = record { before = record { before = c .before; if2 = v .0 }; shared-slice-known5 = v .1 }; routes = v .2 }))
-          (v .4 .k) (v .4 .inv .1 .within) (v .5 .left) (v .4 .inv .1 .left),
+          (v .3 .k) (v .3 .inv .1 .within) (v .4 .left) (v .3 .inv .1 .left),
     ))
     (λ v. (
       v .1 ∙ f .before .loop .inv .nothing,
@@ -225,10 +218,10 @@ outcome c =
     (λ v. inl (v .1 ∙ i .nothing, nodes-none i (omega (arith, e, v .0 .left))))
     (λ v.
     inr (
-      v .12,
+      v .13,
       node-found i (node-lt (record { before = c .before; search-test = v .0 }))
           (queue-found (v .1 .inv) (v .2 .taken)
-          (route-found
+          (line-found
           (reading
           (record {
             before =
@@ -246,8 +239,8 @@ outcome c =
                 };
             routes = v .6;
           }))
-          (v .8 .k) (v .9 .taken) (sym (v .10 .ensures) ∙ v .11 .taken) (v .8 .inv .1 .left)))
-          ∙ same (sym (v .13)) (sym (v .14)) (sym (v .15)),
+          (v .7 .k) (v .8 .taken) (sym (v .9 .ensures) ∙ v .10 .taken) (sym (v .11 .ensures) ∙ v .12 .taken) (v .7 .inv .1 .left)))
+          ∙ same (sym (v .14)) (sym (v .15)) (sym (v .16)),
     ))
     (c .search-test .came)
   where
@@ -255,10 +248,10 @@ outcome c =
     same en eq eo = cc
 
 returns-2 : tie.Need-returns-2 Inv-loop2 μ-loop2 Inv-loop μ-loop Inv-search μ-search
-returns-2 c = ⊎-elim (λ v. absurd (true≢false (sym (c .if4 .taken) ∙ v .0))) (λ v. sym (v .1)) (outcome (c .before))
+returns-2 c = ⊎-elim (λ v. absurd (true≢false (sym (c .if5 .taken) ∙ v .0))) (λ v. sym (v .1)) (outcome (c .before))
 
 returns-3 : tie.Need-returns-3 Inv-loop2 μ-loop2 Inv-loop μ-loop Inv-search μ-search
-returns-3 c = ⊎-elim (λ v. sym (v .1)) (λ v. absurd (true≢false (sym (v .0) ∙ c .if4 .left))) (outcome (c .before))
+returns-3 c = ⊎-elim (λ v. sym (v .1)) (λ v. absurd (true≢false (sym (v .0) ∙ c .if5 .left))) (outcome (c .before))
 
 pub first-move-spec : {M : Type 1} → statement M
 first-move-spec =
@@ -283,11 +276,12 @@ first-move-spec =
     shared-slice-read-routes
     (λ c κs. search needs)
     loop2-holds
-    mul-o
-    array-read-o
+    (λ c. omega arith)
+    (λ c. omega arith)
+    (λ c κs. search needs)
     flow-rules-requires
-    add-k
-    loop2-less
+    (λ c. omega (arith, c .before .before .loop2-test .taken))
+    (λ c. omega (arith, c .before .before .loop2-test .taken))
     loop2-again
     (λ c κs. search needs)
     add-start

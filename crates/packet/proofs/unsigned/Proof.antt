@@ -5,7 +5,7 @@ use native.Mathlib.Omega.{arith}
 use lib.IntN.{natAbs}
 use borrow.Author.Needs.{needs}
 use Rattle.network.specs.Packet.{offsetValues}
-use Rattle.packet.proofs.Numbers.{back, natAbs-most, minus-of, plus-of}
+use Rattle.packet.proofs.Numbers.{back, natAbs-most, field-minus, field-plus}
 use Rattle.packet.proofs.unsigned.Statement.{statement}
 use Rattle.packet.proofs.unsigned.Tie as tie
 
@@ -19,13 +19,13 @@ sub-result c =
 returns : tie.Need-returns
 returns c =
     ap (λ (n : ℕ). offsetValues - n) (c .nat-abs .ensures ∙ ap natAbs (back refl (c .before .before .pre)))
-    ∙ sym (minus-of refl (c .before .before .pre) (c .before .if1 .taken) .unsigned-is)
+    ∙ sym (field-minus (c .before .before .pre) (c .before .if1 .taken))
 
 returns-2 : tie.Need-returns-2
 returns-2 c =
     c .nat-abs2 .ensures
     ∙ ap natAbs (back refl (c .before .before .pre))
-    ∙ sym (plus-of refl (c .before .before .pre) (c .before .if1 .left) .unsigned-is)
+    ∙ sym (field-plus (c .before .before .pre) (c .before .if1 .left))
 
 pub unsigned-spec : {M : Type 1} → statement M
 unsigned-spec = tie.close (tie.spec (λ c κs. search needs) sub-result (λ c κs. search needs) returns returns-2)
