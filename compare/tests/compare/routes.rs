@@ -1,5 +1,6 @@
 //! The table of routes in docs/RULES.md (R149), read from that page and held
-//! to every implementation: which outputs a head has, and in which order.
+//! to every implementation: which outputs a head has, and in which order. All
+//! of its cells, in every queue in which the check lets such a head stand.
 
 use crate::kept::{make, move_call, put};
 use compare::bench::Call;

@@ -1,5 +1,5 @@
--- Tests over ranges and lists, as Booleans that compute, and the laws that turn a test into a fact and back.
--- Order: below n; for some below n; of every element; of a list's members. Assumes nothing.
+-- Tests over ranges and lists, as Booleans that compute, and the laws that turn a test into a fact and back; and a fact for each number of a range.
+-- Order: below n; facts below n; for some below n; of every element; of a list's members. Assumes nothing.
 use mathlib.Core.Path.{_≡_, refl, subst}
 use mathlib.Core.Bool.{Bool, true, false, not, _&&_, _||_}
 use mathlib.Core.List.{List, [], _∷_, _++_}

@@ -80,13 +80,13 @@ pub fn first_in_queue(words: &[u64], s: Sizes, near: &[u16], n: u64, q: u64) -> 
     }
     let outputs = routes(q, words[start + 1]);
     for k in 0..LINES {
-        let o = outputs[k as usize];
-        if applies(k, o) {
-            if may_flow(words, s, near, n, q, o) {
+        let output = outputs[k as usize];
+        if applies(k, output) {
+            if may_flow(words, s, near, n, q, output) {
                 return Found::Move {
                     node: n,
                     queue: q,
-                    output: o,
+                    output,
                 };
             }
         }

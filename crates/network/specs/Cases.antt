@@ -132,8 +132,8 @@ abbrev in-every-queue : List ℕ
 in-every-queue = inEach (empty 2 2 2 1 1) (here 0) (inOrder 0 queues)
 
 -- the table of R149: packets with each pair of signs, by the largest and the least number that the field of an offset holds
-abbrev signs : List ℕ
-signs =
+abbrev heads-by-sign : List ℕ
+heads-by-sign =
     packet 0 (pos 0) (pos 0)
     ∷ packet 0 (pos 127) (pos 0)
     ∷ packet 0 (negsuc 127) (pos 0)
@@ -340,7 +340,7 @@ pub record KeptCases : Type 0 where
   pub k12-fits-every : (w : List ℕ) (n q p : ℕ) → T (sizesInRange (shape w)) → n < nodes (shape w) → hopsLeft p ≡ 0 → destination p ≡ n
       → packetFits (shape w) n q p ≡ (eqb q injectionQueue || leb 2 (size (shape w) (dimensionOf (directionOf q))))
   -- R149, the table of routes: for queues 0 to 8 the column that holds there
-  pub routes-table : map (λ q. map (routes q) signs) (inOrder 0 queues)
+  pub routes-table : map (λ q. map (routes q) heads-by-sign) (inOrder 0 queues)
       ≡ x-column ∷ x-column ∷ x-column ∷ y-column ∷ y-column ∷ x-column ∷ x-column ∷ y-column ∷ y-column ∷ []
   -- any head in any queue: its routes are what Selection.antt gives case by case
   pub routes-every : (q p : ℕ) → q < queues → selected q p ≡ routes q p

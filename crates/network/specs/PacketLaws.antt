@@ -343,11 +343,11 @@ hops-le d p = go (ℕ-discrete (d % 2) 0)
 
 -- The direction in which a packet goes on ---------------------------------------------------------------------------------------------
 
-pub heading-plus : (i p : ℕ) → backward (offset i p) ≡ 0 → heading i p ≡ plus i
+heading-plus : (i p : ℕ) → backward (offset i p) ≡ 0 → heading i p ≡ plus i
 unfolding heading
 heading-plus i p e = chosen (eqb (backward (offset i p)) 0) (plus i) (minus i) (eq-eqb (backward (offset i p)) 0 e)
 
-pub heading-minus : (i p : ℕ) → backward (offset i p) ≢ 0 → heading i p ≡ minus i
+heading-minus : (i p : ℕ) → backward (offset i p) ≢ 0 → heading i p ≡ minus i
 unfolding heading
 heading-minus i p ne = passed-over (eqb (backward (offset i p)) 0) (plus i) (minus i) (ne-eqb (backward (offset i p)) 0 ne)
 

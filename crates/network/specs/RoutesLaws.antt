@@ -174,7 +174,7 @@ incomingFirst-below q h j t = go (or-e (eqb j (incoming q)) (elem j (without (in
     go (inr s) = inOrder-below 0 dimensions j (without-elem (incoming q) j (inOrder 0 dimensions) s)
 
 -- incoming is a dimension
-pub incoming-lt : (q : ℕ) → incoming q < dimensions
+incoming-lt : (q : ℕ) → incoming q < dimensions
 unfolding incoming
 incoming-lt q = go (eqb q 0)
   where

@@ -3,8 +3,9 @@
 --   line 1 of the list  the adaptive queue along the incoming dimension: what `inTurn` has first in the row of the head's queue number
 --   line 2              the adaptive queue along the other dimension: what it has second there
 --                       (which queue that is, by the sign of the offset, or none where the offset is 0: `adaptiveX`, `adaptiveY`)
---   line 3              the escape queue of x, and where dx is 0 that of y: the first four cases of `lastCase`
---   none of them        a head that has arrived is delivered (R141): the last case of `lastCase`
+--   line 3              the escape queue of x, and where dx is 0 that of y: all of `lastCase` but its last row
+--   not in the list     a head that has arrived is delivered (R141): the last row of `lastCase`
+-- The paper's first dimension, of which its line 3 speaks, is x, and its second y.
 -- Order: the sign of an offset; lines 1 and 2; line 3; the list. The numbers are those of queues and so of outputs (R32 to R34, R107). Assumes nothing.
 use mathlib.Core.List.{List, [], _∷_, _++_}
 use Prim.Native.Nat.{ℕ, zero, suc}
@@ -13,13 +14,13 @@ use lib.ListN.{getD}
 use Rattle.network.specs.declared.Sign.{Sign}
 use Rattle.network.specs.Packet.{offset}
 
--- R145
+-- R145: above 0, below 0, or neither
 abbrev pub sign : ℤ → Sign
 sign (pos (suc n)) = Sign.Plus
 sign (negsuc n) = Sign.Minus
 sign (pos zero) = Sign.Zero
 
--- lines 1 and 2: the adaptive queue along x, of x+ or of x−
+-- R142, R143, lines 1 and 2: the adaptive queue along x, of x+ or of x−
 abbrev pub adaptiveX : Sign → List ℕ
 adaptiveX Sign.Plus = 1 ∷ []
 adaptiveX Sign.Minus = 2 ∷ []
@@ -31,8 +32,8 @@ adaptiveY Sign.Plus = 3 ∷ []
 adaptiveY Sign.Minus = 4 ∷ []
 adaptiveY Sign.Zero = []
 
--- lines 1 and 2: which of them is line 1, a row for each queue number: x for a head that came along x, y for one that came along y, and x in the
--- injection queue (R146, R147)
+-- R146, R147, lines 1 and 2: along which dimension line 1 is, a row for each queue number: x for a head that came along x, y for one that came along
+-- y, and x in the injection queue
 unfoldable pub inTurn : ℕ → List ℕ → List ℕ → List ℕ
 inTurn q x y =
     getD
@@ -49,7 +50,7 @@ inTurn q x y =
     q
     []
 
--- line 3, the escape queues of x+, x−, y+, y−, by the signs of dx and dy; and the delivery
+-- R144, line 3: the escape queues of x+, x−, y+, y−, by the signs of dx and dy; and R141, the delivery
 abbrev pub lastCase : Sign → Sign → ℕ
 lastCase Sign.Plus dy = 5
 lastCase Sign.Minus dy = 6
@@ -57,7 +58,7 @@ lastCase Sign.Zero Sign.Plus = 7
 lastCase Sign.Zero Sign.Minus = 8
 lastCase Sign.Zero Sign.Zero = 0
 
--- the list, from its first line to its last
+-- R148: the list, from its first line to its last
 unfoldable pub selection : ℕ → Sign → Sign → List ℕ
 selection q dx dy = inTurn q (adaptiveX dx) (adaptiveY dy) ++ (lastCase dx dy ∷ [])
 

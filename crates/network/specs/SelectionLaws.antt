@@ -33,7 +33,7 @@ above-zero : (n : ℕ) → eqb (suc n) 0 ≡ false
 above-zero n = ne-eqb (suc n) 0 (λ e. omega arith)
 
 headings-by : (i : ℕ) (is : List ℕ) (p : ℕ) → headings (i ∷ is) p ≡ ways i (sign (offset i p)) ++ headings is p
-unfolding headings distance heading backward sign ways
+unfolding headings distance heading backward ways
 headings-by i is p = go (offset i p)
   where
     go : (z : ℤ)
@@ -44,7 +44,7 @@ headings-by i is p = go (offset i p)
 
 -- no hop is left exactly where the sign is Zero
 zero-done : (i p : ℕ) → sign (offset i p) ≡ Sign.Zero → distance i p ≡ 0
-unfolding distance sign
+unfolding distance
 zero-done i p e = go (offset i p) e
   where
     go : (z : ℤ) → sign z ≡ Sign.Zero → natAbs z ≡ 0
@@ -53,7 +53,7 @@ zero-done i p e = go (offset i p) e
     go (negsuc n) e = cc
 
 done-zero : (i p : ℕ) → distance i p ≡ 0 → sign (offset i p) ≡ Sign.Zero
-unfolding distance sign
+unfolding distance
 done-zero i p e = go (offset i p) e
   where
     go : (z : ℤ) → natAbs z ≡ 0 → sign z ≡ Sign.Zero
@@ -70,11 +70,9 @@ record Along (i : ℕ) (cases : Sign → List ℕ) : Type 0 where
   at-zero : cases Sign.Zero ≡ []
 
 along-x : Along 0 adaptiveX
-unfolding adaptiveX
 along-x = record { at-plus = refl; at-minus = refl; at-zero = refl }
 
 along-y : Along 1 adaptiveY
-unfolding adaptiveY
 along-y = record { at-plus = refl; at-minus = refl; at-zero = refl }
 
 adaptive-by : {i : ℕ} {cases : Sign → List ℕ} → Along i cases → (s : Sign) → map adaptiveQueue (ways i s) ≡ cases s
@@ -124,7 +122,7 @@ escapes p =
     (headings-by 0 (1 ∷ []) p ∙ ap (λ (ds : List ℕ). ways 0 (sign (offset 0 p)) ++ ds) (headings-by 1 [] p))
 
 escape-case : (dx dy : Sign) → (dx ≡ Sign.Zero → dy ≢ Sign.Zero) → map escapeQueue (take 1 (ways 0 dx ++ (ways 1 dy ++ []))) ≡ lastCase dx dy ∷ []
-unfolding ways lastCase
+unfolding ways
 escape-case Sign.Plus dy some = refl
 escape-case Sign.Minus dy some = refl
 escape-case Sign.Zero Sign.Plus some = refl
@@ -133,7 +131,7 @@ escape-case Sign.Zero Sign.Zero some = absurd (some refl refl)
 
 -- with both Zero, lines 1 and 2 have no case and the last one delivers
 delivery-case : (q : ℕ) → q < queues → selection q Sign.Zero Sign.Zero ≡ deliver ∷ []
-unfolding selection inTurn adaptiveX adaptiveY lastCase EachBelow
+unfolding selection inTurn EachBelow
 delivery-case q h =
     each-at (λ (q : ℕ). selection q Sign.Zero Sign.Zero ≡ deliver ∷ []) queues (((((((((tt, refl), refl), refl), refl), refl), refl), refl), refl), refl) q h
 

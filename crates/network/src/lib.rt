@@ -1,6 +1,6 @@
-// What all crates share: the sizes of a network, every number that a rule of docs/RULES.md fixes (R5 in a comment is that clause), and
-// the answers of the calls. specs/ has the definitions: Sizes.antt, Layout.antt, Check.antt and Refusals.antt those of the numbers, under
-// the same names, and Calls.antt when a call gives which answer.
+// What all crates share: the sizes of a network, every number that a rule of docs/RULES.md fixes (R5 in a comment is that clause), the
+// sign of an offset, and the answers of the calls. specs/ has the definitions: Sizes.antt, Layout.antt, Check.antt and Refusals.antt those
+// of the numbers, under the same names, Selection.antt what follows from a sign, and Calls.antt when a call gives which answer.
 
 // R20, R25: columns and rows, and the slots of a queue of each kind: the sizes of a network, in the order of its first words.
 pub struct Sizes {
@@ -49,18 +49,18 @@ pub const DESTINATION_AT: u64 = 65536;
 
 pub const TAG_AT: u64 = 4294967296;
 
-// R82: the largest number of packets accepted, 2^32 - 1.
-pub const MOST_ACCEPTED: u64 = 4294967295;
-
-// R85: the most work that a packet starts with, 8 hops in each dimension and its delivery.
-pub const MOST_WORK: u64 = 17;
-
 // R145: the sign of an offset: hops left in the plus direction of its dimension, in the minus direction, or none.
 pub enum Sign {
     Plus,
     Minus,
     Zero,
 }
+
+// R82: the largest number of packets accepted, 2^32 - 1.
+pub const MOST_ACCEPTED: u64 = 4294967295;
+
+// R85: the most work that a packet starts with, 8 hops in each dimension and its delivery.
+pub const MOST_WORK: u64 = 17;
 
 // The numbers of the refusals.
 

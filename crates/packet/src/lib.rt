@@ -103,7 +103,7 @@ pub fn with_offset(i: u64, z: i64, p: u64) -> u64
 
 // Hops left -----------------------------------------------------------------------------------------------------------------
 
-pub fn distance(i: u64, p: u64) -> u64
+fn distance(i: u64, p: u64) -> u64
     requires { ⌜ i < dimensions ⌝ }
     ensures { λ r. ⌜ r ≡ distance i p ⌝ }
 {

@@ -48,13 +48,13 @@ y-first q (inr (l, h)) x y = each-from (λ (q : ℕ). y ++ x ≡ inTurn q x y) 7
 
 -- The routes --------------------------------------------------------------------------------------------------------------------------
 
--- what the code has found of the head p
-pub record Found (p x y last : ℕ) : Type 0 where
+-- what the code has decided of the head p by its signs
+pub record Decided (p x y last : ℕ) : Type 0 where
   pub x-is : unlessZero x ≡ adaptiveX (sign (offset 0 p))
   pub y-is : unlessZero y ≡ adaptiveY (sign (offset 1 p))
   pub last-is : last ≡ lastCase (sign (offset 0 p)) (sign (offset 1 p))
 
-module _ {q p x y last : ℕ} (h : q < queues) (f : Found p x y last) where
+module _ {q p x y last : ℕ} (h : q < queues) (f : Decided p x y last) where
   answer : (first second : ℕ)
       → unlessZero first ++ unlessZero second ≡ inTurn q (adaptiveX (sign (offset 0 p))) (adaptiveY (sign (offset 1 p)))
       → AreRoutes q p (first ∷ second ∷ last ∷ [])

@@ -1,6 +1,7 @@
 // The routes of a head (R140 to R149), decided case by case, line after line of the paper's selection list: by the number of its queue and the
-// signs of its offsets. The cases are those of the crate `network` (specs/Selection.antt), under the same names; what they give together is
-// proved to be `routes` (specs/Routes.antt there).
+// signs of its offsets. The cases are those of the crate `network` (specs/Selection.antt): `adaptive_x`, `adaptive_y` and `last_case` under the
+// same names, and `inTurn` as the match in `routes`. What they give together is proved to be `routes` (specs/Routes.antt there).
+use network::DIMENSIONS;
 use network::Sign;
 use packet::sign;
 ghost use mathlib.Core.Path.{_≡_};
@@ -11,12 +12,13 @@ ghost use Rattle.network.specs.Routes.{routes};
 ghost use Rattle.network.specs.Selection.{adaptiveX, adaptiveY, lastCase};
 ghost use Rattle.routes.specs.Lines.{unlessZero, applies, AreRoutes};
 
-// The lines of the selection list, and the last of them.
-pub const LINES: u64 = 3;
+// How many lines the selection list has, one for each dimension and the last, and the number of the last. The code counts them from 0: the
+// paper's line 1 has number 0.
+pub const LINES: u64 = DIMENSIONS + 1;
 
-pub const LAST_LINE: u64 = 2;
+const LAST_LINE: u64 = DIMENSIONS;
 
-// Lines 1 and 2: the adaptive queue along x, or 0 where no hop is left there.
+// The paper's lines 1 and 2: the adaptive queue along x, or 0 where no hop is left there.
 fn adaptive_x(dx: Sign) -> u64
     ensures { λ r. ⌜ unlessZero r ≡ adaptiveX dx ⌝ }
 {
@@ -38,7 +40,7 @@ fn adaptive_y(dy: Sign) -> u64
     }
 }
 
-// Line 3: the escape queue of x, and that of y only where no hop is left along x. A head that has arrived is delivered.
+// The paper's line 3: the escape queue of x, and that of y only where no hop is left along x. A head that has arrived is delivered.
 fn last_case(dx: Sign, dy: Sign) -> u64
     ensures { λ r. ⌜ r ≡ lastCase dx dy ⌝ }
 {
@@ -55,7 +57,7 @@ fn last_case(dx: Sign, dy: Sign) -> u64
 
 // What each line gives of the head p of queue q, in their order. The number of the queue says which dimension is the incoming one and comes
 // first; for the injection queue that is x.
-pub fn routes(q: u64, p: u64) -> [u64; 3]
+pub fn routes(q: u64, p: u64) -> [u64; LINES as usize]
     requires { ⌜ q < queues ⌝ }
     ensures { λ r. ⌜ AreRoutes q p r ⌝ }
 {
@@ -67,11 +69,13 @@ pub fn routes(q: u64, p: u64) -> [u64; 3]
     match q {
         0 | 1 | 2 | 5 | 6 => [x, y, last],
         3 | 4 | 7 | 8 => [y, x, last],
+        // no queue has another number
         _ => [0, 0, last],
     }
 }
 
-// Whether o is an output that line k gives. The last line always gives one: 0 is the delivery there, and none in the lines before.
+// Whether line k applies, o being the number in its place. The last line always does, and there 0 is the delivery; in the lines before it 0
+// says that the line gives no output.
 pub fn applies(k: u64, o: u64) -> bool
     ensures { λ r. ⌜ r ≡ applies k o ⌝ }
 {

@@ -9,7 +9,7 @@ use borrow.Author.Needs.{needs}
 use lib.ListN.{drop, length}
 use Rattle.base.specs.Tests.{elem}
 use Rattle.network.specs.Routes.{routes}
-use Rattle.routes.specs.Lines.{lines, applies, outputsFrom, AreRoutes}
+use Rattle.routes.specs.Lines.{lines, outputsFrom, AreRoutes}
 use Rattle.routes.proofs.Laws.{elem-here, elem-passed, elem-other, elem-end}
 use Rattle.routes.proofs.is_route.Statement.{statement}
 use Rattle.routes.proofs.is_route.Tie as tie

@@ -6,12 +6,12 @@ use native.Mathlib.Omega.{arith}
 use borrow.Author.Needs.{needs}
 use Rattle.network.specs.Sizes.{queues}
 use Rattle.network.specs.Selection.{adaptiveX, adaptiveY, lastCase}
-use Rattle.routes.proofs.Laws.{Found, by-x-first, by-y-first}
+use Rattle.routes.proofs.Laws.{Decided, by-x-first, by-y-first}
 use Rattle.routes.proofs.routes.Statement.{statement}
 use Rattle.routes.proofs.routes.Tie as tie
 
-found : (c : tie.After-last-case) → Found (c .before .before .before .before .before .args .p) (c .before .before .adaptive-x .result) (c .before .adaptive-y .result) (c .last-case .result)
-found c =
+decided : (c : tie.After-last-case) → Decided (c .before .before .before .before .before .args .p) (c .before .before .adaptive-x .result) (c .before .adaptive-y .result) (c .last-case .result)
+decided c =
     let dx = c .before .before .before .before .sign .ensures in
     let dy = c .before .before .before .sign2 .ensures in
     record {
@@ -33,23 +33,23 @@ returns c =
 returns-2 : tie.Need-returns-2
 returns-2 c =
     let k = c .before .before in
-    by-y-first (k .before .before .before .before .before .pre) (found k) (inl (c .before .if1 .left, c .if2 .taken))
+    by-y-first (k .before .before .before .before .before .pre) (decided k) (inl (c .before .if1 .left, c .if2 .taken))
 
 -- queues 7 and 8
 returns-3 : tie.Need-returns-3
 returns-3 c =
     let k = c .before .before .before .before in
-    by-y-first (k .before .before .before .before .before .pre) (found k) (inr (c .before .if3 .left, c .if4 .taken))
+    by-y-first (k .before .before .before .before .before .pre) (decided k) (inr (c .before .if3 .left, c .if4 .taken))
 
 -- queues 0, 1 and 2
 returns-4 : tie.Need-returns-4
-returns-4 c = let k = c .before in by-x-first (k .before .before .before .before .before .pre) (found k) (inl (c .if1 .taken))
+returns-4 c = let k = c .before in by-x-first (k .before .before .before .before .before .pre) (decided k) (inl (c .if1 .taken))
 
 -- queues 5 and 6
 returns-5 : tie.Need-returns-5
 returns-5 c =
     let k = c .before .before .before in
-    by-x-first (k .before .before .before .before .before .pre) (found k) (inr (c .before .if2 .left, c .if3 .taken))
+    by-x-first (k .before .before .before .before .before .pre) (decided k) (inr (c .before .if2 .left, c .if3 .taken))
 
 pub routes-spec : {M : Type 1} → statement M
 routes-spec =
