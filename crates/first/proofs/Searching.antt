@@ -30,7 +30,7 @@ use Rattle.network.specs.Calls.{firstOutput, firstInQueue, orElse, search, firs
 use Rattle.network.specs.FirstLaws.{Finds, nothing, named, first-finds}
 use Rattle.network.specs.declared.Sizes.{Sizes}
 use Rattle.queue.specs.QueueLaws.{checked-fits}
-use Rattle.routes.specs.Lines.{lines, applies, outputsFrom, AreRoutes}
+use Rattle.routes.specs.Lines.{lines, applies, outputsFrom}
 use Rattle.routes.specs.LinesLaws.{line-taken, line-passed, lines-end, line-member}
 use Rattle.flow.specs.QueueOf.{QueueOf}
 use Rattle.flow.specs.HeldWords.{queue-checked, count-at, head-at}
@@ -113,7 +113,8 @@ pub record Reading (s : Sizes) (w : List ℕ) (n q start : ℕ) (r : List ℕ) :
   pub queue : QueueOf (shapeOf s) w n q
   pub at : start ≡ queueStart (shapeOf s) n q
   pub some : getD w start 0 ≢ 0
-  pub are : AreRoutes q (getD w (start + 1) 0) r
+  pub each : length r ≡ lines
+  pub these : outputsFrom 0 r ≡ routes q (getD w (start + 1) 0)
 
 -- what First finds by line j and those behind it is what it finds
 abbrev pub FoundFrom : Sizes → List ℕ → ℕ → ℕ → List ℕ → ℕ → Type 0
@@ -123,16 +124,16 @@ module _ {s : Sizes} {w : List ℕ} {n q start : ℕ} {r : List ℕ} (k : Readin
   holds : length (held (shapeOf s) w n q) ≢ 0
   holds z = k .some (count-at s w n q (k .queue) start (k .at) ∙ z)
 
-  lines-are : AreRoutes q (head (held (shapeOf s) w n q)) r
+  lines-are : outputsFrom 0 r ≡ routes q (head (held (shapeOf s) w n q))
   lines-are =
       let some : 0 < length (held (shapeOf s) w n q) = pos-of-ne-zero holds in
-      subst (λ (p : ℕ). AreRoutes q p r) (head-at s w n q (k .queue) start (k .at) some) (k .are)
+      k .these ∙ ap (routes q) (head-at s w n q (k .queue) start (k .at) some)
 
   among : (j : ℕ) → j < lines → j < length r
-  among j h = let e = k .are .each in omega arith
+  among j h = let e = k .each in omega arith
 
   is-route : (j : ℕ) → j < lines → applies j (getD r j 0) ≡ true → T (elem (getD r j 0) (routes q (head (held (shapeOf s) w n q))))
-  is-route j h a = subst (λ (os : List ℕ). T (elem (getD r j 0) os)) (lines-are .these) (line-member r j (among j h) a)
+  is-route j h a = subst (λ (os : List ℕ). T (elem (getD r j 0) os)) lines-are (line-member r j (among j h) a)
 
   pub output-lt : (j : ℕ) → j < lines → applies j (getD r j 0) ≡ true → getD r j 0 < queues
   output-lt j h a = route-lt q (head (held (shapeOf s) w n q)) (getD r j 0) (is-route j h a)
@@ -140,7 +141,7 @@ module _ {s : Sizes} {w : List ℕ} {n q start : ℕ} {r : List ℕ} (k : Readin
   -- before the first line
   pub found-from-first : FoundFrom s w n q r 0
   unfolding firstInQueue
-  found-from-first = ap (firstOutput (shapeOf s) w n q) (lines-are .these)
+  found-from-first = ap (firstOutput (shapeOf s) w n q) lines-are
 
   -- the next line, where this one gives nothing or the flow rule refuses what it gives; the move, where it lets it pass; and nothing, where no
   -- line is left
@@ -166,7 +167,7 @@ module _ {s : Sizes} {w : List ℕ} {n q start : ℕ} {r : List ℕ} (k : Readin
   pub lines-none : (j : ℕ) → j ≤ lines → lines ≤ j → FoundFrom s w n q r j → firstInQueue (shapeOf s) w n q ≡ Found.Nothing
   lines-none j h l inv =
       sym inv
-      ∙ ap (firstOutput (shapeOf s) w n q) (lines-end r j (let e = k .are .each in omega arith))
+      ∙ ap (firstOutput (shapeOf s) w n q) (lines-end r j (let e = k .each in omega arith))
       ∙ output-end (shapeOf s) w n q
 
 -- a queue's words end among those lent

@@ -11,9 +11,10 @@ use lib.ListN.{length, getD, drop}
 use Rattle.base.specs.Tests.{elem, EachBelow, each-at, each-from}
 use Rattle.network.specs.Sizes.{queues}
 use Rattle.network.specs.Packet.{offset}
+use Rattle.network.specs.Routes.{routes}
 use Rattle.network.specs.Selection.{sign, adaptiveX, adaptiveY, inTurn, lastCase, selection, selected}
 use Rattle.network.specs.SelectionLaws.{selection-routes}
-use Rattle.routes.specs.Lines.{lastLine, applies, outputsFrom, unlessZero, AreRoutes}
+use Rattle.routes.specs.Lines.{lastLine, applies, outputsFrom, unlessZero}
 use Rattle.routes.specs.LinesLaws.{line-taken, line-passed, lines-end}
 
 -- What three lines give ---------------------------------------------------------------------------------------------------------------
@@ -57,19 +58,16 @@ pub record Decided (p x y last : ℕ) : Type 0 where
 module _ {q p x y last : ℕ} (h : q < queues) (f : Decided p x y last) where
   answer : (first second : ℕ)
       → unlessZero first ++ unlessZero second ≡ inTurn q (adaptiveX (sign (offset 0 p))) (adaptiveY (sign (offset 1 p)))
-      → AreRoutes q p (first ∷ second ∷ last ∷ [])
+      → outputsFrom 0 (first ∷ second ∷ last ∷ []) ≡ routes q p
   unfolding selection selected
-  answer first second e = record {
-    each = refl;
-    these = three-lines first second last ∙ ap₂ (λ (l : List ℕ) (o : ℕ). l ++ (o ∷ [])) e (f .last-is) ∙ selection-routes q p h;
-  }
+  answer first second e = three-lines first second last ∙ ap₂ (λ (l : List ℕ) (o : ℕ). l ++ (o ∷ [])) e (f .last-is) ∙ selection-routes q p h
 
-  pub by-x-first : (q < 3) ⊎ ((5 ≤ q) × (q < 7)) → AreRoutes q p (x ∷ y ∷ last ∷ [])
+  pub by-x-first : (q < 3) ⊎ ((5 ≤ q) × (q < 7)) → outputsFrom 0 (x ∷ y ∷ last ∷ []) ≡ routes q p
   by-x-first row =
       answer x y
       (ap₂ (λ (a b : List ℕ). a ++ b) (f .x-is) (f .y-is) ∙ x-first q row (adaptiveX (sign (offset 0 p))) (adaptiveY (sign (offset 1 p))))
 
-  pub by-y-first : ((3 ≤ q) × (q < 5)) ⊎ ((7 ≤ q) × (q < 9)) → AreRoutes q p (y ∷ x ∷ last ∷ [])
+  pub by-y-first : ((3 ≤ q) × (q < 5)) ⊎ ((7 ≤ q) × (q < 9)) → outputsFrom 0 (y ∷ x ∷ last ∷ []) ≡ routes q p
   by-y-first row =
       answer y x
       (ap₂ (λ (a b : List ℕ). a ++ b) (f .y-is) (f .x-is) ∙ y-first q row (adaptiveX (sign (offset 0 p))) (adaptiveY (sign (offset 1 p))))

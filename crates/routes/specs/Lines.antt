@@ -1,13 +1,10 @@
 -- What the lines of the selection list give, as the code has it: a number in the place of each line, in their order. In that of the last line it is
--- always an output; in those before it 0 says that the line gives none. Order: the lines; which of them apply; the routes. Assumes nothing.
-use mathlib.Core.Path.{_≡_}
+-- always an output; in those before it 0 says that the line gives none. Order: the lines; which of them apply; what they give. Assumes nothing.
 use mathlib.Core.Bool.{Bool, cond, not, _||_}
 use mathlib.Core.List.{List, [], _∷_}
 use Prim.Native.Nat.{ℕ, suc}
 use lib.Dec.{eqb}
-use lib.ListN.{length}
 use Rattle.network.specs.Sizes.{dimensions}
-use Rattle.network.specs.Routes.{routes}
 
 -- one for each dimension and the last, counted from 0: the paper's line 1 has number 0
 abbrev pub lines : ℕ
@@ -28,8 +25,3 @@ outputsFrom k (o ∷ os) = cond (applies k o) (o ∷ outputsFrom (suc k) os) (ou
 -- and what a line before the last gives by itself, by the number in its place
 abbrev pub unlessZero : ℕ → List ℕ
 unlessZero o = cond (eqb o 0) [] (o ∷ [])
-
--- the lines give the routes of the head p of queue q, in their order
-pub record AreRoutes (q p : ℕ) (r : List ℕ) : Type 0 where
-  pub each : length r ≡ lines
-  pub these : outputsFrom 0 r ≡ routes q p

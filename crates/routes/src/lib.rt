@@ -6,11 +6,12 @@ use network::Sign;
 use packet::sign;
 ghost use mathlib.Core.Path.{_≡_};
 ghost use Prim.Native.Nat.{_<_};
+ghost use lib.ListN.{length};
 ghost use Rattle.base.specs.Tests.{elem};
 ghost use Rattle.network.specs.Sizes.{queues};
 ghost use Rattle.network.specs.Routes.{routes};
 ghost use Rattle.network.specs.Selection.{adaptiveX, adaptiveY, lastCase};
-ghost use Rattle.routes.specs.Lines.{unlessZero, applies, AreRoutes};
+ghost use Rattle.routes.specs.Lines.{lines, applies, outputsFrom, unlessZero};
 
 // How many lines the selection list has, one for each dimension and the last, and the number of the last. The code counts them from 0: the
 // paper's line 1 has number 0.
@@ -59,7 +60,8 @@ fn last_case(dx: Sign, dy: Sign) -> u64
 // first; for the injection queue that is x.
 pub fn routes(q: u64, p: u64) -> [u64; LINES as usize]
     requires { ⌜ q < queues ⌝ }
-    ensures { λ r. ⌜ AreRoutes q p r ⌝ }
+    ensures each { λ r. ⌜ length r ≡ lines ⌝ }
+    ensures these { λ r. ⌜ outputsFrom 0 r ≡ routes q p ⌝ }
 {
     let dx = sign(0, p);
     let dy = sign(1, p);

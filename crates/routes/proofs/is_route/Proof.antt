@@ -9,7 +9,7 @@ use borrow.Author.Needs.{needs}
 use lib.ListN.{drop, length}
 use Rattle.base.specs.Tests.{elem}
 use Rattle.network.specs.Routes.{routes}
-use Rattle.routes.specs.Lines.{lines, outputsFrom, AreRoutes}
+use Rattle.routes.specs.Lines.{lines, outputsFrom}
 use Rattle.routes.proofs.Laws.{elem-here, elem-passed, elem-other, elem-end}
 use Rattle.routes.proofs.is_route.Statement.{statement}
 use Rattle.routes.proofs.is_route.Tie as tie
@@ -20,27 +20,27 @@ Inv-loop q p o outputs k₀ k = (k ≤ lines) × (elem o (outputsFrom k (drop k 
 abbrev μ-loop : tie.MeasureT-loop
 μ-loop q p o outputs k₀ k = lines - k
 
-within : {q p k : ℕ} {r : List ℕ} → AreRoutes q p r → k < lines → k < length r
-within {k = k} {r} a h = let e = a .each in omega arith
+within : {k : ℕ} (r : List ℕ) → length r ≡ lines → k < lines → k < length r
+within r e h = omega arith
 
-ended : {q p k : ℕ} {r : List ℕ} → AreRoutes q p r → k ≤ lines → lines ≤ k → k ≡ length r
-ended {k = k} {r} a h l = let e = a .each in omega arith
+ended : {k : ℕ} (r : List ℕ) → length r ≡ lines → k ≤ lines → lines ≤ k → k ≡ length r
+ended r e h l = omega arith
 
 loop-holds : tie.Need-loop-holds Inv-loop μ-loop
-loop-holds c = (omega arith, ap (elem (c .before .args .o)) (c .routes .ensures .these))
+loop-holds c = (omega arith, ap (elem (c .before .args .o)) (c .routes .ensures .1))
 
 returns : tie.Need-returns Inv-loop μ-loop
 returns c =
     let f = c .before .before .before in
     let r = f .before .before in
-    sym (elem-here (r .before .args .o) (r .routes .result) (f .before .loop .k) (within (r .routes .ensures) (f .loop-test .taken)) (c .before .before .if1 .taken) (sym (c .before .applies .ensures) ∙ c .if2 .taken))
+    sym (elem-here (r .before .args .o) (r .routes .result) (f .before .loop .k) (within (r .routes .result) (r .routes .ensures .0) (f .loop-test .taken)) (c .before .before .if1 .taken) (sym (c .before .applies .ensures) ∙ c .if2 .taken))
     ∙ f .before .loop .inv .1
 
 loop-again : tie.Need-loop-again Inv-loop μ-loop
 loop-again c =
     let f = c .before in
     let r = f .before .before in
-    let h = within (r .routes .ensures) (f .loop-test .taken) in
+    let h = within (r .routes .result) (r .routes .ensures .0) (f .loop-test .taken) in
     let o = r .before .args .o in
     let k = f .before .loop .k in (
       omega arith,
@@ -52,7 +52,7 @@ returns-2 : tie.Need-returns-2 Inv-loop μ-loop
 returns-2 c =
     let f = c .before in
     let r = f .before in
-    sym (elem-end (r .before .args .o) (r .routes .result) (f .loop .k) (ended (r .routes .ensures) (f .loop .inv .0) (c .loop-test .left))) ∙ f .loop .inv .1
+    sym (elem-end (r .before .args .o) (r .routes .result) (f .loop .k) (ended (r .routes .result) (r .routes .ensures .0) (f .loop .inv .0) (c .loop-test .left))) ∙ f .loop .inv .1
 
 pub is-route-spec : {M : Type 1} → statement M
 is-route-spec =

@@ -1,5 +1,5 @@
 -- `routes::routes` meets its contract: what its lines give is what Selection.antt gives case by case, and so the routes. Assumes nothing.
-use mathlib.Core.Path.{ap, ap₂, _∙_}
+use mathlib.Core.Path.{refl, ap, ap₂, _∙_}
 use mathlib.Core.Logic.{inl, inr}
 use Prim.Native.Nat.{ℕ, _<_, _≤_}
 use native.Mathlib.Omega.{arith}
@@ -33,23 +33,23 @@ returns c =
 returns-2 : tie.Need-returns-2
 returns-2 c =
     let k = c .before .before in
-    by-y-first (k .before .before .before .before .before .pre) (decided k) (inl (c .before .if1 .left, c .if2 .taken))
+    (refl, by-y-first (k .before .before .before .before .before .pre) (decided k) (inl (c .before .if1 .left, c .if2 .taken)))
 
 -- queues 7 and 8
 returns-3 : tie.Need-returns-3
 returns-3 c =
     let k = c .before .before .before .before in
-    by-y-first (k .before .before .before .before .before .pre) (decided k) (inr (c .before .if3 .left, c .if4 .taken))
+    (refl, by-y-first (k .before .before .before .before .before .pre) (decided k) (inr (c .before .if3 .left, c .if4 .taken)))
 
 -- queues 0, 1 and 2
 returns-4 : tie.Need-returns-4
-returns-4 c = let k = c .before in by-x-first (k .before .before .before .before .before .pre) (decided k) (inl (c .if1 .taken))
+returns-4 c = let k = c .before in (refl, by-x-first (k .before .before .before .before .before .pre) (decided k) (inl (c .if1 .taken)))
 
 -- queues 5 and 6
 returns-5 : tie.Need-returns-5
 returns-5 c =
     let k = c .before .before .before in
-    by-x-first (k .before .before .before .before .before .pre) (decided k) (inr (c .before .if2 .left, c .if3 .taken))
+    (refl, by-x-first (k .before .before .before .before .before .pre) (decided k) (inr (c .before .if2 .left, c .if3 .taken)))
 
 pub routes-spec : {M : Type 1} → statement M
 routes-spec =
