@@ -1,5 +1,5 @@
 -- R149: the cases of Selection.antt are the routes of a head, for each queue number and all offsets that a packet word can carry: every route, no
--- other, in the same order. Order: the sign of an offset; lines 1 and 2; line 3 and the delivery; the whole; the same by the offsets' fields.
+-- other, in the same order. Order: the sign of an offset; lines 1 and 2; line 3 and the delivery; the whole; the same by the offsets.
 -- Assumes nothing.
 use mathlib.Core.Path.{_≡_, refl, ap, ap₂, sym, _∙_}
 use mathlib.Core.Bool.{false, cond}
