@@ -1,5 +1,5 @@
--- Laws that the proofs of this crate cite. Order: what three lines give; the order of a queue number; the routes; an output looked for among the
--- lines. Assumes nothing.
+-- Laws that the proofs of this crate cite. Order: what three lines give; the order of a queue number; the list of cases; an output looked for
+-- among the lines. Assumes nothing.
 use mathlib.Core.Path.{_≡_, refl, ap, ap₂, sym, _∙_}
 use mathlib.Core.Bool.{Bool, true, false, cond, not, _||_}
 use mathlib.Core.List.{List, [], _∷_, _++_, append-assoc}
@@ -9,11 +9,8 @@ use borrow.Author.Tests.{eq-eqb, ne-eqb}
 use lib.Dec.{eqb}
 use lib.ListN.{length, getD, drop}
 use Rattle.base.specs.Tests.{elem, EachBelow, each-at, each-from}
-use Rattle.network.specs.Sizes.{queues}
-use Rattle.network.specs.Packet.{offset}
-use Rattle.network.specs.Routes.{routes}
-use Rattle.network.specs.Selection.{sign, adaptiveX, adaptiveY, inTurn, lastCase, selection, selected}
-use Rattle.network.specs.SelectionLaws.{selection-routes}
+use Rattle.network.specs.declared.Sign.{Sign}
+use Rattle.network.specs.Selection.{adaptiveX, adaptiveY, inTurn, lastCase, selection}
 use Rattle.routes.specs.Lines.{lastLine, applies, outputsFrom, unlessZero}
 use Rattle.routes.specs.LinesLaws.{line-taken, line-passed, lines-end}
 
@@ -47,30 +44,27 @@ unfolding inTurn EachBelow
 y-first q (inl (l, h)) x y = each-from (λ (q : ℕ). y ++ x ≡ inTurn q x y) 3 2 ((tt, refl), refl) q l h
 y-first q (inr (l, h)) x y = each-from (λ (q : ℕ). y ++ x ≡ inTurn q x y) 7 2 ((tt, refl), refl) q l h
 
--- The routes --------------------------------------------------------------------------------------------------------------------------
+-- The list of cases -------------------------------------------------------------------------------------------------------------------
 
--- what the code has decided of the head p by its signs
-pub record Decided (p x y last : ℕ) : Type 0 where
-  pub x-is : unlessZero x ≡ adaptiveX (sign (offset 0 p))
-  pub y-is : unlessZero y ≡ adaptiveY (sign (offset 1 p))
-  pub last-is : last ≡ lastCase (sign (offset 0 p)) (sign (offset 1 p))
+-- what the code has decided by the signs of dx and dy
+pub record Decided (dx dy : Sign) (x y last : ℕ) : Type 0 where
+  pub x-is : unlessZero x ≡ adaptiveX dx
+  pub y-is : unlessZero y ≡ adaptiveY dy
+  pub last-is : last ≡ lastCase dx dy
 
-module _ {q p x y last : ℕ} (h : q < queues) (f : Decided p x y last) where
-  answer : (first second : ℕ)
-      → unlessZero first ++ unlessZero second ≡ inTurn q (adaptiveX (sign (offset 0 p))) (adaptiveY (sign (offset 1 p)))
-      → outputsFrom 0 (first ∷ second ∷ last ∷ []) ≡ routes q p
-  unfolding selection selected
-  answer first second e = three-lines first second last ∙ ap₂ (λ (l : List ℕ) (o : ℕ). l ++ (o ∷ [])) e (f .last-is) ∙ selection-routes q p h
+module _ {x y last : ℕ} {dx dy : Sign} (d : Decided dx dy x y last) where
+  -- whichever of the two comes first
+  answer : (q first second : ℕ) {a b : List ℕ} → unlessZero first ≡ a → unlessZero second ≡ b → a ++ b ≡ inTurn q (adaptiveX dx) (adaptiveY dy)
+      → outputsFrom 0 (first ∷ second ∷ last ∷ []) ≡ selection q dx dy
+  unfolding selection
+  answer q first second e f order =
+      three-lines first second last ∙ ap₂ (λ (l : List ℕ) (o : ℕ). l ++ (o ∷ [])) (ap₂ (λ (a b : List ℕ). a ++ b) e f ∙ order) (d .last-is)
 
-  pub by-x-first : (q < 3) ⊎ ((5 ≤ q) × (q < 7)) → outputsFrom 0 (x ∷ y ∷ last ∷ []) ≡ routes q p
-  by-x-first row =
-      answer x y
-      (ap₂ (λ (a b : List ℕ). a ++ b) (f .x-is) (f .y-is) ∙ x-first q row (adaptiveX (sign (offset 0 p))) (adaptiveY (sign (offset 1 p))))
+  pub by-x-first : {q : ℕ} → (q < 3) ⊎ ((5 ≤ q) × (q < 7)) → outputsFrom 0 (x ∷ y ∷ last ∷ []) ≡ selection q dx dy
+  by-x-first {q} row = answer q x y (d .x-is) (d .y-is) (x-first q row (adaptiveX dx) (adaptiveY dy))
 
-  pub by-y-first : ((3 ≤ q) × (q < 5)) ⊎ ((7 ≤ q) × (q < 9)) → outputsFrom 0 (y ∷ x ∷ last ∷ []) ≡ routes q p
-  by-y-first row =
-      answer y x
-      (ap₂ (λ (a b : List ℕ). a ++ b) (f .y-is) (f .x-is) ∙ y-first q row (adaptiveX (sign (offset 0 p))) (adaptiveY (sign (offset 1 p))))
+  pub by-y-first : {q : ℕ} → ((3 ≤ q) × (q < 5)) ⊎ ((7 ≤ q) × (q < 9)) → outputsFrom 0 (y ∷ x ∷ last ∷ []) ≡ selection q dx dy
+  by-y-first {q} row = answer q y x (d .y-is) (d .x-is) (y-first q row (adaptiveX dx) (adaptiveY dy))
 
 -- An output looked for among the lines ------------------------------------------------------------------------------------------------
 

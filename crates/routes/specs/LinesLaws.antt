@@ -12,23 +12,20 @@ use Rattle.base.specs.Tests.{elem, or-l, or-r}
 use Rattle.routes.specs.Lines.{applies, outputsFrom}
 
 step : (r : List ℕ) (k : ℕ) → k < length r
-    → outputsFrom k (drop k r) ≡ cond (applies k (getD r k 0)) (getD r k 0 ∷ outputsFrom (suc k) (drop (suc k) r)) (outputsFrom (suc k) (drop (suc k) r))
+    → outputsFrom k (drop k r)
+    ≡ cond (applies k (getD r k 0)) (getD r k 0 ∷ outputsFrom (k + 1) (drop (k + 1) r)) (outputsFrom (k + 1) (drop (k + 1) r))
 unfolding outputsFrom
-step r k h = ap (outputsFrom k) (drop-cons r k 0 h)
+step r k h =
+    ap (outputsFrom k) (drop-cons r k 0 h)
+    ∙ ap (λ (i : ℕ). cond (applies k (getD r k 0)) (getD r k 0 ∷ outputsFrom i (drop i r)) (outputsFrom i (drop i r))) (sym (add-one k))
 
 -- a line that gives an output, one that gives none, and no more lines
 pub line-taken : (r : List ℕ) (k : ℕ) → k < length r → applies k (getD r k 0) ≡ true
     → outputsFrom k (drop k r) ≡ getD r k 0 ∷ outputsFrom (k + 1) (drop (k + 1) r)
-line-taken r k h e =
-    step r k h
-    ∙ ap (λ b. cond b (getD r k 0 ∷ outputsFrom (suc k) (drop (suc k) r)) (outputsFrom (suc k) (drop (suc k) r))) e
-    ∙ ap (λ (i : ℕ). getD r k 0 ∷ outputsFrom i (drop i r)) (sym (add-one k))
+line-taken r k h e = rw e at (step r k h)
 
 pub line-passed : (r : List ℕ) (k : ℕ) → k < length r → applies k (getD r k 0) ≡ false → outputsFrom k (drop k r) ≡ outputsFrom (k + 1) (drop (k + 1) r)
-line-passed r k h e =
-    step r k h
-    ∙ ap (λ b. cond b (getD r k 0 ∷ outputsFrom (suc k) (drop (suc k) r)) (outputsFrom (suc k) (drop (suc k) r))) e
-    ∙ ap (λ (i : ℕ). outputsFrom i (drop i r)) (sym (add-one k))
+line-passed r k h e = rw e at (step r k h)
 
 pub lines-end : (r : List ℕ) (k : ℕ) → k ≡ length r → outputsFrom k (drop k r) ≡ []
 unfolding outputsFrom
