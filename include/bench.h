@@ -19,21 +19,23 @@
  * queue's direction (R106, R107).
  *
  * Memory, for every call:
- *   - a pointer with a length is valid for that many 64-bit words: `words` for
- *     `len`, `ledger` for `ledger_len`. Lengths count words, not bytes;
- *   - words that are lent are initialised, all of them, those of `out` too: a
- *     local array without an initialiser or memory fresh from malloc is not.
- *     What they contain does not matter, any words may be lent;
- *   - a pointer must not be NULL and must be aligned for uint64_t, even if the
+ *   - a pointer with a length is valid for that many elements: 64-bit words for
+ *     `words` and `ledger`, bytes for `fills`, `page` and `bytes`. Lengths count
+ *     elements;
+ *   - words and bytes that are lent are initialised, all of them, those of `out`
+ *     too: a local array without an initialiser or memory fresh from malloc is
+ *     not. What they contain does not matter, any may be lent;
+ *   - a pointer must not be NULL and must be aligned for its type, even if the
  *     length behind it is 0;
- *   - the arrays of one call (words, ledger, out) must not overlap;
+ *   - the arrays of one call (words, ledger, fills, page, bytes, out) must not
+ *     overlap;
  *   - `out` must have the number of words given for the call (BENCH_MOVE_OUT
  *     and so on). Those words are written on every call, refused or not, and
  *     no later ones.
  *
  * Every call returns 0, or the number of a refusal. A refused call changes
- * neither the words nor the ledger and sets all words of `out` to 0 (R190 to
- * R194). Words behind the last node stay as they are (R48).
+ * nothing that is lent but `out`, all words of which it sets to 0 (R190 to R194,
+ * R414, R420). Words behind the last node stay as they are (R48).
  *
  * Two threads may use the library at once if they lend different memory.
  *
@@ -72,12 +74,19 @@ extern "C" {
 #define BENCH_WORDS(x, y, e, a, j) \
     (8 + (size_t)(x) * (size_t)(y) * (9 + (size_t)(j) + 4 * (size_t)(a) + 4 * (size_t)(e)))
 
+/* The bytes of a list of fills of such a network, one for each queue, and of a
+ * page on which any step of its dump has room (R406, R413). */
+#define BENCH_FILLS(x, y) (9 * (size_t)(x) * (size_t)(y))
+#define BENCH_PAGE(x, y) (120 + 48 * BENCH_FILLS(x, y))
+
 /* The number of words of `out`, call by call. */
 #define BENCH_MOVE_OUT 2
 #define BENCH_CREDIT_OUT 1
 #define BENCH_LOOK_OUT 2
 #define BENCH_FIRST_OUT 4
 #define BENCH_DRAIN_OUT 3
+#define BENCH_WRITE_OUT 1
+#define BENCH_READ_OUT 3
 
 /* The parts of a packet word (R60 to R63): the caller's tag, the destination,
  * and the hops left in x and y, below 0 where they go to x- or y-. */
@@ -86,7 +95,7 @@ extern "C" {
 #define BENCH_DX(word) ((int)(((uint64_t)(word) >> 8 & 0xff) ^ 0x80) - 0x80)
 #define BENCH_DY(word) ((int)(((uint64_t)(word) & 0xff) ^ 0x80) - 0x80)
 
-/* The refusals (R161 to R174); 13 is the sheet program's alone. */
+/* The refusals (R161 to R175). */
 enum {
     BENCH_SHORT_STORE = 1,    /* less than 8 words, or less than the sizes ask for */
     BENCH_WRONG_SIZE = 2,     /* X, Y, E, A or J out of range */
@@ -100,7 +109,9 @@ enum {
     BENCH_NOT_ITS_WAY = 10,   /* the head has no route by that output */
     BENCH_NO_SLOT = 11,       /* the target has no free slot */
     BENCH_NO_BUBBLE = 12,     /* two free slots are needed, one is there */
-    BENCH_TO_ONESELF = 14     /* the destination is the node that offers */
+    BENCH_BAD_TEXT = 13,      /* bench_read_step: the bytes are no step */
+    BENCH_TO_ONESELF = 14,    /* the destination is the node that offers */
+    BENCH_SHORT_PAGE = 15     /* page or fills have no room for the step */
 };
 
 /* Why a drain stopped (R130 to R132). */
@@ -122,8 +133,8 @@ uint64_t bench_make(uint64_t *words, size_t len, uint64_t x, uint64_t y, uint64_
  * Whether the words are a network (R70 to R85). Refused, tested in this order
  * (R181): less than 8 words (1); a size out of range (2); a store shorter than
  * the sizes ask for (1); anything else that is not as in a network (3). Every
- * call below begins with these four tests, so it is safe to lend any words to
- * any of them; "further" tests below are those that follow.
+ * call below that is lent words begins with these four tests, so it is safe to
+ * lend any words to any of them; "further" tests below are those that follow.
  */
 uint64_t bench_check(const uint64_t *words, size_t len);
 
@@ -192,6 +203,41 @@ uint64_t bench_first(const uint64_t *words, size_t len, uint64_t out[4]);
  */
 uint64_t bench_drain(uint64_t *words, size_t len, uint32_t budget, uint64_t *ledger,
                      size_t ledger_len, uint64_t out[3]);
+
+/*
+ * The fills of the queues as a value change dump, the text that waveform viewers
+ * read (docs/WAVEFORM.md, R400 to R410). `fills` is a list of your own, a byte for
+ * each queue by node and queue, that goes from step to step; what it contains
+ * before the first step does not matter.
+ *
+ * bench_write_header writes the first step of a dump, the header with every fill,
+ * onto the page; bench_write_changes a later one, with only those queues whose
+ * fill is another than `fills` says. Both make `fills` the fills of the network
+ * (R411 to R414). Refused further: `fills` has fewer than BENCH_FILLS bytes or
+ * `page` fewer than the step has (15). Page and list behind the step and the
+ * fills stay as they were.
+ * out[0]: the number of bytes of the step.
+ */
+uint64_t bench_write_header(const uint64_t *words, size_t len, uint8_t *fills,
+                            size_t fills_len, uint8_t *page, size_t page_len,
+                            uint64_t out[1]);
+uint64_t bench_write_changes(const uint64_t *words, size_t len, uint8_t *fills,
+                             size_t fills_len, uint8_t *page, size_t page_len,
+                             uint64_t out[1]);
+
+/*
+ * Reads one step, all of `bytes`, and puts the fills that it tells into `fills`
+ * (R415 to R420). Given the steps of one network in order, from the header on, the
+ * list is that network's fills after each (R421). Refused, tested in this order:
+ * the bytes are not one step as docs/WAVEFORM.md fixes it (13); `fills` is too
+ * short for it (15): a header needs a byte for each of its variables, a later step
+ * as many as its last variable's number and one.
+ * out[0]: 1 for a header, 0 for a later step.
+ * out[1]: the time stamp, which is the moves made.
+ * out[2]: the number of variables that the step tells.
+ */
+uint64_t bench_read_step(const uint8_t *bytes, size_t bytes_len, uint8_t *fills,
+                         size_t fills_len, uint64_t out[3]);
 
 #ifdef __cplusplus
 }

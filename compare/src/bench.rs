@@ -26,6 +26,29 @@ pub trait Bench {
     fn drain(&self, words: &mut [u64], budget: u32, ledger: &mut [u64]) -> (u64, [u64; 3]);
 }
 
+/// The calls that write a step of the waveform (docs/WAVEFORM.md). `fills` is
+/// the caller's list of what the step before told, a byte for each queue.
+pub trait WaveWriter: Bench {
+    /// Bytes of the step.
+    fn write_header(&self, words: &[u64], fills: &mut [u8], page: &mut [u8]) -> (u64, [u64; 1]);
+    /// Bytes of the step.
+    fn write_changes(&self, words: &[u64], fills: &mut [u8], page: &mut [u8]) -> (u64, [u64; 1]);
+}
+
+/// The call that reads a step back. The plain implementation has none: it is
+/// there to be measured beside, and the reader is not.
+pub trait WaveReader: Bench {
+    /// Header (1) or later step (0), time stamp, variables named.
+    fn read_step(&self, bytes: &[u8], fills: &mut [u8]) -> (u64, [u64; 3]);
+}
+
+/// Which step of the waveform to write.
+#[derive(Clone, Copy, Debug, PartialEq, Eq)]
+pub enum WaveStep {
+    Header,
+    Changes,
+}
+
 /// A call with its arguments; a Drain has the length of its ledger.
 #[derive(Clone, Copy, Debug, PartialEq, Eq)]
 pub enum Call {
@@ -96,6 +119,25 @@ pub fn perform(bench: &dyn Bench, call: Call, words: &mut [u64], ledger: &mut [u
     }
 }
 
+/// Writes one step of the waveform.
+pub fn write(
+    writer: &dyn WaveWriter,
+    step: WaveStep,
+    words: &[u64],
+    fills: &mut [u8],
+    page: &mut [u8],
+) -> Answer {
+    Answer::new(match step {
+        WaveStep::Header => writer.write_header(words, fills, page),
+        WaveStep::Changes => writer.write_changes(words, fills, page),
+    })
+}
+
+/// Reads one step of the waveform.
+pub fn read(reader: &dyn WaveReader, bytes: &[u8], fills: &mut [u8]) -> Answer {
+    Answer::new(reader.read_step(bytes, fills))
+}
+
 /// The implementations at hand; the model is the first.
 pub fn all(model: Model) -> Vec<Box<dyn Bench>> {
     #[allow(unused_mut)]
@@ -104,6 +146,27 @@ pub fn all(model: Model) -> Vec<Box<dyn Bench>> {
         Box::new(Plain { simple: false }),
         Box::new(Plain { simple: true }),
     ];
+    #[cfg(bench_lib)]
+    list.push(Box::new(crate::ffi::Library));
+    list
+}
+
+/// Those that write the waveform; the model is the first.
+pub fn writers() -> Vec<Box<dyn WaveWriter>> {
+    #[allow(unused_mut)]
+    let mut list: Vec<Box<dyn WaveWriter>> = vec![
+        Box::new(Model::default()),
+        Box::new(Plain { simple: false }),
+    ];
+    #[cfg(bench_lib)]
+    list.push(Box::new(crate::ffi::Library));
+    list
+}
+
+/// Those that read it; the model is the first.
+pub fn readers() -> Vec<Box<dyn WaveReader>> {
+    #[allow(unused_mut)]
+    let mut list: Vec<Box<dyn WaveReader>> = vec![Box::new(Model::default())];
     #[cfg(bench_lib)]
     list.push(Box::new(crate::ffi::Library));
     list
@@ -180,6 +243,24 @@ impl Bench for Model {
     }
 }
 
+impl WaveWriter for Model {
+    fn write_header(&self, words: &[u64], fills: &mut [u8], page: &mut [u8]) -> (u64, [u64; 1]) {
+        told(model::wave::write_header(words, fills, page), |len| [len])
+    }
+
+    fn write_changes(&self, words: &[u64], fills: &mut [u8], page: &mut [u8]) -> (u64, [u64; 1]) {
+        told(model::wave::write_changes(words, fills, page), |len| [len])
+    }
+}
+
+impl WaveReader for Model {
+    fn read_step(&self, bytes: &[u8], fills: &mut [u8]) -> (u64, [u64; 3]) {
+        told(model::wave::read_step(bytes, fills), |step| {
+            [step.header as u64, step.time, step.values.len() as u64]
+        })
+    }
+}
+
 /// The plain implementation, with one or the other of its drains.
 pub struct Plain {
     pub simple: bool,
@@ -234,5 +315,15 @@ impl Bench for Plain {
         } else {
             plain::drain(words, budget, ledger)
         }
+    }
+}
+
+impl WaveWriter for Plain {
+    fn write_header(&self, words: &[u64], fills: &mut [u8], page: &mut [u8]) -> (u64, [u64; 1]) {
+        plain::write_header(words, fills, page)
+    }
+
+    fn write_changes(&self, words: &[u64], fills: &mut [u8], page: &mut [u8]) -> (u64, [u64; 1]) {
+        plain::write_changes(words, fills, page)
     }
 }

@@ -1,6 +1,6 @@
 //! The C library under test. Its interface is that of include/bench.h.
 
-use crate::bench::Bench;
+use crate::bench::{Bench, WaveReader, WaveWriter};
 
 extern "C" {
     fn bench_make(words: *mut u64, len: usize, x: u64, y: u64, e: u64, a: u64, j: u64) -> u64;
@@ -23,6 +23,31 @@ extern "C" {
         budget: u32,
         ledger: *mut u64,
         ledger_len: usize,
+        out: *mut u64,
+    ) -> u64;
+    fn bench_write_header(
+        words: *const u64,
+        len: usize,
+        fills: *mut u8,
+        fills_len: usize,
+        page: *mut u8,
+        page_len: usize,
+        out: *mut u64,
+    ) -> u64;
+    fn bench_write_changes(
+        words: *const u64,
+        len: usize,
+        fills: *mut u8,
+        fills_len: usize,
+        page: *mut u8,
+        page_len: usize,
+        out: *mut u64,
+    ) -> u64;
+    fn bench_read_step(
+        bytes: *const u8,
+        bytes_len: usize,
+        fills: *mut u8,
+        fills_len: usize,
         out: *mut u64,
     ) -> u64;
 }
@@ -94,5 +119,29 @@ impl Bench for Library {
         let (start, len) = (words.as_mut_ptr(), words.len());
         let (book, room) = (ledger.as_mut_ptr(), ledger.len());
         with_out(|out| unsafe { bench_drain(start, len, budget, book, room, out) })
+    }
+}
+
+impl WaveWriter for Library {
+    fn write_header(&self, words: &[u64], fills: &mut [u8], page: &mut [u8]) -> (u64, [u64; 1]) {
+        let (start, len) = (words.as_ptr(), words.len());
+        let (list, told) = (fills.as_mut_ptr(), fills.len());
+        let (text, room) = (page.as_mut_ptr(), page.len());
+        with_out(|out| unsafe { bench_write_header(start, len, list, told, text, room, out) })
+    }
+
+    fn write_changes(&self, words: &[u64], fills: &mut [u8], page: &mut [u8]) -> (u64, [u64; 1]) {
+        let (start, len) = (words.as_ptr(), words.len());
+        let (list, told) = (fills.as_mut_ptr(), fills.len());
+        let (text, room) = (page.as_mut_ptr(), page.len());
+        with_out(|out| unsafe { bench_write_changes(start, len, list, told, text, room, out) })
+    }
+}
+
+impl WaveReader for Library {
+    fn read_step(&self, bytes: &[u8], fills: &mut [u8]) -> (u64, [u64; 3]) {
+        let (start, len) = (bytes.as_ptr(), bytes.len());
+        let (list, told) = (fills.as_mut_ptr(), fills.len());
+        with_out(|out| unsafe { bench_read_step(start, len, list, told, out) })
     }
 }

@@ -1,18 +1,22 @@
 //! The laboratory: makes one call on every implementation, each on its own
 //! copy of the words, and compares the answers and every word with the
-//! model's. It also keeps the counts that the comparison prints.
+//! model's. It also keeps the counts that the comparison prints. `wave` does
+//! the same for the calls of the waveform, which lend bytes.
 
-use crate::bench::{all, perform, Answer, Bench, Call, Model};
+mod wave;
+
+use crate::bench::{all, perform, readers, writers, Answer, Bench, Call, Model};
+use crate::bench::{WaveReader, WaveWriter};
 use crate::equations::Run;
 use crate::model;
 
 /// Words behind the lent ones, in each copy, that nobody may touch.
 const GUARDS: usize = 4;
 const RUBBISH: u64 = 0xa5a5_5a5a_c3c3_3c3c;
-/// The refusals that a call can give: 13 is the program's alone.
-pub const REFUSALS: [u64; 13] = [1, 2, 3, 4, 5, 6, 7, 8, 9, 10, 11, 12, 14];
+/// The refusals that a call can give.
+pub const REFUSALS: [u64; 15] = [1, 2, 3, 4, 5, 6, 7, 8, 9, 10, 11, 12, 13, 14, 15];
 /// One more than the largest of them.
-const NUMBERS: usize = 15;
+const NUMBERS: usize = 16;
 
 /// The answer, the words with their guards, the ledger with its guards.
 type Outcome = (Answer, Vec<u64>, Vec<u64>);
@@ -36,6 +40,8 @@ pub struct Lab {
     /// The model, which is also the first of `benches`.
     model: Model,
     benches: Vec<Box<dyn Bench>>,
+    writers: Vec<Box<dyn WaveWriter>>,
+    readers: Vec<Box<dyn WaveReader>>,
     pub counts: Counts,
     /// Told when something differs: where we are.
     pub place: String,
@@ -52,6 +58,8 @@ impl Lab {
         let model = Model::default();
         Lab {
             benches: all(model.clone()),
+            writers: writers(),
+            readers: readers(),
             model,
             counts: Counts::default(),
             place: String::new(),

@@ -6,7 +6,8 @@
 //!   the paper alone;
 //! - `plain`: a fast implementation on the words, the baseline of the benchmark;
 //! - `ffi`: the C library under test, if it is linked;
-//! - `bench`: the calls as one trait, for all of them;
+//! - `bench`: the calls as one trait, for all of them, and those of the waveform
+//!   as two more;
 //! - `lab`: makes one call on all of them and compares every answer and word;
 //! - `equations`: what demand 3 says of a run of moves;
 //! - `generate`, `damage` and `random`: networks, faults and arguments to try;

@@ -4,12 +4,14 @@
 
 pub mod geometry;
 pub mod network;
+pub mod wave;
 pub mod words;
 
 use network::{Kind, Network, Output, Step, QUEUES};
 use words::{decode, encode, packet_to_word, Sizes};
 
-/// R161 to R174, the refusals with their numbers. (13 is the program's.)
+/// The refusals with their numbers (R161 to R174). 13 is what the program gives
+/// for a bad line, and the reader of the waveform for bytes that are no step.
 #[derive(Clone, Copy, Debug, PartialEq, Eq)]
 pub enum Refusal {
     ShortStore = 1,
@@ -24,7 +26,9 @@ pub enum Refusal {
     NotItsWay = 10,
     NoSlot = 11,
     NoBubble = 12,
+    BadText = 13,
     ToOneself = 14,
+    NoRoom = 15,
 }
 
 impl Refusal {

@@ -5,9 +5,11 @@
 
 mod drain;
 mod first;
+mod wave;
 
 pub use drain::{drain, drain_simple};
 pub use first::first;
+pub use wave::{write_changes, write_header};
 
 const HEADER: usize = 8;
 const QUEUES: usize = 9;
@@ -26,6 +28,7 @@ const NOT_ITS_WAY: u64 = 10;
 const NO_SLOT: u64 = 11;
 const NO_BUBBLE: u64 = 12;
 const TO_ONESELF: u64 = 14;
+const NO_ROOM: u64 = 15;
 
 /// Where everything stands in the words of a network.
 struct Layout {

@@ -9,13 +9,13 @@
 
 use crate::model::{self, Refusal, Stop};
 
-const STORE_WORDS: usize = 8000;
-const LEDGER_WORDS: usize = 64;
+pub const STORE_WORDS: usize = 8000;
+pub const LEDGER_WORDS: usize = 64;
 const LONGEST_LINE: usize = 64;
 
 /// A line that says something.
 #[derive(Clone, Copy, Debug, PartialEq, Eq)]
-enum Line {
+pub enum Line {
     Make {
         sizes: [u32; 5],
     },
@@ -47,7 +47,7 @@ pub fn run(input: &[u8]) -> Vec<u8> {
 }
 
 /// The lines of the input without their ends.
-fn lines(input: &[u8]) -> Vec<&[u8]> {
+pub fn lines(input: &[u8]) -> Vec<&[u8]> {
     let mut list = Vec::new();
     let mut rest = input;
     while let Some(end) = rest.iter().position(|byte| *byte == b'\n') {
@@ -71,7 +71,7 @@ fn number(field: &[u8]) -> Option<u32> {
 }
 
 /// What a line says, or nothing if it is a bad line.
-fn parse(line: &[u8]) -> Option<Line> {
+pub fn parse(line: &[u8]) -> Option<Line> {
     if line.len() > LONGEST_LINE {
         return None;
     }

@@ -6,6 +6,9 @@
 //! R194). Calls that are not refused stand beside them, at the last number or
 //! word that is still good.
 
+#[path = "bad_input/wave.rs"]
+mod wave;
+
 use compare::bench::{all, perform, Answer, Bench, Call, Model};
 use compare::generate::packet_word;
 

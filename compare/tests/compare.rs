@@ -9,6 +9,8 @@ mod drains;
 mod kept;
 #[path = "compare/routes.rs"]
 mod routes;
+#[path = "compare/wave.rs"]
+mod wave;
 
 use compare::bench::Call;
 use compare::damage::{one_word, FAULTS};
@@ -25,7 +27,7 @@ fn main() {
     let start = Instant::now();
     let mut lab = Lab::new();
     println!("compared: {}", lab.names().join("; "));
-    let parts: [Part; 12] = [
+    let parts: [Part; 19] = [
         ("kept cases and listing", kept::all),
         ("the table of routes", routes::every_case),
         ("stores of 0 to 7 words", tiny_stores),
@@ -38,6 +40,13 @@ fn main() {
         ("lists of calls", lists_of_calls),
         ("drains move by move", drains::move_by_move),
         ("full drains", drains::full),
+        ("a dump spelt out", wave::spelt_out),
+        ("dumps written and read", wave::dumps),
+        ("dumps of bad words", wave::bad_words),
+        ("every byte of small steps", wave::every_byte),
+        ("every short text", wave::every_short_text),
+        ("limits of steps", wave::limits),
+        ("lines of steps", wave::lines_of_steps),
     ];
     for (name, part) in parts {
         let (from, before) = (Instant::now(), lab.counts.clone());

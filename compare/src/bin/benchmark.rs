@@ -2,8 +2,8 @@
 //! and turn by turn, and prints the medians and their ratio as Markdown. If
 //! the library is not linked (see build.rs), the model stands in its place.
 
-use compare::bench::{perform, Bench, Call, Plain};
-use compare::generate::{network, Fill, Shape};
+use compare::bench::{perform, write, Bench, Call, Plain, WaveStep, WaveWriter};
+use compare::generate::{network, Fill, Shape, QUEUES};
 use compare::random::Random;
 use std::hint::black_box;
 use std::time::{Duration, Instant};
@@ -15,6 +15,24 @@ const FILLS: [(&str, Fill); 3] = [
     ("full", Fill::Full),
 ];
 const CALLS: [&str; 5] = ["Check", "Move", "Offer", "First", "Drain"];
+/// The steps of the waveform, and how many fills have changed since the one
+/// before; a header does not ask.
+const STEPS: [(&str, WaveStep, Changed); 4] = [
+    ("header", WaveStep::Header, Changed::None),
+    ("nothing changed", WaveStep::Changes, Changed::None),
+    ("2 changed", WaveStep::Changes, Changed::Two),
+    ("all changed", WaveStep::Changes, Changed::All),
+];
+/// Room for every step: the largest has two lines for each of 2,304 queues.
+const PAGE: usize = 130_000;
+
+/// A move changes two fills, unless it delivers.
+#[derive(Clone, Copy)]
+enum Changed {
+    None,
+    Two,
+    All,
+}
 
 /// Enough samples for a median, and then enough time for a steady one.
 const FEWEST: usize = 5;
@@ -83,15 +101,15 @@ struct Measured {
     refusal: u64,
 }
 
-/// Measures several implementations in turn.
-fn measure(benches: &[&dyn Bench], call: Call, words: &[u64]) -> Measured {
-    let mut store = words.to_vec();
-    let mut times = vec![Vec::new(); benches.len()];
+/// Measures several implementations in turn; `sample` times one of them once
+/// and gives the refusal.
+fn in_turns(many: usize, mut sample: impl FnMut(usize) -> (Duration, u64)) -> Measured {
+    let mut times = vec![Vec::new(); many];
     let start = Instant::now();
     let mut refusal = 0;
     loop {
-        for (bench, times) in benches.iter().zip(&mut times) {
-            let (time, answer) = sample(*bench, call, words, &mut store);
+        for (index, times) in times.iter_mut().enumerate() {
+            let (time, answer) = sample(index);
             times.push(time);
             refusal = answer;
         }
@@ -104,6 +122,34 @@ fn measure(benches: &[&dyn Bench], call: Call, words: &[u64]) -> Measured {
             };
         }
     }
+}
+
+/// Measures a call on several implementations.
+fn measure(benches: &[&dyn Bench], call: Call, words: &[u64]) -> Measured {
+    let mut store = words.to_vec();
+    in_turns(benches.len(), |index| {
+        sample(benches[index], call, words, &mut store)
+    })
+}
+
+/// Measures a step on several implementations. Each call gets the list as it
+/// was after the step before, and so has the same lines to write.
+fn measure_step(
+    writers: &[&dyn WaveWriter],
+    step: WaveStep,
+    words: &[u64],
+    told: &[u8],
+) -> Measured {
+    let (mut fills, mut page) = (told.to_vec(), vec![0; PAGE]);
+    in_turns(writers.len(), |index| {
+        fills.copy_from_slice(told);
+        let (writer, step) = (black_box(writers[index]), black_box(step));
+        let start = Instant::now();
+        let answer = write(writer, step, words, &mut fills, &mut page);
+        let time = start.elapsed();
+        black_box(&page);
+        (time, black_box(answer).refusal)
+    })
 }
 
 fn shown(time: Duration) -> String {
@@ -121,13 +167,13 @@ fn ratio(a: Duration, b: Duration) -> f64 {
 }
 
 #[cfg(bench_lib)]
-fn other() -> Box<dyn Bench> {
-    Box::new(compare::ffi::Library)
+fn other() -> compare::ffi::Library {
+    compare::ffi::Library
 }
 
 #[cfg(not(bench_lib))]
-fn other() -> Box<dyn Bench> {
-    Box::new(compare::bench::Model::default())
+fn other() -> compare::bench::Model {
+    compare::bench::Model::default()
 }
 
 fn main() {
@@ -144,7 +190,7 @@ fn main() {
             for (fill_name, fill) in FILLS {
                 let words = network_of(side, fill);
                 let call = call_by_name(call_name, &words);
-                let measured = measure(&[&plain, other.as_ref()], call, &words);
+                let measured = measure(&[&plain, &other], call, &words);
                 let refused = match measured.refusal {
                     0 => String::new(),
                     number => format!(" ({number})"),
@@ -160,7 +206,51 @@ fn main() {
             }
         }
     }
-    drained_moves(&[&plain, &simple, other.as_ref()]);
+    drained_moves(&[&plain, &simple, &other]);
+    steps(&[&plain, &other]);
+}
+
+/// The fills that the step before told: those of the words now, but for some.
+fn told_before(words: &[u64], changed: Changed) -> Vec<u8> {
+    let mut fills = vec![0; (words[0] * words[1]) as usize * QUEUES];
+    let (refusal, _) = Plain { simple: false }.write_header(words, &mut fills, &mut [0; PAGE]);
+    assert_eq!(refusal, 0);
+    let middle = fills.len() / 2;
+    match changed {
+        Changed::None => (),
+        Changed::Two => [0, middle].iter().for_each(|index| fills[*index] ^= 1),
+        Changed::All => fills.iter_mut().for_each(|fill| *fill ^= 1),
+    }
+    fills
+}
+
+/// The steps of the waveform.
+fn steps(writers: &[&dyn WaveWriter]) {
+    let [plain, other] = [writers[0], writers[1]].map(|writer| writer.name());
+    println!("\nSteps of the waveform: medians of calls that write one.\n");
+    println!("| Step | Nodes | Fill | Bytes | {plain} | {other} | ratio | samples |");
+    println!("|---|---|---|---|---|---|---|---|");
+    for (step_name, step, changed) in STEPS {
+        for side in SIDES {
+            for (fill_name, fill) in FILLS {
+                let words = network_of(side, fill);
+                let told = told_before(&words, changed);
+                let (mut fills, mut page) = (told.clone(), vec![0; PAGE]);
+                let answer = write(writers[0], step, &words, &mut fills, &mut page);
+                let measured = measure_step(writers, step, &words, &told);
+                assert_eq!((answer.refusal, measured.refusal), (0, 0));
+                let (a, b) = (measured.times[0], measured.times[1]);
+                println!(
+                    "| {step_name} | {side} × {side} | {fill_name} | {} | {} | {} | {:.2} | {} |",
+                    answer.out[0],
+                    shown(a),
+                    shown(b),
+                    ratio(b, a),
+                    measured.samples
+                );
+            }
+        }
+    }
 }
 
 /// The cost of one drained move in small and large networks, all full.

@@ -1,6 +1,6 @@
 -- The words of `out` for each answer, as include/bench.h lists them: all of them on every call, 0 on a refusal. The values are those that the
 -- definitions of the crate `network` read of an answer (movedPackets and so on); the number that the C function returns is the answer's
--- (movedNumber and so on). Order: Move, Credit, Look, First, Drain. Assumes nothing.
+-- (movedNumber and so on). Order: Move, Credit, Look, First, Drain; a step of a dump written, and read. Assumes nothing.
 use mathlib.Core.List.{List, [], _∷_}
 use Prim.Native.Nat.{ℕ}
 use lib.ListN.{length}
@@ -10,6 +10,9 @@ use Rattle.network.specs.declared.Found.{Found}
 use Rattle.network.specs.declared.Stop.{Stop}
 use Rattle.network.specs.declared.Drained.{Drained}
 use Rattle.network.specs.Refusals.{lookRefusal, head}
+use Rattle.waveform.specs.declared.Written.{Written}
+use Rattle.waveform.specs.declared.StepRead.{StepRead}
+use Rattle.waveform.specs.Calls.{writtenLength, readHeaders, readTime, readNamed}
 use Rattle.network.specs.Calls.{unlessRefused, lookPart, lookAt, movedPackets, creditSlots, NamedMove, foundMove, drainedMoves, drainedDelivered, drainedStop}
 
 -- the number of packets handed out, and the packet word
@@ -44,3 +47,11 @@ drainedOut d = drainedMoves d ∷ drainedDelivered d ∷ number (drainedStop d) 
     number : List Stop → ℕ
     number [] = 0
     number (s ∷ _) = stopNumber s
+
+-- the bytes of the step
+unfoldable pub writtenOut : Written → List ℕ
+writtenOut w = writtenLength w ∷ []
+
+-- 1 for a header, the time stamp, how many variables are named
+unfoldable pub readOut : StepRead → List ℕ
+readOut s = readHeaders s ∷ readTime s ∷ readNamed s ∷ []

@@ -10,7 +10,9 @@ ghost use lib.ListN.{length};
 ghost use Rattle.network.specs.Sizes.{shapeOf, sized};
 ghost use Rattle.network.specs.Refusals.{networkRefusal, makeRefusal, offerRefusal, lookRefusal};
 ghost use Rattle.network.specs.Calls.{makeWords, offerWords, moveWords, moveAnswer, movedNumber, creditAnswer, creditNumber, firstAnswer, foundNumber, drainWords, drainLedger, drainAnswer, drainedNumber};
-ghost use Rattle.bench_c.specs.Outs.{movedOut, creditOut, lookOut, foundOut, drainedOut};
+ghost use mathlib.Core.Bool.{true, false};
+ghost use Rattle.waveform.specs.Calls.{writeAnswer, writtenNumber, writePage, writeList, readAnswer, readNumber, readList};
+ghost use Rattle.bench_c.specs.Outs.{movedOut, creditOut, lookOut, foundOut, drainedOut, writtenOut, readOut};
 
 #[no_mangle]
 pub extern "C" fn bench_make(words: &mut [u64], x: u64, y: u64, e: u64, a: u64, j: u64) -> u64
@@ -121,4 +123,49 @@ pub extern "C" fn bench_drain(
 {
     let d = calls::drain(words, budget, ledger);
     outs::drained(out, d)
+}
+
+// out: the bytes of the step.
+#[no_mangle]
+pub extern "C" fn bench_write_header(
+    words: &[u64],
+    fills: &mut [u8],
+    page: &mut [u8],
+    out: &mut [u64; 1],
+) -> u64
+    ensures answer { λ r. ⌜ r ≡ writtenNumber (writeAnswer true (now (words .entry)) (now (fills .entry)) (now (page .entry))) ⌝ }
+    ensures fills { λ _. ⌜ now (fills .exit) ≡ writeList true (now (words .entry)) (now (fills .entry)) (now (page .entry)) ⌝ }
+    ensures page { λ _. ⌜ now (page .exit) ≡ writePage true (now (words .entry)) (now (fills .entry)) (now (page .entry)) ⌝ }
+    ensures out { λ _. ⌜ now (out .exit) ≡ writtenOut (writeAnswer true (now (words .entry)) (now (fills .entry)) (now (page .entry))) ⌝ }
+{
+    let w = dump_writer::write_header(words, fills, page);
+    outs::written(out, w)
+}
+
+// out: the bytes of the step.
+#[no_mangle]
+pub extern "C" fn bench_write_changes(
+    words: &[u64],
+    fills: &mut [u8],
+    page: &mut [u8],
+    out: &mut [u64; 1],
+) -> u64
+    ensures answer { λ r. ⌜ r ≡ writtenNumber (writeAnswer false (now (words .entry)) (now (fills .entry)) (now (page .entry))) ⌝ }
+    ensures fills { λ _. ⌜ now (fills .exit) ≡ writeList false (now (words .entry)) (now (fills .entry)) (now (page .entry)) ⌝ }
+    ensures page { λ _. ⌜ now (page .exit) ≡ writePage false (now (words .entry)) (now (fills .entry)) (now (page .entry)) ⌝ }
+    ensures out { λ _. ⌜ now (out .exit) ≡ writtenOut (writeAnswer false (now (words .entry)) (now (fills .entry)) (now (page .entry))) ⌝ }
+{
+    let w = dump_writer::write_changes(words, fills, page);
+    outs::written(out, w)
+}
+
+// out: 1 for a header and 0 for a later step, the time stamp, how many variables are named.
+#[no_mangle]
+pub extern "C" fn bench_read_step(bytes: &[u8], fills: &mut [u8], out: &mut [u64; 3]) -> u64
+    ensures answer { λ r. ⌜ r ≡ readNumber (readAnswer (now (bytes .entry)) (now (fills .entry))) ⌝ }
+    ensures fills { λ _. ⌜ now (fills .exit) ≡ readList (now (bytes .entry)) (now (fills .entry)) ⌝ }
+    ensures out { λ _. ⌜ now (out .exit) ≡ readOut (readAnswer (now (bytes .entry)) (now (fills .entry))) ⌝ }
+{
+    let r = dump_reader::read_step(bytes, fills);
+    outs::step_read(out, r)
 }

@@ -4,9 +4,12 @@ use network::Drained;
 use network::Found;
 use network::Moved;
 use network::Stop;
+use waveform::StepRead;
+use waveform::Written;
 ghost use mathlib.Core.Path.{_≡_};
 ghost use Rattle.network.specs.Calls.{movedNumber, creditNumber, foundNumber, drainedNumber};
-ghost use Rattle.bench_c.specs.Outs.{movedOut, creditOut, foundOut, stopNumber, drainedOut};
+ghost use Rattle.waveform.specs.Calls.{writtenNumber, readNumber};
+ghost use Rattle.bench_c.specs.Outs.{movedOut, creditOut, foundOut, stopNumber, drainedOut, writtenOut, readOut};
 
 pub fn moved(out: &mut [u64; 2], m: Moved) -> u64
     ensures answer { λ r. ⌜ r ≡ movedNumber m ⌝ }
@@ -94,6 +97,42 @@ pub fn drained(out: &mut [u64; 3], d: Drained) -> u64
         } => {
             let why = stop_number(s);
             *out = [m, n, why];
+            0
+        }
+    }
+}
+
+pub fn written(out: &mut [u64; 1], w: Written) -> u64
+    ensures answer { λ r. ⌜ r ≡ writtenNumber w ⌝ }
+    ensures out { λ _. ⌜ now (out .exit) ≡ writtenOut w ⌝ }
+{
+    match w {
+        Written::Refused(r) => {
+            *out = [0];
+            r
+        }
+        Written::Bytes(n) => {
+            *out = [n as u64];
+            0
+        }
+    }
+}
+
+pub fn step_read(out: &mut [u64; 3], s: StepRead) -> u64
+    ensures answer { λ r. ⌜ r ≡ readNumber s ⌝ }
+    ensures out { λ _. ⌜ now (out .exit) ≡ readOut s ⌝ }
+{
+    match s {
+        StepRead::Refused(r) => {
+            *out = [0, 0, 0];
+            r
+        }
+        StepRead::Header { time, named } => {
+            *out = [1, time, named as u64];
+            0
+        }
+        StepRead::Later { time, named } => {
+            *out = [0, time, named as u64];
             0
         }
     }

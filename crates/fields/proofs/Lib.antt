@@ -1,2 +1,2 @@
 -- What a proof of this crate cites beside the laws of `sheet`.
-pub mod PutDigits
+pub mod Digits

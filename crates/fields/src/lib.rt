@@ -1,12 +1,18 @@
 // The fields of a line that is printed, and its end, written into a lent buffer. Each function puts bytes at a place and gives the place
 // behind them; the caller sees that there is room.
 use network::Stop;
+ghost use Prim.Native.Nat.{_≤_};
+ghost use lib.ListN.{length};
+ghost use mathlib.Core.Path.{_≡_};
 ghost use mathlib.Core.List.{[], _∷_};
 ghost use Rattle.sheet.specs.Text.{comma, cr, lf};
-ghost use Rattle.sheet.specs.Output.{decimal, fieldsAndEnd, stopWord, Room, Put};
+ghost use Rattle.sheet.specs.Output.{numeral, decimal, fieldsAndEnd, stopWord, Room, Put};
+
+// The base of the numbers of a sheet.
+pub const TEN: u64 = 10;
 
 // One byte.
-fn put_byte(out: &mut [u8], at: usize, b: u8) -> usize
+pub fn put_byte(out: &mut [u8], at: usize, b: u8) -> usize
     requires { ⌜ Room (now out) at (b ∷ []) ⌝ }
     ensures { λ r. ⌜ Put (now (out .entry)) at (b ∷ []) (now (out .exit)) r ⌝ }
 {
@@ -15,7 +21,7 @@ fn put_byte(out: &mut [u8], at: usize, b: u8) -> usize
 }
 
 // Bytes one after another.
-fn put_bytes(out: &mut [u8], at: usize, bytes: &[u8]) -> usize
+pub fn put_bytes(out: &mut [u8], at: usize, bytes: &[u8]) -> usize
     requires { ⌜ Room (now out) at (now bytes) ⌝ }
     ensures { λ r. ⌜ Put (now (out .entry)) at (now (bytes .entry)) (now (out .exit)) r ⌝ }
 {
@@ -28,16 +34,36 @@ fn put_bytes(out: &mut [u8], at: usize, bytes: &[u8]) -> usize
     next
 }
 
-// A number's decimal digits: those of a tenth of it first.
-fn put_number(out: &mut [u8], at: usize, n: u64) -> usize
-    requires { ⌜ Room (now out) at (decimal n) ⌝ }
-    ensures { λ r. ⌜ Put (now (out .entry)) at (decimal n) (now (out .exit)) r ⌝ }
+// How many digits a number has in a base.
+pub fn number_length(base: u64, n: u64) -> usize
+    requires { ⌜ 2 ≤ base ⌝ }
+    ensures { λ r. ⌜ r ≡ length (numeral base n) ⌝ }
 {
-    if n < 10 {
-        return put_byte(out, at, b'0' + n as u8);
+    let mut rest = n;
+    let mut count = 1;
+    while base <= rest {
+        rest = rest / base;
+        count += 1;
     }
-    let next = put_number(out, at, n / 10);
-    put_byte(out, next, b'0' + (n % 10) as u8)
+    count
+}
+
+// A number's digits, the last one first: how many there are says where it stands.
+pub fn put_number(out: &mut [u8], at: usize, base: u64, n: u64) -> usize
+    requires { ⌜ (2 ≤ base) × (base ≤ 10) ⌝ }
+    requires { ⌜ Room (now out) at (numeral base n) ⌝ }
+    ensures { λ r. ⌜ Put (now (out .entry)) at (numeral base n) (now (out .exit)) r ⌝ }
+{
+    let end = at + number_length(base, n);
+    let mut i = end - 1;
+    let mut rest = n;
+    while base <= rest {
+        out[i] = b'0' + (rest % base) as u8;
+        rest = rest / base;
+        i -= 1;
+    }
+    out[i] = b'0' + rest as u8;
+    end
 }
 
 // A further field that is a number.
@@ -46,7 +72,7 @@ pub fn put_field(out: &mut [u8], at: usize, n: u64) -> usize
     ensures { λ r. ⌜ Put (now (out .entry)) at (comma ∷ decimal n) (now (out .exit)) r ⌝ }
 {
     let next = put_byte(out, at, b',');
-    put_number(out, next, n)
+    put_number(out, next, TEN, n)
 }
 
 // The end of a line.

@@ -4,7 +4,6 @@
 use mathlib.Core.Path.{_≡_, ap, sym, _∙_}
 use mathlib.Core.List.{List}
 use Prim.Native.Nat.{ℕ, _+_, _-_, _<_, _≤_}
-use native.Mathlib.Nat.{add-zero}
 use native.Mathlib.Omega.{arith}
 use lib.Dec.{T}
 use lib.ListN.{length, getD, drop}
@@ -13,7 +12,7 @@ use Rattle.base.specs.Parts.{getD-span}
 use Rattle.network.specs.Sizes.{Shape, shapeOf, sizesInRange, nodes, queues, capacity}
 use Rattle.network.specs.SizesLaws.{range-of, capacity-pos}
 use Rattle.network.specs.Layout.{need, queueStart, queueEnd, queueLength, queuePart, countOf, packetsOf, held}
-use Rattle.network.specs.LayoutLaws.{end-start, end-length}
+use Rattle.network.specs.LayoutLaws.{end-start, end-length, count-word}
 use Rattle.network.specs.CheckLaws.{Network}
 use Rattle.network.specs.Refusals.{head}
 use Rattle.network.specs.declared.Sizes.{Sizes}
@@ -43,13 +42,6 @@ inside S w n q k =
 wide : (S : Shape) (n q : ℕ) (c : ℕ) → c ≤ capacity S q → c < queueEnd S n q - queueStart S n q
 wide S n q c h = let e = end-start S n q in omega arith
 
-count-word : (S : Shape) (w : List ℕ) (n q : ℕ) → CheckedQueue S w n q → getD w (queueStart S n q) 0 ≡ length (held S w n q)
-unfolding countOf queuePart
-count-word S w n q k =
-    ap (λ (i : ℕ). getD w i 0) (sym (add-zero (queueStart S n q)))
-    ∙ sym (getD-span w (queueStart S n q) (queueEnd S n q) 0 (wide S n q 0 (omega arith)))
-    ∙ sym (checked-count S w n q k)
-
 head-word : (S : Shape) (w : List ℕ) (n q : ℕ) → CheckedQueue S w n q → 0 < length (held S w n q)
     → getD w (queueStart S n q + 1) 0 ≡ head (held S w n q)
 unfolding head held packetsOf queuePart
@@ -75,7 +67,7 @@ module _ (s : Sizes) (w : List ℕ) (n q : ℕ) (k : QueueOf (shapeOf s) w n q) 
   inside-at start e = let i = inside (shapeOf s) w n q queue-checked in omega arith
 
   pub count-at : (start : ℕ) → start ≡ queueStart (shapeOf s) n q → getD w start 0 ≡ length (held (shapeOf s) w n q)
-  count-at start e = ap (λ (i : ℕ). getD w i 0) e ∙ count-word (shapeOf s) w n q queue-checked
+  count-at start e = ap (λ (i : ℕ). getD w i 0) e ∙ count-word (shapeOf s) w n q (checked-fits (shapeOf s) w n q queue-checked) (queue-checked .count)
 
   pub head-at : (start : ℕ) → start ≡ queueStart (shapeOf s) n q → 0 < length (held (shapeOf s) w n q)
       → getD w (start + 1) 0 ≡ head (held (shapeOf s) w n q)

@@ -27,7 +27,7 @@ by-refusal f zero t u = t
 by-refusal f (suc k) t u = rw (ne-eqb (suc k) 0 (suc-ne-zero k)) u
 
 -- the number of an answer that is 0 where the call is not refused
-number-of : {A : Type 0} (f : A → ℕ) (refusal : ℕ) {after before : A} → f after ≡ 0 → f before ≡ refusal → f (unlessRefused refusal after before) ≡ refusal
+pub number-of : {A : Type 0} (f : A → ℕ) (refusal : ℕ) {after before : A} → f after ≡ 0 → f before ≡ refusal → f (unlessRefused refusal after before) ≡ refusal
 number-of f zero t u = t
 number-of f (suc k) t u = rw (ne-eqb (suc k) 0 (suc-ne-zero k)) u
 

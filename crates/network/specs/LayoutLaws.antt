@@ -12,7 +12,7 @@ use lib.ListN.{length, getD, take, drop, replicate, length-append, length-drop, 
 use lib.Seq.{length-take-le, getD-set-same, getD-set-other, drop-set-lt, take-append-seam, drop-append-seam}
 use Rattle.base.specs.Tests.{allOf, allOf-head, allOf-tail}
 use Rattle.base.specs.Sums.{sumBelow, sumOf, sumOf-append, sumOf-one, sumOf-ones, sumOf-least, sum-same, sum-change, sum-fewer, term-le, some-term}
-use Rattle.base.specs.Parts.{length-span, length-splice, getD-before, span-splice, span-apart, drop-splice, splice-splice, span-set-before}
+use Rattle.base.specs.Parts.{length-span, length-splice, getD-before, getD-span, span-splice, span-apart, drop-splice, splice-splice, span-set-before}
 use Rattle.network.specs.Sizes.{Shape, nodes, queues, escapeQueue, capacity}
 use Rattle.network.specs.Layout.{headerWords, shape, acceptedAt, deliveredAt, movesAt, accepted, delivered, movesMade, raised, queueLength, nodeWords, queueStart, queueEnd, need, queueWords, queuePart, countOf, packetsOf, unusedOf, held, load, fill, putQueue, total}
 
@@ -219,6 +219,16 @@ pub length-queuePart : (S : Shape) (w : List ℕ) (n q : ℕ) → Fits S w n q �
 unfolding queuePart queueLength
 length-queuePart S w n q fits =
     length-span w (queueStart S n q) (queueEnd S n q) (start-end S n q) (end-length S w n q fits) ∙ end-start S n q
+
+-- the word where a queue starts is the number that it holds
+pub count-word : (S : Shape) (w : List ℕ) (n q : ℕ) → Fits S w n q → countOf (queuePart S w n q) ≤ capacity S q → getD w (queueStart S n q) 0 ≡ length (held S w n q)
+unfolding held countOf queuePart queueLength
+count-word S w n q f few =
+    let z : queueStart S n q ≡ queueStart S n q + 0 = omega arith in
+    let e = end-start S n q in
+    ap (λ (i : ℕ). getD w i 0) z
+    ∙ sym (getD-span w (queueStart S n q) (queueEnd S n q) 0 (omega arith))
+    ∙ sym (length-packetsOf (capacity S q) (queuePart S w n q) (length-queuePart S w n q f) few)
 
 -- what is put in is as long as what it replaces
 put-length : (S : Shape) (n q : ℕ) (ps : List ℕ) → length ps ≤ capacity S q

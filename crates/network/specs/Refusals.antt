@@ -11,7 +11,7 @@ use Rattle.network.specs.Layout.{shape, headerWords, need, held, fill, a
 use Rattle.network.specs.Check.{isNetwork, mostAccepted}
 use Rattle.network.specs.Routes.{routes, deliver, freeSlots, slotsNeeded}
 
--- R161 to R174, with the trade's words where they are others
+-- R161 to R175, with the trade's words where they are others
 abbrev pub shortStore : ℕ
 shortStore = 1
 
@@ -51,13 +51,17 @@ noSlot = 11
 abbrev pub noBubble : ℕ
 noBubble = 12
 
--- R173: the program's own, of a line that is no command
+-- R173: of a line that is no command, and of bytes that are no step of a dump
 abbrev pub badLine : ℕ
 badLine = 13
 
 -- "to oneself"
 abbrev pub ownNode : ℕ
 ownNode = 14
+
+-- R175: of a page or a list of fills that is too short for a step of a dump
+abbrev pub shortPage : ℕ
+shortPage = 15
 
 -- refused by this number if the test applies, else whatever the later tests say
 abbrev pub refuse : Bool → ℕ → ℕ → ℕ

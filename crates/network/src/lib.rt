@@ -100,11 +100,14 @@ pub const NO_SLOT: u64 = 11;
 // R172: the target has one free slot and two are needed.
 pub const NO_BUBBLE: u64 = 12;
 
-// R173: no command of the bench program.
+// R173: no command of the bench program, or no step of a dump.
 pub const BAD_LINE: u64 = 13;
 
 // R174: an offer to the node at which it is made.
 pub const OWN_NODE: u64 = 14;
+
+// R175: a page or a list of fills too short for a step of a dump.
+pub const SHORT_PAGE: u64 = 15;
 
 // Move: refused by a rule, passed on to a neighbour, or delivered, with the packet word that it hands out.
 pub enum Moved {

@@ -1,7 +1,7 @@
 -- The fields behind the first, read one after another: the invariant of the loop of `read_numbers`, its steps and its ways out.
--- Order: what a field that was read shows; one more of the first five; the invariant. Assumes nothing.
+-- Order: one more number; one more of the first five; the invariant. Assumes nothing.
 use mathlib.Core.Path.{_≡_, refl, ap, ap₂, sym, _∙_}
-use mathlib.Core.Bool.{Bool, true, false, cond, _&&_, false≢true}
+use mathlib.Core.Bool.{Bool, true, false, _&&_, false≢true}
 use mathlib.Core.List.{List, [], _∷_, _++_, map, append-assoc, append-nil}
 use Prim.Native.Nat.{ℕ, _+_, _-_, _<_, _≤_}
 use native.Mathlib.Omega.{arith}
@@ -9,48 +9,25 @@ use lib.ListN.{length, set, take, drop, length-append, length-map, drop-of-lengt
 use lib.Seq.{set-out}
 use Rattle.base.specs.Tests.{allOf}
 use Rattle.reader.specs.declared.Number.{Number}
-use Rattle.sheet.specs.Commands.{laterFields, isNumber, value}
-use Rattle.reader.specs.Reading.{numberOf, Separator, firstFive, NumbersOf}
-use Rattle.reader.proofs.Fields.{endFrom, fieldAt, end-separator, next-field}
+use Rattle.sheet.specs.Text.{comma}
+use Rattle.sheet.specs.Commands.{laterFields, ten, largestNumber, isNumber, value}
+use Rattle.sheet.specs.Fields.{endFrom, fieldAt}
+use Rattle.reader.specs.Reading.{numberOf, is-number, number-is, not-number, Separator, firstFive, NumbersOf}
+use Rattle.reader.proofs.Fields.{end-separator, next-field}
 
--- by what was read in a field, whether it is a number, and which
-is-number : (field : List ℕ) (n : ℕ) → Number.Value n ≡ numberOf field → isNumber field ≡ true
-unfolding numberOf
-is-number field n e = go (isNumber field) e
-  where
-    go : (b : Bool) → Number.Value n ≡ cond b (Number.Value (value field)) Number.Nothing → b ≡ true
-    go true e = refl
-    go false e = absurd (let z : _≡_ {A = ℕ} 0 1 = cc in omega arith)
-
-number-is : (field : List ℕ) (n : ℕ) → Number.Value n ≡ numberOf field → n ≡ value field
-unfolding numberOf
-number-is field n e = go (isNumber field) e
-  where
-    go : (b : Bool) → Number.Value n ≡ cond b (Number.Value (value field)) Number.Nothing → n ≡ value field
-    go true e = cc
-    go false e = absurd (let z : _≡_ {A = ℕ} 0 1 = cc in omega arith)
-
-not-number : (field : List ℕ) → Number.Nothing ≡ numberOf field → isNumber field ≡ false
-unfolding numberOf
-not-number field e = go (isNumber field) e
-  where
-    go : (b : Bool) → Number.Nothing ≡ cond b (Number.Value (value field)) Number.Nothing → b ≡ false
-    go true e = absurd (let z : _≡_ {A = ℕ} 0 1 = cc in omega arith)
-    go false e = refl
-
-all-append : (fs gs : List (List ℕ)) → allOf isNumber fs ≡ true → allOf isNumber (fs ++ gs) ≡ allOf isNumber gs
+-- what is appended to numbers, and their values
+all-append : (f : List ℕ → Bool) (xs ys : List (List ℕ)) → allOf f xs ≡ true → allOf f (xs ++ ys) ≡ allOf f ys
 unfolding allOf
-all-append [] gs e = refl
-all-append (f ∷ fs) gs e = go (isNumber f) (λ e′. all-append fs gs e′) e
+all-append f [] ys e = refl
+all-append f (x ∷ xs) ys e = go (f x) (λ e′. all-append f xs ys e′) e
   where
-    go : (b : Bool) → (allOf isNumber fs ≡ true → allOf isNumber (fs ++ gs) ≡ allOf isNumber gs) → (b && allOf isNumber fs) ≡ true
-        → (b && allOf isNumber (fs ++ gs)) ≡ allOf isNumber gs
+    go : (b : Bool) → (allOf f xs ≡ true → allOf f (xs ++ ys) ≡ allOf f ys) → (b && allOf f xs) ≡ true → (b && allOf f (xs ++ ys)) ≡ allOf f ys
     go true r e = r e
     go false r e = absurd (false≢true e)
 
-map-snoc : (fs : List (List ℕ)) (f : List ℕ) → map value (fs ++ (f ∷ [])) ≡ map value fs ++ (value f ∷ [])
-map-snoc [] f = refl
-map-snoc (g ∷ fs) f = ap (λ l. value g ∷ l) (map-snoc fs f)
+map-snoc : (f : List ℕ → ℕ) (xs : List (List ℕ)) (x : List ℕ) → map f (xs ++ (x ∷ [])) ≡ map f xs ++ (f x ∷ [])
+map-snoc f [] x = refl
+map-snoc f (y ∷ xs) x = ap (λ l. f y ∷ l) (map-snoc f xs x)
 
 -- a number behind the first five is left out
 five-snoc : (ns : List ℕ) (n : ℕ) → firstFive (ns ++ (n ∷ [])) ≡ set (firstFive ns) (length ns) n
@@ -67,10 +44,10 @@ pub record Gathered (line : List ℕ) (start : ℕ) (values : List ℕ) (count a
   pub done : List (List ℕ)
   pub separator : Separator line at
   pub fields : laterFields (drop start line) ≡ done ++ laterFields (drop at line)
-  pub valid : allOf isNumber done ≡ true
+  pub valid : allOf (isNumber ten largestNumber) done ≡ true
   pub counted : count ≡ length done
   pub few : count ≤ at
-  pub stored : values ≡ firstFive (map value done)
+  pub stored : values ≡ firstFive (map (value ten) done)
 
 pub none : (line : List ℕ) (start : ℕ) → Separator line start → Gathered line start (0 ∷ 0 ∷ 0 ∷ 0 ∷ 0 ∷ []) 0 start
 unfolding allOf firstFive
@@ -78,41 +55,44 @@ none line start s = record { done = []; separator = s; fields = refl; valid = re
 
 -- the next field is the part of the line from behind the separator to `end`
 module _ {line : List ℕ} {start : ℕ} {values : List ℕ} {count at : ℕ} (g : Gathered line start values count at) (h : at < length line) where
-  fields-next : laterFields (drop start line) ≡ g .done ++ fieldAt line (at + 1) ∷ laterFields (drop (endFrom line (at + 1)) line)
+  fields-next : laterFields (drop start line) ≡ g .done ++ fieldAt comma line (at + 1) ∷ laterFields (drop (endFrom comma line (at + 1)) line)
   fields-next = g .fields ∙ ap (λ fs. g .done ++ fs) (next-field line at (g .separator) h)
 
-  one-more : (n : ℕ) → Number.Value n ≡ numberOf (fieldAt line (at + 1)) → Gathered line start (set values count n) (count + 1) (endFrom line (at + 1))
+  one-more : (n : ℕ) → Number.Value n ≡ numberOf ten largestNumber (fieldAt comma line (at + 1))
+      → Gathered line start (set values count n) (count + 1) (endFrom comma line (at + 1))
   unfolding allOf
   one-more n e =
-      let f : List ℕ = fieldAt line (at + 1) in
+      let f : List ℕ = fieldAt comma line (at + 1) in
       let few : count ≤ at = g .few in
       record {
         done = g .done ++ (f ∷ []);
         separator = end-separator line (at + 1) (omega arith);
-        fields = fields-next ∙ sym (append-assoc (g .done) (f ∷ []) (laterFields (drop (endFrom line (at + 1)) line)));
-        valid = all-append (g .done) (f ∷ []) (g .valid) ∙ ap (λ b. b && true) (is-number f n e);
+        fields = fields-next ∙ sym (append-assoc (g .done) (f ∷ []) (laterFields (drop (endFrom comma line (at + 1)) line)));
+        valid = all-append (isNumber ten largestNumber) (g .done) (f ∷ []) (g .valid) ∙ ap (λ b. b && true) (is-number ten largestNumber f n e);
         counted = ap (λ k. k + 1) (g .counted) ∙ sym (length-append (g .done) (f ∷ []));
         few = omega arith;
         stored =
-            ap₂ (λ vs k. set vs k n) (g .stored) (g .counted ∙ sym (length-map (g .done) value))
-            ∙ sym (five-snoc (map value (g .done)) n)
-            ∙ ap (λ v. firstFive (map value (g .done) ++ (v ∷ []))) (number-is f n e)
-            ∙ ap firstFive (sym (map-snoc (g .done) f));
+            ap₂ (λ vs k. set vs k n) (g .stored) (g .counted ∙ sym (length-map (g .done) (value ten)))
+            ∙ sym (five-snoc (map (value ten) (g .done)) n)
+            ∙ ap (λ v. firstFive (map (value ten) (g .done) ++ (v ∷ []))) (number-is ten largestNumber f n e)
+            ∙ ap firstFive (sym (map-snoc (value ten) (g .done) f));
       }
 
-  not-all : Number.Nothing ≡ numberOf (fieldAt line (at + 1)) → false ≡ allOf isNumber (laterFields (drop start line))
+  not-all : Number.Nothing ≡ numberOf ten largestNumber (fieldAt comma line (at + 1))
+      → false ≡ allOf (isNumber ten largestNumber) (laterFields (drop start line))
   unfolding allOf
   not-all e =
-      let f : List ℕ = fieldAt line (at + 1) in
-      let fs : List (List ℕ) = laterFields (drop (endFrom line (at + 1)) line) in
+      let f : List ℕ = fieldAt comma line (at + 1) in
+      let fs : List (List ℕ) = laterFields (drop (endFrom comma line (at + 1)) line) in
       sym
-      (ap (allOf isNumber) fields-next
-      ∙ all-append (g .done) (f ∷ fs) (g .valid)
-      ∙ ap (λ b. b && allOf isNumber fs) (not-number f e))
+      (ap (allOf (isNumber ten largestNumber)) fields-next
+      ∙ all-append (isNumber ten largestNumber) (g .done) (f ∷ fs) (g .valid)
+      ∙ ap (λ b. b && allOf (isNumber ten largestNumber) fs) (not-number ten largestNumber f e))
 
-  module _ (end : ℕ) (q : end ≡ endFrom line (at + 1)) (read : Number) (r : read ≡ numberOf (take (end - (at + 1)) (drop (at + 1) line))) where
-    read-at : read ≡ numberOf (fieldAt line (at + 1))
-    read-at = r ∙ ap (λ k. numberOf (take (k - (at + 1)) (drop (at + 1) line))) q
+  module _ (end : ℕ) (q : end ≡ endFrom comma line (at + 1)) (read : Number)
+      (r : read ≡ numberOf ten largestNumber (take (end - (at + 1)) (drop (at + 1) line))) where
+    read-at : read ≡ numberOf ten largestNumber (fieldAt comma line (at + 1))
+    read-at = r ∙ ap (λ k. numberOf ten largestNumber (take (k - (at + 1)) (drop (at + 1) line))) q
 
     pub more : (n : ℕ) → read ≡ Number.Value n → Gathered line start (set values count n) (count + 1) end
     more n e = rw q (one-more n (sym e ∙ read-at))
@@ -134,7 +114,7 @@ all {line} {start} {values} {count} {at} g h =
     let d : drop at line ≡ [] = drop-of-length-le line h in
     let e : laterFields (drop start line) ≡ g .done = g .fields ∙ ap (λ s. g .done ++ laterFields s) d ∙ append-nil (g .done) in
     record {
-      valid = sym (ap (allOf isNumber) e ∙ g .valid);
+      valid = sym (ap (allOf (isNumber ten largestNumber)) e ∙ g .valid);
       count = λ v. g .counted ∙ ap length (sym e);
-      values = λ v. g .stored ∙ ap (λ fs. firstFive (map value fs)) (sym e);
+      values = λ v. g .stored ∙ ap (λ fs. firstFive (map (value ten) fs)) (sym e);
     }

@@ -13,9 +13,11 @@ use Rattle.base.specs.Tests.{allOf}
 use Rattle.sheet.specs.declared.Command.{Command}
 use Rattle.reader.specs.declared.Numbers.{Numbers}
 use Rattle.sheet.specs.Lines.{lineLimit}
-use Rattle.sheet.specs.Commands.{firstField, laterFields, value, isNumber, commandWith, wellFormed, commandOf}
+use Rattle.sheet.specs.Commands.{firstField, laterFields, ten, largestNumber, value, isNumber, commandWith, wellFormed, commandOf}
+use Rattle.sheet.specs.Text.{comma}
+use Rattle.sheet.specs.Fields.{upTo-length, upTo-take}
 use Rattle.reader.specs.Reading.{Separator, firstFive, NumbersOf}
-use Rattle.reader.proofs.Fields.{first-length, first-take, later-behind, end-separator}
+use Rattle.reader.proofs.Fields.{later-behind, end-separator}
 
 module _ {letter count : ℕ} {v : List ℕ} (n : List ℕ) (c : count ≡ length n) (f : v ≡ firstFive n) where
   pub make : letter ≡ 84 → count ≡ 5 → Command.Make (getD v 0 0) (getD v 1 0) (getD v 2 0) (getD v 3 0) (getD v 4 0) ≡ commandWith letter n
@@ -67,7 +69,7 @@ module _ (line : List ℕ) (end : ℕ) (q : end ≡ 0 + length (firstField line)
   first-separator = rw q (end-separator line 0 (omega arith))
 
   pub not-empty : end ≡ 1 → 0 < length line
-  not-empty one = let h = first-length line in omega arith
+  not-empty one = let h = upTo-length comma line in omega arith
 
   pub no-first-letter : (end ≡ 1 → ⊥) → Command.Bad ≡ commandOf line
   unfolding commandOf wellFormed
@@ -79,8 +81,8 @@ module _ (line : List ℕ) (end : ℕ) (q : end ≡ 0 + length (firstField line)
   behind = ap (λ k. laterFields (drop k line)) (sym first-length-is) ∙ sym (later-behind line)
 
   module _ (r : Numbers) (read : NumbersOf (laterFields (drop end line)) r) where
-    valid-is : r .valid ≡ allOf isNumber (laterFields line)
-    valid-is = read .valid ∙ ap (allOf isNumber) behind
+    valid-is : r .valid ≡ allOf (isNumber ten largestNumber) (laterFields line)
+    valid-is = read .valid ∙ ap (allOf (isNumber ten largestNumber)) behind
 
     pub no-numbers : r .valid ≡ false → Command.Bad ≡ commandOf line
     unfolding commandOf wellFormed
@@ -93,9 +95,9 @@ module _ (line : List ℕ) (end : ℕ) (q : end ≡ 0 + length (firstField line)
     unfolding commandOf wellFormed
     letter-and-numbers answer is h one e =
         let first : getD (firstField line) 0 0 ≡ getD line 0 0
-        = ap (λ s. getD s 0 0) (sym (first-take line) ∙ ap (λ k. take k line) (first-length-is ∙ one)) ∙ getD-take 1 line 0 0 (omega arith) in
-        let count : r .count ≡ length (map value (laterFields line))
-        = read .count e ∙ ap length behind ∙ sym (length-map (laterFields line) value) in
-        let values : r .values ≡ firstFive (map value (laterFields line)) = read .values e ∙ ap (λ fs. firstFive (map value fs)) behind in
-        is (map value (laterFields line)) count values
+        = ap (λ s. getD s 0 0) (sym (upTo-take comma line) ∙ ap (λ k. take k line) (first-length-is ∙ one)) ∙ getD-take 1 line 0 0 (omega arith) in
+        let count : r .count ≡ length (map (value ten) (laterFields line))
+        = read .count e ∙ ap length behind ∙ sym (length-map (laterFields line) (value ten)) in
+        let values : r .values ≡ firstFive (map (value ten) (laterFields line)) = read .values e ∙ ap (λ fs. firstFive (map (value ten) fs)) behind in
+        is (map (value ten) (laterFields line)) count values
         ∙ rw (le-leb (length line) lineLimit h, eq-eqb (length (firstField line)) 1 (first-length-is ∙ one), sym valid-is ∙ e, first) refl

@@ -1,104 +1,152 @@
 -- Digits read one after another: what `digitsFrom` is at each way out of the loop, and what a turn leaves of it.
--- Order: one byte; the value only grows; the loop's invariant and its steps. Assumes nothing.
+-- Order: one byte; one digit more; the value only grows; the loop's invariant and its steps; leading zeros. Assumes nothing.
 use mathlib.Core.Path.{_≡_, refl, ap, sym, _∙_}
+use mathlib.Core.Logic.{_≢_}
 use mathlib.Core.Bool.{true, false, and-false}
 use mathlib.Core.List.{List, [], _∷_}
-use Prim.Native.Nat.{ℕ, suc, _+_, _*_, _-_, _<_, _≤_}
+use Prim.Native.Nat.{ℕ, suc, _+_, _*_, _-_, _/_, _<_, _≤_}
 use native.Mathlib.Numerals.{add-one}
+use native.Mathlib.Nat.{mul-le-mul-left, le-div-iff-mul-le, div-lt-iff-lt-mul}
 use native.Mathlib.Omega.{arith}
 use lib.Dec.{leb}
 use lib.ListN.{length, getD, drop}
 use lib.Seq.{drop-cons, drop-length}
-use borrow.Author.Tests.{le-leb, lt-leb, eq-eqb, ne-eqb}
+use borrow.Author.Tests.{le-leb, lt-leb, le-ltb, lt-ltb, eq-eqb}
 use Rattle.base.specs.Tests.{allOf}
 use Rattle.reader.specs.declared.Number.{Number}
-use Rattle.sheet.specs.Commands.{isDigit, valueFrom, value, largestNumber, noLeadingZero, isNumber}
+use Rattle.sheet.specs.Commands.{isDigit, valueFrom, value, noLeadingZero, isNumber}
 use Rattle.reader.specs.Reading.{numberOf, digitsFrom}
 
-digit-low : (b : ℕ) → b < 48 → isDigit b ≡ false
+digit-low : (base b : ℕ) → b < 48 → isDigit base b ≡ false
 unfolding isDigit
-digit-low b h = rw (lt-leb 48 b h) refl
+digit-low base b h = rw (lt-leb 48 b h) refl
 
-digit-high : (b : ℕ) → 57 < b → isDigit b ≡ false
+digit-high : (base b : ℕ) → base ≤ b - 48 → 48 ≤ b → isDigit base b ≡ false
 unfolding isDigit
-digit-high b h = rw (lt-leb b 57 h) (and-false (leb 48 b))
+digit-high base b h l = rw (le-ltb b (48 + base) (omega arith)) (and-false (leb 48 b))
 
-digit-within : (b : ℕ) → 48 ≤ b → b ≤ 57 → isDigit b ≡ true
+digit-within : (base b : ℕ) → 48 ≤ b → b - 48 < base → isDigit base b ≡ true
 unfolding isDigit
-digit-within b l h = rw (le-leb 48 b l, le-leb b 57 h) refl
+digit-within base b l h = rw (le-leb 48 b l, lt-ltb b (48 + base) (omega arith)) refl
 
-value-grows : (n : ℕ) (field : List ℕ) → n ≤ valueFrom n field
+-- one digit more, by the quotient that the code compares: the number is at most `most`, or it is not. The divisor is no 0
+next-fits : (base most n d : ℕ) → 2 ≤ base → d ≤ most → n ≤ (most - d) / base → n * base + d ≤ most
+next-fits base most n d two h q =
+    let p : n * base ≤ most - d = (le-div-iff-mul-le {k = base} {x = n} {y = most - d} (omega arith)) .0 q in
+    omega arith
+
+next-large : (base most n d : ℕ) → 2 ≤ base → d ≤ most → (most - d) / base < n → most < n * base + d
+next-large base most n d two h q =
+    let p : most - d < n * base = (div-lt-iff-lt-mul {k = base} {x = most - d} {y = n} (omega arith)) .0 q in
+    omega arith
+
+-- the value only grows
+next-grows : (base n d : ℕ) → 2 ≤ base → n ≤ n * base + d
+next-grows base n d two =
+    let p : n * 1 ≤ n * base = mul-le-mul-left n (omega arith) in
+    omega arith
+
+value-grows : (base n : ℕ) → 2 ≤ base → (field : List ℕ) → n ≤ valueFrom base n field
 unfolding valueFrom
-value-grows n [] = omega arith
-value-grows n (b ∷ bs) = let h = value-grows (n * 10 + (b - 48)) bs in omega arith
+value-grows base n two [] = omega arith
+value-grows base n two (b ∷ bs) =
+    let s = next-grows base n (b - 48) two in
+    let h = value-grows base (n * base + (b - 48)) two bs in
+    omega arith
 
 -- one byte of the field
-pub digits-bad : (n b : ℕ) (bs : List ℕ) → isDigit b ≡ false → digitsFrom n (b ∷ bs) ≡ Number.Nothing
-unfolding digitsFrom allOf
-digits-bad n b bs e = rw e refl
+module _ (base most : ℕ) where
+  digits-bad : (n b : ℕ) (bs : List ℕ) → isDigit base b ≡ false → digitsFrom base most n (b ∷ bs) ≡ Number.Nothing
+  unfolding digitsFrom allOf
+  digits-bad n b bs e = rw e refl
 
-pub digits-next : (n b : ℕ) (bs : List ℕ) → isDigit b ≡ true → digitsFrom n (b ∷ bs) ≡ digitsFrom (n * 10 + (b - 48)) bs
-unfolding digitsFrom allOf valueFrom
-digits-next n b bs e = rw e refl
+  digits-next : (n b : ℕ) (bs : List ℕ) → isDigit base b ≡ true → digitsFrom base most n (b ∷ bs) ≡ digitsFrom base most (n * base + (b - 48)) bs
+  unfolding digitsFrom allOf valueFrom
+  digits-next n b bs e = rw e refl
 
-pub digits-large : (n : ℕ) (field : List ℕ) → largestNumber < n → digitsFrom n field ≡ Number.Nothing
-unfolding digitsFrom
-digits-large n field h =
-    let g = value-grows n field in
-    rw (lt-leb (valueFrom n field) largestNumber (omega arith), and-false (allOf isDigit field)) refl
+  digits-large : (n : ℕ) (field : List ℕ) → 2 ≤ base → most < n → digitsFrom base most n field ≡ Number.Nothing
+  unfolding digitsFrom
+  digits-large n field two h =
+      let g = value-grows base n two field in
+      rw (lt-leb (valueFrom base n field) most (omega arith), and-false (allOf (isDigit base) field)) refl
 
-pub digits-end : (n : ℕ) → n ≤ largestNumber → digitsFrom n [] ≡ Number.Value n
-unfolding digitsFrom allOf valueFrom
-digits-end n h = rw (le-leb n largestNumber h) refl
+  digits-end : (n : ℕ) → n ≤ most → digitsFrom base most n [] ≡ Number.Value n
+  unfolding digitsFrom allOf valueFrom
+  digits-end n h = rw (le-leb n most h) refl
 
 -- i bytes have been read, as `value`: what the whole field gives is what the rest gives behind it
-pub record Reading (field : List ℕ) (value i : ℕ) : Type 0 where
+pub record Reading (base most : ℕ) (field : List ℕ) (value i : ℕ) : Type 0 where
   pub within : i ≤ length field
-  pub fits : value ≤ largestNumber
-  pub left : digitsFrom 0 field ≡ digitsFrom value (drop i field)
+  pub fits : value ≤ most
+  pub left : digitsFrom base most 0 field ≡ digitsFrom base most value (drop i field)
 
-reading-bad : {field : List ℕ} {value i : ℕ} → Reading field value i → i < length field → isDigit (getD field i 0) ≡ false → Number.Nothing ≡ digitsFrom 0 field
-reading-bad {field} {value} {i} r h e = sym (r .left ∙ ap (digitsFrom value) (drop-cons field i 0 h) ∙ digits-bad value (getD field i 0) (drop (suc i) field) e)
+pub none : (base most : ℕ) (field : List ℕ) → Reading base most field 0 0
+none base most field = record { within = omega arith; fits = omega arith; left = refl }
 
-reading-next : {field : List ℕ} {value i : ℕ} → Reading field value i → i < length field → isDigit (getD field i 0) ≡ true
-    → digitsFrom 0 field ≡ digitsFrom (value * 10 + (getD field i 0 - 48)) (drop (i + 1) field)
-reading-next {field} {value} {i} r h e =
-    r .left
-    ∙ ap (digitsFrom value) (drop-cons field i 0 h)
-    ∙ digits-next value (getD field i 0) (drop (suc i) field) e
-    ∙ ap (λ n. digitsFrom (value * 10 + (getD field i 0 - 48)) (drop n field)) (sym (add-one i))
+module _ {base most : ℕ} {field : List ℕ} {value i : ℕ} (r : Reading base most field value i) (h : i < length field) where
+  reading-bad : isDigit base (getD field i 0) ≡ false → Number.Nothing ≡ digitsFrom base most 0 field
+  reading-bad e =
+      sym
+      (r .left
+      ∙ ap (digitsFrom base most value) (drop-cons field i 0 h)
+      ∙ digits-bad base most value (getD field i 0) (drop (suc i) field) e)
 
-pub none : (field : List ℕ) → Reading field 0 0
-none field = record { within = omega arith; fits = omega arith; left = refl }
+  reading-next : isDigit base (getD field i 0) ≡ true
+      → digitsFrom base most 0 field ≡ digitsFrom base most (value * base + (getD field i 0 - 48)) (drop (i + 1) field)
+  reading-next e =
+      r .left
+      ∙ ap (digitsFrom base most value) (drop-cons field i 0 h)
+      ∙ digits-next base most value (getD field i 0) (drop (suc i) field) e
+      ∙ ap (λ n. digitsFrom base most (value * base + (getD field i 0 - 48)) (drop n field)) (sym (add-one i))
 
-pub low : {field : List ℕ} {value i : ℕ} → Reading field value i → i < length field → getD field i 0 < 48 → Number.Nothing ≡ digitsFrom 0 field
-low {field} {value} {i} r h l = reading-bad r h (digit-low (getD field i 0) l)
+  pub low : getD field i 0 < 48 → Number.Nothing ≡ digitsFrom base most 0 field
+  low l = reading-bad (digit-low base (getD field i 0) l)
 
-pub high : {field : List ℕ} {value i : ℕ} → Reading field value i → i < length field → 57 < getD field i 0 → Number.Nothing ≡ digitsFrom 0 field
-high {field} {value} {i} r h l = reading-bad r h (digit-high (getD field i 0) l)
+  module _ (l : 48 ≤ getD field i 0) where
+    pub high : base ≤ getD field i 0 - 48 → Number.Nothing ≡ digitsFrom base most 0 field
+    high u = reading-bad (digit-high base (getD field i 0) u l)
 
-module _ {field : List ℕ} {value i : ℕ} (r : Reading field value i) (h : i < length field) (l : 48 ≤ getD field i 0) (u : getD field i 0 ≤ 57) where
-  pub large : largestNumber < value * 10 + (getD field i 0 - 48) → Number.Nothing ≡ digitsFrom 0 field
-  large b =
-      sym (reading-next r h (digit-within (getD field i 0) l u) ∙ digits-large (value * 10 + (getD field i 0 - 48)) (drop (i + 1) field) b)
+    module _ (two : 2 ≤ base) (u : getD field i 0 - 48 < base) where
+      -- the number with this digit is too large: the digit alone is, or the digits before it are too many
+      large : most < value * base + (getD field i 0 - 48) → Number.Nothing ≡ digitsFrom base most 0 field
+      large b =
+          sym (reading-next (digit-within base (getD field i 0) l u) ∙ digits-large base most (value * base + (getD field i 0 - 48)) (drop (i + 1) field) two b)
 
-  pub next : value * 10 + (getD field i 0 - 48) ≤ largestNumber → Reading field (value * 10 + (getD field i 0 - 48)) (i + 1)
-  next b = record { within = omega arith; fits = b; left = reading-next r h (digit-within (getD field i 0) l u) }
+      pub large-digit : most < getD field i 0 - 48 → Number.Nothing ≡ digitsFrom base most 0 field
+      large-digit d = large (omega arith)
 
-pub end : {field : List ℕ} {value i : ℕ} → Reading field value i → length field ≤ i → Number.Value value ≡ digitsFrom 0 field
-end {field} {value} {i} r h =
+      module _ (d : getD field i 0 - 48 ≤ most) where
+        pub large-value : (most - (getD field i 0 - 48)) / base < value → Number.Nothing ≡ digitsFrom base most 0 field
+        large-value q = large (next-large base most value (getD field i 0 - 48) two d q)
+
+        pub next : value ≤ (most - (getD field i 0 - 48)) / base → Reading base most field (value * base + (getD field i 0 - 48)) (i + 1)
+        next q =
+            record {
+              within = omega arith;
+              fits = next-fits base most value (getD field i 0 - 48) two d q;
+              left = reading-next (digit-within base (getD field i 0) l u);
+            }
+
+pub end : {base most : ℕ} {field : List ℕ} {value i : ℕ} → Reading base most field value i → length field ≤ i
+    → Number.Value value ≡ digitsFrom base most 0 field
+end {base} {most} {field} {value} {i} r h =
     let w : i ≤ length field = r .within in
     let e : i ≡ length field = omega arith in
-    sym (r .left ∙ ap (λ n. digitsFrom value (drop n field)) e ∙ ap (digitsFrom value) (drop-length field) ∙ digits-end value (r .fits))
+    sym
+    (r .left
+    ∙ ap (λ n. digitsFrom base most value (drop n field)) e
+    ∙ ap (digitsFrom base most value) (drop-length field)
+    ∙ digits-end base most value (r .fits))
 
 -- a field whose first byte is no leading zero, and one where it is, by the tests of `read_number`
-pub number-of-digits : (field : List ℕ) → noLeadingZero field ≡ true → digitsFrom 0 field ≡ numberOf field
-unfolding numberOf isNumber digitsFrom value
-number-of-digits field e = rw e refl
+module _ (base most : ℕ) (field : List ℕ) where
+  pub number-of-digits : noLeadingZero field ≡ true → digitsFrom base most 0 field ≡ numberOf base most field
+  unfolding numberOf isNumber digitsFrom value
+  number-of-digits e = rw e refl
 
-pub no-number : (field : List ℕ) → noLeadingZero field ≡ false → Number.Nothing ≡ numberOf field
-unfolding numberOf isNumber
-no-number field e = rw e refl
+  pub no-number : noLeadingZero field ≡ false → Number.Nothing ≡ numberOf base most field
+  unfolding numberOf isNumber
+  no-number e = rw e refl
 
 pub empty : (field : List ℕ) → length field ≡ 0 → noLeadingZero field ≡ false
 unfolding noLeadingZero
@@ -111,13 +159,7 @@ leading [] h e = absurd (omega arith)
 leading (b ∷ []) h e = absurd (omega arith)
 leading (b ∷ c ∷ bs) h e = rw (eq-eqb b 48 e) refl
 
-pub not-leading : (field : List ℕ) → (getD field 0 0 ≡ 48 → ⊥) → (length field ≡ 0 → ⊥) → noLeadingZero field ≡ true
-unfolding noLeadingZero
-not-leading [] f h = absurd (h refl)
-not-leading (b ∷ []) f h = refl
-not-leading (b ∷ c ∷ bs) f h = rw (ne-eqb b 48 f) refl
-
-pub single : (field : List ℕ) → length field ≤ 1 → (length field ≡ 0 → ⊥) → noLeadingZero field ≡ true
+pub single : (field : List ℕ) → length field ≤ 1 → length field ≢ 0 → noLeadingZero field ≡ true
 unfolding noLeadingZero
 single [] l h = absurd (h refl)
 single (b ∷ []) l h = refl

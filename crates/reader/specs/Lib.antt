@@ -1,2 +1,2 @@
--- What the inner functions of the reader answer.
+-- What the functions of the reader answer.
 pub mod Reading

@@ -6,19 +6,23 @@ ghost use mathlib.Core.List.{List};
 ghost use Prim.Native.Nat.{ℕ, _+_, _≤_};
 ghost use lib.ListN.{length, drop};
 ghost use Rattle.reader.specs.Reading.{numberOf, digitsFrom, Separator, firstFive, NumbersOf};
-ghost use Rattle.sheet.specs.Commands.{firstField, laterFields, commandWith, commandOf};
+ghost use Rattle.sheet.specs.Commands.{upTo, laterFields, commandWith, commandOf};
 
 // What stands in a field: a number, or no number.
 pub enum Number {
-    Value(u32),
+    Value(u64),
     Nothing,
 }
 
+const TEN: u64 = 10;
+
 const LARGEST_NUMBER: u64 = 4294967295;
 
-// The number of a field that may have leading zeros. It gives up as soon as the number is too large, so that the value always fits.
-fn read_digits(field: &[u8]) -> Number
-    ensures { λ r. ⌜ r ≡ digitsFrom 0 (now (field .entry)) ⌝ }
+// The number of a field that may have leading zeros, in digits of the base, if it is at most `most`. Before it takes a digit in it sees
+// whether the number stays within, so that nothing wraps even where `most` is the largest u64.
+fn read_digits(field: &[u8], base: u64, most: u64) -> Number
+    requires { ⌜ 2 ≤ base ⌝ }
+    ensures { λ r. ⌜ r ≡ digitsFrom base most 0 (now (field .entry)) ⌝ }
 {
     let mut value: u64 = 0;
     let mut i = 0;
@@ -27,21 +31,26 @@ fn read_digits(field: &[u8]) -> Number
         if b < b'0' {
             return Number::Nothing;
         }
-        if b'9' < b {
+        let digit = (b - b'0') as u64;
+        if base <= digit {
             return Number::Nothing;
         }
-        value = value * 10 + (b - b'0') as u64;
-        if LARGEST_NUMBER < value {
+        if most < digit {
             return Number::Nothing;
         }
+        if (most - digit) / base < value {
+            return Number::Nothing;
+        }
+        value = value * base + digit;
         i += 1;
     }
-    Number::Value(value as u32)
+    Number::Value(value)
 }
 
-// The number of a field.
-fn read_number(field: &[u8]) -> Number
-    ensures { λ r. ⌜ r ≡ numberOf (now (field .entry)) ⌝ }
+// The number of a field, in digits of the base, if it is at most `most`.
+pub fn read_number(field: &[u8], base: u64, most: u64) -> Number
+    requires { ⌜ 2 ≤ base ⌝ }
+    ensures { λ r. ⌜ r ≡ numberOf base most (now (field .entry)) ⌝ }
 {
     let n = field.len();
     if n == 0 {
@@ -52,17 +61,17 @@ fn read_number(field: &[u8]) -> Number
             return Number::Nothing;
         }
     }
-    read_digits(field)
+    read_digits(field, base, most)
 }
 
-// Where the field that starts at `at` ends: at the next comma, or at the end of the line.
-fn field_end(line: &[u8], at: usize) -> usize
+// Where the field that starts at `at` ends: at the next byte that is `stop`, or at the end of the line.
+pub fn field_end(line: &[u8], at: usize, stop: u8) -> usize
     requires { ⌜ at ≤ length (now line) ⌝ }
-    ensures { λ r. ⌜ r ≡ at + length (firstField (drop at (now (line .entry)))) ⌝ }
+    ensures { λ r. ⌜ r ≡ at + length (upTo stop (drop at (now (line .entry)))) ⌝ }
 {
     let mut i = at;
     while i < line.len() {
-        if line[i] == b',' {
+        if line[i] == stop {
             return i;
         }
         i += 1;
@@ -87,11 +96,11 @@ fn read_numbers(line: &[u8], start: usize) -> Numbers
     let mut at = start;
     while at < line.len() {
         let from = at + 1;
-        let end = field_end(line, from);
-        match read_number(&line[from..end]) {
+        let end = field_end(line, from, b',');
+        match read_number(&line[from..end], TEN, LARGEST_NUMBER) {
             Number::Value(n) => {
                 if count < 5 {
-                    values[count] = n;
+                    values[count] = n as u32;
                 }
             }
             Number::Nothing => {
@@ -165,7 +174,7 @@ pub fn read_command(line: &[u8]) -> Command
     if LINE_LIMIT < line.len() {
         return Command::Bad;
     }
-    let end = field_end(line, 0);
+    let end = field_end(line, 0, b',');
     if end != 1 {
         return Command::Bad;
     }

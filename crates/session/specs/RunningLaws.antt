@@ -90,7 +90,7 @@ gave-one line store buffer out store′ out′ at same does prints =
     }
 
 -- a byte behind others
-carry-byte : (store : List ℕ) (c : Cutting) (s : Sheet) (b : ℕ) → s ≡ carryOut store c .sheet
+pub carry-byte : (store : List ℕ) (c : Cutting) (s : Sheet) (b : ℕ) → s ≡ carryOut store c .sheet
     → carryOut store (feedByte c b) ≡ printedBefore (carryOut store c .output) (carryOut (s .store) (feedByte (cutter s) b))
 carry-byte store c s b e =
     ap (λ d. carryOut store (feedByte d b)) (cutter-behind store c)
@@ -115,7 +115,7 @@ gave-byte store c out s out₁ at end b s′ part n g h low high same size =
       within = let e : length (splice out₁ at end part) ≡ length out₁ = length-splice out₁ at end part size low high in omega arith;
     })
 
-next-byte : (c : Cutting) (bytes : List ℕ) (i : ℕ) → i < length bytes → feedBytes c (take (i + 1) bytes) ≡ feedByte (feedBytes c (take i bytes)) (getD bytes i 0)
+pub next-byte : (c : Cutting) (bytes : List ℕ) (i : ℕ) → i < length bytes → feedBytes c (take (i + 1) bytes) ≡ feedByte (feedBytes c (take i bytes)) (getD bytes i 0)
 unfolding feedBytes
 next-byte c bytes i h =
     ap (feedBytes c) (ap (λ n. take n bytes) (add-one i) ∙ take-suc bytes i 0 h) ∙ feed-append c (take i bytes) (getD bytes i 0 ∷ [])

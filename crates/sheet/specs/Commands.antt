@@ -3,18 +3,22 @@ use mathlib.Core.Bool.{Bool, true, false, not, cond, _&&_}
 use mathlib.Core.List.{List, [], _∷_, map}
 use Prim.Native.Nat.{ℕ, _+_, _*_, _-_}
 use Prim.Native.Char.{code}
-use lib.Dec.{leb, eqb}
+use lib.Dec.{leb, ltb, eqb}
 use lib.ListN.{length, getD}
 use Rattle.base.specs.Tests.{allOf}
 use Rattle.sheet.specs.declared.Command.{Command}
 use Rattle.sheet.specs.Text.{comma}
 use Rattle.sheet.specs.Lines.{lineLimit, Kept, whole, tooLong}
 
+-- the bytes before the first that is `stop`, or all
+unfoldable pub upTo : ℕ → List ℕ → List ℕ
+upTo stop [] = []
+upTo stop (b ∷ bs) = cond (eqb b stop) [] (b ∷ upTo stop bs)
+
 -- R240: what stands before the first comma, and what stands behind each comma, up to the next.
 -- Without quotes a comma always separates, and every other byte belongs to its field
-unfoldable pub firstField : List ℕ → List ℕ
-firstField [] = []
-firstField (b ∷ bs) = cond (eqb b comma) [] (b ∷ firstField bs)
+abbrev pub firstField : List ℕ → List ℕ
+firstField line = upTo comma line
 
 unfoldable pub laterFields : List ℕ → List (List ℕ)
 laterFields [] = []
@@ -24,18 +28,21 @@ laterFields (b ∷ bs) = behind (eqb b comma) (firstField bs) (laterFields bs)
     behind true field fields = field ∷ fields
     behind false field fields = fields
 
--- R9, R247: a decimal digit, and the number that digits stand for where the digits of n stand before them
-unfoldable pub isDigit : ℕ → Bool
-isDigit b = leb (code "0") b && leb b (code "9")
+-- R9, R247: a digit of a base up to ten, and the number that digits stand for where the digits of n stand before them
+unfoldable pub isDigit : ℕ → ℕ → Bool
+isDigit base b = leb (code "0") b && ltb b (code "0" + base)
 
-unfoldable pub valueFrom : ℕ → List ℕ → ℕ
-valueFrom n [] = n
-valueFrom n (b ∷ bs) = valueFrom (n * 10 + (b - code "0")) bs
+unfoldable pub valueFrom : ℕ → ℕ → List ℕ → ℕ
+valueFrom base n [] = n
+valueFrom base n (b ∷ bs) = valueFrom base (n * base + (b - code "0")) bs
 
-unfoldable pub value : List ℕ → ℕ
-value field = valueFrom 0 field
+unfoldable pub value : ℕ → List ℕ → ℕ
+value base field = valueFrom base 0 field
 
--- R247: the largest number of a field
+-- R247: a sheet's numbers are decimal, and the largest of a field
+abbrev pub ten : ℕ
+ten = 10
+
 abbrev pub largestNumber : ℕ
 largestNumber = 4294967295
 
@@ -45,8 +52,9 @@ noLeadingZero [] = false
 noLeadingZero (b ∷ []) = true
 noLeadingZero (b ∷ c ∷ bs) = not (eqb b (code "0"))
 
-unfoldable pub isNumber : List ℕ → Bool
-isNumber field = noLeadingZero field && (allOf isDigit field && leb (value field) largestNumber)
+-- the field is a number of the base, and at most `most`
+unfoldable pub isNumber : ℕ → ℕ → List ℕ → Bool
+isNumber base most field = noLeadingZero field && (allOf (isDigit base) field && leb (value base field) most)
 
 -- R243 to R246: the command of a letter and the numbers behind it, as many as it takes
 unfoldable pub commandWith : ℕ → List ℕ → Command
@@ -59,11 +67,11 @@ commandWith letter n =
 
 -- a letter, then numbers
 unfoldable pub wellFormed : List ℕ → Bool
-wellFormed line = leb (length line) lineLimit && (eqb (length (firstField line)) 1 && allOf isNumber (laterFields line))
+wellFormed line = leb (length line) lineLimit && (eqb (length (firstField line)) 1 && allOf (isNumber ten largestNumber) (laterFields line))
 
 -- R248: every line that is none of these is bad
 unfoldable pub commandOf : List ℕ → Command
-commandOf line = cond (wellFormed line) (commandWith (getD (firstField line) 0 0) (map value (laterFields line))) Command.Bad
+commandOf line = cond (wellFormed line) (commandWith (getD (firstField line) 0 0) (map (value ten) (laterFields line))) Command.Bad
 
 -- the command of a line as it is handed on
 unfoldable pub keptCommand : Kept → Command

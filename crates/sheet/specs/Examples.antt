@@ -13,8 +13,8 @@ use Rattle.network.specs.Calls.{drainedDelivered}
 use Rattle.sheet.specs.declared.Command.{Command}
 use Rattle.sheet.specs.Text.{text}
 use Rattle.sheet.specs.Lines.{withoutCr, lastLine, linesFrom, lines, whole, tooLong, kept}
-use Rattle.sheet.specs.Commands.{firstField, laterFields, isDigit, valueFrom, value, noLeadingZero, isNumber, commandWith, wellFormed, commandOf}
-use Rattle.sheet.specs.Output.{decimalWithin, decimal, fieldsAndEnd, line, badLineAnswer, answerLine, packetLine, packetLines, movedLines, stopWord, stoppedLine, drainLine, drainedLines}
+use Rattle.sheet.specs.Commands.{upTo, laterFields, isDigit, valueFrom, value, noLeadingZero, isNumber, commandWith, wellFormed, commandOf}
+use Rattle.sheet.specs.Output.{numeralWithin, numeral, decimal, fieldsAndEnd, line, badLineAnswer, answerLine, packetLine, packetLines, movedLines, stopWord, stoppedLine, drainLine, drainedLines}
 
 pub record Examples : Type 0 where
   -- R241, R249, R250: both ends; a last line without an end; nothing after the last end; empty lines; a CR within a line and at the end of the input
@@ -63,7 +63,7 @@ pub record Examples : Type 0 where
       × (decimal 18446744073709551615 ≡ text "18446744073709551615")
 
 pub examples : Examples
-unfolding allOf product digit tag destination withoutCr lastLine linesFrom lines kept firstField laterFields isDigit valueFrom value noLeadingZero isNumber commandWith wellFormed commandOf decimalWithin decimal fieldsAndEnd line badLineAnswer answerLine packetLine packetLines movedLines stopWord stoppedLine drainLine drainedDelivered drainedLines
+unfolding allOf product digit tag destination withoutCr lastLine linesFrom lines kept upTo laterFields isDigit valueFrom value noLeadingZero isNumber commandWith wellFormed commandOf numeralWithin numeral fieldsAndEnd line badLineAnswer answerLine packetLine packetLines movedLines stopWord stoppedLine drainLine drainedDelivered drainedLines
 examples =
     record {
       ends = (refl, refl, refl, refl, refl);

@@ -7,20 +7,21 @@ use lib.ListN.{length, getD, length-append}
 use Rattle.network.specs.declared.Stop.{Stop}
 use Rattle.network.specs.Packet.{tag, destination}
 use Rattle.network.specs.PacketLaws.{tag-within, destination-within}
+use Rattle.sheet.specs.Commands.{ten}
 use Rattle.sheet.specs.Output.{decimal, fieldsAndEnd, line, answerLine, packetLine, packetLines, stopWord, stoppedLine, answerRoom, packetRoom, movedRoom, drainRoom}
-use Rattle.sheet.specs.Decimals.{decimal-length}
+use Rattle.sheet.specs.Numerals.{numeral-length}
 
 pub answer-length : (letter n : ℕ) → n < 2 ^ 64 → length (answerLine letter n) ≤ answerRoom
 unfolding answerLine line fieldsAndEnd
 answer-length letter n h =
-    let d : length (decimal n) ≤ 20 = decimal-length 19 n (omega arith) in
+    let d : length (decimal n) ≤ 20 = numeral-length ten (omega arith) 19 n (omega arith) in
     simp length-append (omega arith)
 
 pub packet-length : (p : ℕ) → p < 2 ^ 64 → length (packetLine p) ≤ packetRoom
 unfolding packetLine line fieldsAndEnd
 packet-length p h =
-    let t : length (decimal (tag p)) ≤ 10 = decimal-length 9 (tag p) (let l = tag-within p h in omega arith) in
-    let d : length (decimal (destination p)) ≤ 5 = decimal-length 4 (destination p) (let l = destination-within p in omega arith) in
+    let t : length (decimal (tag p)) ≤ 10 = numeral-length ten (omega arith) 9 (tag p) (let l = tag-within p h in omega arith) in
+    let d : length (decimal (destination p)) ≤ 5 = numeral-length ten (omega arith) 4 (destination p) (let l = destination-within p in omega arith) in
     simp length-append (omega arith)
 
 pub packets-length : (ps : List ℕ) → ((i : ℕ) → getD ps i 0 < 2 ^ 64) → length (packetLines ps) ≤ packetRoom * length ps
@@ -48,6 +49,6 @@ pub stopped-length : (moves : ℕ) (stop : Stop) → moves < 2 ^ 64 → length (
 unfolding stoppedLine line fieldsAndEnd
 stopped-length moves stop h =
     let s = stop-length stop in
-    let d : length (decimal moves) ≤ 20 = decimal-length 19 moves (omega arith) in
-    let z : length (decimal 0) ≤ 1 = decimal-length 0 0 (omega arith) in
+    let d : length (decimal moves) ≤ 20 = numeral-length ten (omega arith) 19 moves (omega arith) in
+    let z : length (decimal 0) ≤ 1 = numeral-length ten (omega arith) 0 0 (omega arith) in
     simp length-append (omega arith)

@@ -14,15 +14,19 @@ use Rattle.network.specs.Packet.{tag, destination}
 use Rattle.network.specs.Refusals.{badLine}
 use Rattle.network.specs.Calls.{drainedDelivered}
 use Rattle.sheet.specs.Text.{text, comma, cr, lf}
+use Rattle.sheet.specs.Commands.{ten}
 
--- R9, R247: the digits of a tenth of the number, if it has more than one, then the last one.
+-- R9, R247, in a base up to ten: the digits of the number divided by the base, if it has more than one, then the last one.
 -- `digits` bounds how many there are, and n + 1 is always enough
-unfoldable pub decimalWithin : ℕ → ℕ → List ℕ
-decimalWithin zero n = []
-decimalWithin (suc digits) n = elim (ltb n 10) [ true ↦ [] | false ↦ decimalWithin digits (n / 10) ] ++ ((code "0" + n % 10) ∷ [])
+unfoldable pub numeralWithin : ℕ → ℕ → ℕ → List ℕ
+numeralWithin base zero n = []
+numeralWithin base (suc digits) n = elim (ltb n base) [ true ↦ [] | false ↦ numeralWithin base digits (n / base) ] ++ ((code "0" + n % base) ∷ [])
 
-unfoldable pub decimal : ℕ → List ℕ
-decimal n = decimalWithin (suc n) n
+unfoldable pub numeral : ℕ → ℕ → List ℕ
+numeral base n = numeralWithin base (suc n) n
+
+abbrev pub decimal : ℕ → List ℕ
+decimal n = numeral ten n
 
 -- R252: a line of a first field and further ones
 unfoldable pub fieldsAndEnd : List (List ℕ) → List ℕ

@@ -7,7 +7,7 @@ use native.Mathlib.Nat.{add-zero, add-assoc}
 use native.Mathlib.Numerals.{add-one}
 use native.Mathlib.Omega.{arith}
 use lib.ListN.{length, getD, take, drop, set, length-append, length-drop, take-append-drop}
-use lib.Seq.{length-take-le, take-all, take-suc, split-at, take-at, drop-append-add, drop-drop, set-split}
+use lib.Seq.{length-take-le, take-all, take-suc, split-at, take-at, drop-append-add, drop-drop, set-split, set-at}
 use Rattle.sheet.specs.Output.{written, Room, Put}
 
 pub length-written : (out : List ℕ) (at : ℕ) (xs : List ℕ) → Room out at xs → length (written out at xs) ≡ length out
@@ -51,6 +51,18 @@ pub put-one : (out : List ℕ) (at b : ℕ) → at < length out → Put out at (
 unfolding written
 put-one out at b h =
     record { leaves = set-split out at b h ∙ ap (λ n. take at out ++ b ∷ drop n out) (sym (add-one at)); answers = refl }
+
+-- one byte put right before bytes that have been put
+pub written-front : (out : List ℕ) (at b : ℕ) (bytes : List ℕ) → Room out (at + 1) bytes → set (written out (at + 1) bytes) at b ≡ written out at (b ∷ bytes)
+unfolding written
+written-front out at b bytes room =
+    let back : List ℕ = drop (at + 1 + length bytes) out in
+    let front : take (at + 1) out ≡ take at out ++ (getD out at 0 ∷ []) = ap (λ n. take n out) (add-one at) ∙ take-suc out at 0 (omega arith) in
+    let n : at + 1 + length bytes ≡ at + suc (length bytes) = omega arith in
+    ap (λ l. set (l ++ (bytes ++ back)) at b) front
+    ∙ ap (λ l. set l at b) (append-assoc (take at out) (getD out at 0 ∷ []) (bytes ++ back))
+    ∙ set-at (take at out) (getD out at 0) (bytes ++ back) b at (length-take-le at out (omega arith))
+    ∙ ap (λ k. take at out ++ (b ∷ bytes ++ drop k out)) n
 
 -- there is room for bytes that are at most so many; for the first bytes, and behind them for the others
 pub enough : (out : List ℕ) (at : ℕ) (bytes : List ℕ) (most : ℕ) → length bytes ≤ most → at + most ≤ length out → Room out at bytes
@@ -140,3 +152,19 @@ module _ (out : List ℕ) (at : ℕ) (xs ys zs : List ℕ) (room : Room out at (
 
       pub put-three : {out₃ : List ℕ} {at₃ : ℕ} → Put out₂ at₂ zs out₃ at₃ → Put out at (xs ++ (ys ++ zs)) out₃ at₃
       put-three r = put-behind p (put-behind q r second-room) first-room
+
+-- runs of bytes put one after another: `rest` of `bytes` is still to be put, there is room for it, and whatever puts it has put all
+pub record ToPut (before : List ℕ) (at : ℕ) (bytes out : List ℕ) (next : ℕ) (rest : List ℕ) : Type 0 where
+  pub room : Room out next rest
+  pub done : (out′ : List ℕ) (last : ℕ) → Put out next rest out′ last → Put before at bytes out′ last
+
+pub all-to-put : (out : List ℕ) (at : ℕ) (bytes : List ℕ) → Room out at bytes → ToPut out at bytes out at bytes
+all-to-put out at bytes room = record { room = room; done = λ out′ last p. p }
+
+module _ {before : List ℕ} {at : ℕ} {bytes out : List ℕ} {next : ℕ} (xs rest : List ℕ) (t : ToPut before at bytes out next (xs ++ rest)) where
+  pub run-room : Room out next xs
+  run-room = room-first out next xs rest (t .room)
+
+  pub run-put : {out′ : List ℕ} {next′ : ℕ} → Put out next xs out′ next′ → ToPut before at bytes out′ next′ rest
+  run-put {out′} {next′} p =
+      record { room = room-behind rest p (t .room); done = λ out″ last q. t .done out″ last (put-behind p q (room-first out next xs rest (t .room))) }

@@ -109,7 +109,7 @@ fn put_drain(out: &mut [u8], at: usize, answer: Drained) -> usize
 }
 
 // The number of packets that a Drain delivered.
-fn delivered_by(answer: Drained) -> usize
+pub fn delivered_by(answer: Drained) -> usize
     ensures { λ r. ⌜ r ≡ drainedDelivered answer ⌝ }
 {
     match answer {

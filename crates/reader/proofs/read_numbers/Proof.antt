@@ -1,9 +1,15 @@
+-- `reader::read_numbers` meets its contract. The loop's invariant is `Gathered`: the fields before `at` are numbers, and the first five of them are
+-- held. Assumes nothing.
+use mathlib.Core.Path.{sym, _∙_}
 use mathlib.Core.Logic.{⊎-elim}
 use Prim.Native.Nat.{_+_, _-_}
 use native.Mathlib.Omega.{arith}
 use borrow.Author.Needs.{needs}
 use lib.ListN.{length}
-use Rattle.reader.proofs.Fields.{end-within}
+use Rattle.sheet.specs.Text.{comma}
+use Rattle.sheet.specs.Commands.{ten, largestNumber}
+use Rattle.sheet.specs.Fields.{end-within}
+use Rattle.reader.specs.Reading.{number-fits}
 use Rattle.reader.proofs.Gather.{Gathered, none, more, sixth, broken, all}
 use Rattle.reader.proofs.read_numbers.Statement.{statement}
 use Rattle.reader.proofs.read_numbers.Tie as tie
@@ -18,7 +24,12 @@ loop-holds : tie.Need-loop-holds Inv-loop μ-loop
 loop-holds c = none (c .before .args .line .now) (c .before .args .start) (c .before .pre)
 
 part-read-number-end : tie.Need-part-read-number-end Inv-loop μ-loop
-part-read-number-end c = omega (arith, end-within (c .before .before .before .before .args .line .now) (c .before .before .loop .at + 1) (omega arith))
+part-read-number-end c = omega (arith, end-within comma (c .before .before .before .before .args .line .now) (c .before .before .loop .at + 1) (omega arith))
+
+cast-values : tie.Need-cast-values Inv-loop μ-loop
+cast-values c =
+    let n = c .before .before in
+    omega (arith, number-fits ten largestNumber _ _ (sym (n .n .given .1) ∙ n .before .before .read-number .ensures))
 
 returns : tie.Need-returns Inv-loop μ-loop
 returns c =
@@ -57,6 +68,7 @@ read-numbers-spec =
     part-read-number-end
     (λ c κs. search needs)
     (λ c. search needs)
+    cast-values
     (λ c. search needs)
     (λ c. search needs)
     (λ c. search needs)

@@ -1,0 +1,437 @@
+//! The waveform (docs/WAVEFORM.md): dumps written and read back while the
+//! networks move on, lists and pages that are one byte too short, words that
+//! are no network, and bytes that are no step.
+
+use crate::kept::{make, put};
+use compare::bench::{perform, Bench, Call, Plain, WaveStep};
+use compare::damage::{one_word, FAULTS};
+use compare::generate::{any_call, any_drain, network, Shape, FILLS, QUEUES};
+use compare::lab::Lab;
+use compare::random::Random;
+
+/// Room for any step: a line has at most 26 bytes, and there are two lines for
+/// each variable of a header of 256 nodes.
+const ROOM: usize = 130_000;
+/// The same for networks of 16 nodes.
+const SMALL: usize = 8_000;
+/// The variables of the largest header.
+const MOST: usize = 256 * QUEUES;
+/// The bytes of the subset, and some that are none of it.
+const BYTES: &[u8] = b"0123456789b# \n$nqd\r\tBxz+-.,;\0\x7f\x80\xb0\xff";
+
+/// A dump of one node, whole.
+const HEADER: &str = "$timescale 1 ns $end\n$scope module network $end\n\
+    $var wire 8 0 n0q0 $end\n$var wire 8 1 n0q1 $end\n$var wire 8 2 n0q2 $end\n\
+    $var wire 8 3 n0q3 $end\n$var wire 8 4 n0q4 $end\n$var wire 8 5 n0q5 $end\n\
+    $var wire 8 6 n0q6 $end\n$var wire 8 7 n0q7 $end\n$var wire 8 8 n0q8 $end\n\
+    $upscope $end\n$enddefinitions $end\n#0\n$dumpvars\n\
+    b0 0\nb0 1\nb0 2\nb0 3\nb0 4\nb0 5\nb0 6\nb0 7\nb0 8\n$end\n";
+const LATER: &str = "#0\nb1 0\n";
+
+fn random_bytes(random: &mut Random, len: usize) -> Vec<u8> {
+    (0..len).map(|_| random.number() as u8).collect()
+}
+
+/// The fills as the words have them.
+fn fills_of(shape: &Shape, words: &[u64]) -> Vec<u8> {
+    let queues = (0..shape.nodes()).flat_map(|node| (0..QUEUES).map(move |queue| (node, queue)));
+    queues
+        .map(|(node, queue)| words[shape.count_word(node, queue)] as u8)
+        .collect()
+}
+
+/// The smallest dump, spelt out, is what is written and what is read. A node
+/// alone takes no offer (R174), but words that hold such a packet are a network
+/// (R86).
+pub fn spelt_out(lab: &mut Lab) {
+    lab.place = "a dump spelt out".into();
+    let shape = Shape::new(1, 1, 2, 1, 1);
+    let mut words = make(lab, shape);
+    let mut fills = [7; QUEUES];
+    let (answer, header) = lab.write(WaveStep::Header, &words, &mut fills, ROOM);
+    assert_eq!(answer.refusal, 0);
+    assert_eq!(header, HEADER.as_bytes());
+    put(&shape, &mut words, 0, 0, 0, 0);
+    let (answer, later) = lab.write(WaveStep::Changes, &words, &mut fills, ROOM);
+    assert_eq!((answer.refusal, answer.out[0]), (0, 8));
+    assert_eq!(later, LATER.as_bytes());
+    // Nothing has changed since then.
+    let (_, still) = lab.write(WaveStep::Changes, &words, &mut fills, ROOM);
+    assert_eq!(still, b"#0\n");
+    let mut list = [9; 10];
+    assert_eq!(lab.read(&header, &mut list).out, [1, 0, 9, 0]);
+    assert_eq!(list, [0, 0, 0, 0, 0, 0, 0, 0, 0, 9]);
+    assert_eq!(lab.read(&later, &mut list).out, [0, 0, 1, 0]);
+    assert_eq!(list, [1, 0, 0, 0, 0, 0, 0, 0, 0, 9]);
+}
+
+/// One dump under way: the list of the writer, and that of a reader.
+struct Dump {
+    shape: Shape,
+    written: Vec<u8>,
+    read: Vec<u8>,
+    /// Whether the steps since the last header told all that has changed.
+    followed: bool,
+}
+
+impl Dump {
+    /// Lists with anything in them, longer than needed.
+    fn new(random: &mut Random, shape: Shape) -> Dump {
+        let variables = shape.nodes() as usize * QUEUES;
+        let longer = random.below(20) as usize;
+        Dump {
+            shape,
+            written: random_bytes(random, variables + longer),
+            read: random_bytes(random, variables + 3),
+            followed: false,
+        }
+    }
+
+    fn variables(&self) -> usize {
+        self.shape.nodes() as usize * QUEUES
+    }
+
+    /// Writes a step and reads it back.
+    fn step(&mut self, lab: &mut Lab, step: WaveStep, words: &[u64]) {
+        let (variables, header) = (self.variables(), step == WaveStep::Header);
+        let now = fills_of(&self.shape, words);
+        let before = self.written.clone();
+        let (answer, bytes) = lab.write(step, words, &mut self.written, ROOM);
+        assert_eq!(answer.refusal, 0, "{}", lab.place);
+        assert_eq!(answer.out, [bytes.len() as u64, 0, 0, 0]);
+        assert_eq!(self.written[..variables], now);
+        assert_eq!(self.written[variables..], before[variables..]);
+        write_short(lab, step, words, &before[..variables], &bytes);
+
+        let told = |variable: &usize| header || before[*variable] != now[*variable];
+        let named: Vec<usize> = (0..variables).filter(told).collect();
+        let mut wanted = self.read.clone();
+        for variable in &named {
+            wanted[*variable] = now[*variable];
+        }
+        let need = named.last().map_or(0, |largest| largest + 1);
+        read_short(lab, &bytes, &self.read[..need], &wanted[..need]);
+        let answer = lab.read(&bytes, &mut self.read);
+        assert_eq!(answer.refusal, 0, "{}", lab.place);
+        assert_eq!(answer.out, [header as u64, words[7], named.len() as u64, 0]);
+        assert_eq!(self.read, wanted, "{}", lab.place);
+        self.followed |= header;
+        if self.followed {
+            assert_eq!(self.read[..variables], now, "{}", lab.place);
+        }
+    }
+}
+
+/// A list or a page that is one byte short is refused, and with that byte it
+/// is not. `fills` is the list before the step.
+fn write_short(lab: &mut Lab, step: WaveStep, words: &[u64], fills: &[u8], bytes: &[u8]) {
+    let mut short = fills[1..].to_vec();
+    let (answer, _) = lab.write(step, words, &mut short, ROOM);
+    assert_eq!(answer.refusal, 15, "{}: a short list", lab.place);
+    let mut exact = fills.to_vec();
+    let (answer, _) = lab.write(step, words, &mut exact, bytes.len() - 1);
+    assert_eq!(answer.refusal, 15, "{}: a short page", lab.place);
+    let (answer, again) = lab.write(step, words, &mut exact, bytes.len());
+    assert_eq!((answer.refusal, &again[..]), (0, bytes), "{}", lab.place);
+}
+
+/// The same for a reader's list, before the step and after it.
+fn read_short(lab: &mut Lab, bytes: &[u8], before: &[u8], after: &[u8]) {
+    if let Some((_, short)) = before.split_first() {
+        let answer = lab.read(bytes, &mut short.to_vec());
+        assert_eq!(answer.refusal, 15, "{}: a reader's short list", lab.place);
+    }
+    let mut exact = before.to_vec();
+    assert_eq!(lab.read(bytes, &mut exact).refusal, 0, "{}", lab.place);
+    assert_eq!(exact, after, "{}", lab.place);
+}
+
+/// Brings a network on by a call; the calls themselves are compared elsewhere.
+fn call(random: &mut Random, words: &mut [u64]) {
+    let call = match random.below(12) {
+        0 => any_drain(random),
+        _ => any_call(random, words),
+    };
+    let room = match call {
+        Call::Drain { ledger, .. } => ledger,
+        _ => 0,
+    };
+    perform(&Plain { simple: false }, call, words, &mut vec![0; room]);
+}
+
+/// Dumps of networks that move on, with steps at any time.
+pub fn dumps(lab: &mut Lab) {
+    let mut random = Random::new(11);
+    let sides = [(1, 1), (1, 16), (16, 1), (16, 16), (2, 1), (11, 1), (12, 1)];
+    for round in 0..300 {
+        let mut shape = Shape::random(&mut random, 5);
+        if round < 2 * sides.len() {
+            (shape.x, shape.y) = sides[round % sides.len()];
+        }
+        lab.place = format!("dump {round} of {shape:?}");
+        let fill = random.pick(&FILLS);
+        let mut words = network(&mut random, &shape, fill);
+        // Words behind the last node are none of the waveform's business.
+        for _ in 0..random.below(3) {
+            words.push(random.number());
+        }
+        let mut dump = Dump::new(&mut random, shape);
+        // Now and then later steps come first: to the writer the list is all
+        // that there is of the steps before.
+        if random.chance(4, 5) {
+            dump.step(lab, WaveStep::Header, &words);
+        }
+        for _ in 0..random.below(8) {
+            for _ in 0..random.pick(&[0, 1, 1, 2, 10, 60]) {
+                call(&mut random, &mut words);
+            }
+            let step = if random.chance(1, 12) {
+                WaveStep::Header
+            } else {
+                WaveStep::Changes
+            };
+            dump.step(lab, step, &words);
+            // Any contents may be lent, also others than the step before told.
+            if random.chance(1, 6) {
+                let variable = random.below(dump.variables() as u64) as usize;
+                dump.written[variable] = random.below(9) as u8;
+                dump.followed = false;
+            }
+        }
+    }
+}
+
+/// Words that are no network: refused as Check does, whatever the room.
+pub fn bad_words(lab: &mut Lab) {
+    let mut random = Random::new(12);
+    for round in 0..1500 {
+        let most = random.pick(&[1, 2, 3, 4]);
+        let shape = Shape::random(&mut random, most);
+        let fill = random.pick(&FILLS);
+        let mut words = network(&mut random, &shape, fill);
+        let mut len = words.len();
+        match round % 3 {
+            0 => one_word(&mut random, &shape, &mut words),
+            1 => {
+                let fault = &FAULTS[random.below(FAULTS.len() as u64) as usize];
+                (fault.apply)(&mut random, &shape, &mut words);
+            }
+            _ => len = random.below(len as u64) as usize,
+        }
+        lab.place = format!("bad words, round {round} of {shape:?}");
+        let wanted = Plain { simple: false }.check(&words[..len]);
+        let variables = shape.nodes() as usize * QUEUES;
+        for step in [WaveStep::Header, WaveStep::Changes] {
+            for (list, room) in [(variables, SMALL), (variables, 0), (0, SMALL), (0, 0)] {
+                let mut fills = random_bytes(&mut random, list);
+                let (answer, _) = lab.write(step, &words[..len], &mut fills, room);
+                let short = if list < variables || room == 0 { 15 } else { 0 };
+                let number = if wanted == 0 { short } else { wanted };
+                // A damaged header may have other sizes and still be good.
+                let other_sizes = words[..2] != [shape.x, shape.y];
+                if wanted != 0 || !other_sizes {
+                    assert_eq!(answer.refusal, number, "{}", lab.place);
+                }
+            }
+        }
+    }
+}
+
+/// A header with so many variables, a frame and names as they should be.
+fn header(variables: usize, time: &str, fill: impl Fn(usize) -> String) -> String {
+    let mut text = String::from("$timescale 1 ns $end\n$scope module network $end\n");
+    for v in 0..variables {
+        text += &format!("$var wire 8 {v} n{}q{} $end\n", v / QUEUES, v % QUEUES);
+    }
+    text += &format!("$upscope $end\n$enddefinitions $end\n#{time}\n$dumpvars\n");
+    for v in 0..variables {
+        text += &format!("b{} {v}\n", fill(v));
+    }
+    text + "$end\n"
+}
+
+/// Reads bytes into a list of any contents that is long enough for all steps.
+fn judged(lab: &mut Lab, random: &mut Random, bytes: &[u8]) -> u64 {
+    let mut fills = random_bytes(random, MOST);
+    lab.read(bytes, &mut fills).refusal
+}
+
+/// Small steps with every byte replaced by others, left out or doubled, with
+/// others put in before it, and cut off there.
+pub fn every_byte(lab: &mut Lab) {
+    let mut random = Random::new(13);
+    let two_nodes = header(18, "18446744073709551615", |v| format!("{:b}", v * 15));
+    let steps = [
+        HEADER,
+        LATER,
+        two_nodes.as_str(),
+        "#18446744073709551615\n",
+        "#1\nb11111111 0\nb0 9\nb1000 10\nb101 2303\n",
+    ];
+    for (index, step) in steps.iter().enumerate() {
+        let bytes = step.as_bytes();
+        lab.place = format!("step {index}");
+        assert_eq!(judged(lab, &mut random, bytes), 0);
+        for place in 0..bytes.len() {
+            lab.place = format!("step {index}, byte {place}");
+            // The bytes that are cut off stand behind those that are lent.
+            judged(lab, &mut random, &bytes[..place]);
+            judged(lab, &mut random, &bytes[place..]);
+            let (before, after) = bytes.split_at(place);
+            let with = |middle: &[u8], after: &[u8]| [before, middle, after].concat();
+            judged(lab, &mut random, &with(&[], &after[1..]));
+            judged(lab, &mut random, &with(&after[..1], after));
+            let close = [after[0] ^ 1, after[0] ^ 0x20, after[0].wrapping_add(1)];
+            for byte in BYTES.iter().chain(&close) {
+                judged(lab, &mut random, &with(&[*byte], &after[1..]));
+                judged(lab, &mut random, &with(&[*byte], after));
+            }
+        }
+        for other in steps {
+            lab.place = format!("step {index} and another");
+            let both = [bytes, other.as_bytes()].concat();
+            assert_eq!(judged(lab, &mut random, &both), 13);
+        }
+        for byte in BYTES {
+            lab.place = format!("step {index} and a byte");
+            let number = judged(lab, &mut random, &[bytes, &[*byte]].concat());
+            assert_eq!(number, 13);
+        }
+    }
+}
+
+/// All short texts of the few bytes that later steps consist of.
+pub fn every_short_text(lab: &mut Lab) {
+    lab.place = "every short text".into();
+    for (start, bytes, longest) in [
+        ("", b"#01b \n".as_slice(), 7),
+        ("#0\n", b"01b \n#", 6),
+        ("#7\nb1 3\n", b"b1 034", 5),
+        ("#7\nb1 23\n", b"b1 234\n", 5),
+        ("#1844674407370955161", b"4567\n", 5),
+    ] {
+        let many = bytes.len();
+        for len in 0..=longest {
+            let mut text = start.as_bytes().to_vec();
+            text.resize(start.len() + len, 0);
+            for mut number in 0..many.pow(len as u32) {
+                for place in &mut text[start.len()..] {
+                    *place = bytes[number % many];
+                    number /= many;
+                }
+                // Short lists, so that 15 is met as well.
+                lab.read(&text, &mut [0xee; 24]);
+            }
+        }
+    }
+}
+
+/// Headers of every number of nodes near the limits, and numbers near theirs.
+pub fn limits(lab: &mut Lab) {
+    let mut random = Random::new(14);
+    let zero = |_| String::from("0");
+    for (variables, wanted) in [
+        (0, 13),
+        (1, 13),
+        (8, 13),
+        (9, 0),
+        (10, 13),
+        (13, 13),
+        (18, 0),
+        (99, 0),
+        (MOST - 9, 0),
+        (MOST - 1, 13),
+        (MOST, 0),
+        (MOST + 1, 13),
+        (MOST + 9, 13),
+        (2 * MOST, 13),
+    ] {
+        lab.place = format!("header of {variables} variables");
+        let text = header(variables, "5", zero);
+        assert_eq!(judged(lab, &mut random, text.as_bytes()), wanted);
+        if wanted == 0 {
+            let mut short = vec![1; variables - 1];
+            assert_eq!(lab.read(text.as_bytes(), &mut short).refusal, 15);
+            let mut exact = vec![1; variables];
+            let answer = lab.read(text.as_bytes(), &mut exact);
+            assert_eq!(
+                (answer.refusal, answer.out),
+                (0, [1, 5, variables as u64, 0])
+            );
+        }
+    }
+    // Time stamps, values and variables, right and wrong, in both kinds of step.
+    for _ in 0..400 {
+        let time = match random.below(5) {
+            0 => random.number().to_string(),
+            1 => (random.number() >> random.below(64)).to_string(),
+            2 => (u64::MAX as u128 + random.below(3) as u128).to_string(),
+            3 => (random.number() as u128 * 10).to_string(),
+            _ => format!("{:0>20}", random.number() >> random.below(64)),
+        };
+        let odd = random.below(40) as usize;
+        let bits = match random.below(6) {
+            0 => format!("{:b}", 256 + random.below(2)),
+            1 => format!("{:08b}", random.below(256)),
+            2 => String::new(),
+            _ => format!("{:b}", random.below(256)),
+        };
+        lab.place = format!("time {time}, bits {bits}");
+        let value = |v| if v == odd { bits.clone() } else { "1".into() };
+        let header = header(18, &time, value);
+        judged(lab, &mut random, header.as_bytes());
+        let variable = match random.below(4) {
+            0 => MOST as u64 + random.below(2),
+            1 => u64::MAX - random.below(2),
+            2 => (1 << random.pick(&[8, 12, 16, 31, 32, 63])) + random.below(3),
+            _ => random.below(MOST as u64),
+        };
+        let text = format!("#{time}\nb1 3\nb{bits} {variable}\n");
+        judged(lab, &mut random, text.as_bytes());
+    }
+}
+
+/// Steps with their lines in another order, a line twice or left out, a line
+/// of another kind, or another end of a line.
+pub fn lines_of_steps(lab: &mut Lab) {
+    let mut random = Random::new(15);
+    for round in 0..3000 {
+        lab.place = format!("lines of a step, round {round}");
+        let text = if random.chance(1, 2) {
+            header(9 * random.between(1, 3) as usize, "12", |v| {
+                format!("{v:b}")
+            })
+        } else {
+            let mut text = format!("#{}\n", random.below(1000));
+            for v in 0..40 {
+                if random.chance(1, 5) {
+                    text += &format!("b{:b} {v}\n", random.below(256));
+                }
+            }
+            text
+        };
+        let mut lines: Vec<&str> = text.split_inclusive('\n').collect();
+        let one = random.below(lines.len() as u64) as usize;
+        let other = random.below(lines.len() as u64) as usize;
+        let (line, end) = lines[one].split_at(lines[one].len() - 1);
+        let ends = ["\r\n", " \n", "\n\n", "\r", ""];
+        let ended = [line, random.pick(&ends)].concat();
+        match random.below(7) {
+            0 => lines.swap(one, other),
+            1 => lines.insert(one, lines[other]),
+            2 => drop(lines.remove(one)),
+            3 => lines[one] = lines[other],
+            4 => lines[one] = random.pick(&["#0\n", "$end\n", "$dumpvars\n", "b1 0\n"]),
+            5 => lines[one] = &ended,
+            // As it was; the end is the one that all lines have.
+            _ => assert_eq!(end, "\n"),
+        }
+        judged(lab, &mut random, lines.concat().as_bytes());
+    }
+    // Every line with CR LF, as the answers of a sheet have.
+    for text in [HEADER, LATER, "#0\n"] {
+        lab.place = "lines with CR LF".into();
+        let text = text.replace('\n', "\r\n");
+        assert_eq!(judged(lab, &mut random, text.as_bytes()), 13);
+    }
+}

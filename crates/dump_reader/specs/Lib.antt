@@ -1,0 +1,2 @@
+-- What the inner functions of the reader of a dump answer.
+pub mod Parsing

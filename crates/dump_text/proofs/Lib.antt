@@ -1,0 +1,1 @@
+-- Proofs of a dump's lines.

@@ -1,0 +1,79 @@
+-- `dump_text::put_value` meets its contract: five runs of bytes, one behind the other. Assumes nothing.
+use borrow.Author.Needs.{needs}
+use mathlib.Core.List.{List, [], _∷_, _++_}
+use Prim.Native.Nat.{ℕ}
+use native.Mathlib.Omega.{arith}
+use Rattle.sheet.specs.Text.{lf}
+use Rattle.sheet.specs.Output.{numeral, decimal}
+use Rattle.sheet.specs.Puts.{ToPut, all-to-put, run-room, run-put}
+use Rattle.waveform.specs.Dump.{valueLine}
+use Rattle.dump_text.proofs.put_value.Statement.{statement}
+use Rattle.dump_text.proofs.put_value.Tie as tie
+
+-- what is left to put of the line
+abbrev Left : tie.Start → List ℕ → ℕ → List ℕ → Type 0
+Left s out next rest = ToPut (s .args .page .now) (s .args .at) (valueLine (record { variable = s .args .variable; fill = s .args .fill })) out next rest
+
+abbrev letter : tie.Start → List ℕ
+letter s = 98 ∷ []
+
+abbrev bits : tie.Start → List ℕ
+bits s = numeral 2 (s .args .fill)
+
+abbrev blank : tie.Start → List ℕ
+blank s = 32 ∷ []
+
+abbrev code : tie.Start → List ℕ
+code s = decimal (s .args .variable)
+
+abbrev end : tie.Start → List ℕ
+end s = lf ∷ []
+
+all : (s : tie.Start) → Left s (s .args .page .now) (s .args .at) (letter s ++ (bits s ++ (blank s ++ (code s ++ end s))))
+unfolding valueLine
+all s = all-to-put (s .args .page .now) (s .args .at) (valueLine (record { variable = s .args .variable; fill = s .args .fill })) (s .pre)
+
+behind-letter : (c : tie.After-put-byte) → Left (c .before .before .before) (c .put-byte .last .0) (c .put-byte .result) (bits (c .before .before .before) ++ (blank (c .before .before .before) ++ (code (c .before .before .before) ++ end (c .before .before .before))))
+behind-letter c = let s = c .before .before .before in run-put (letter s) (bits s ++ (blank s ++ (code s ++ end s))) (all s) (c .put-byte .ensures)
+
+behind-bits : (c : tie.After-put-number) → Left (c .before .before .before .before .before .before .before) (c .put-number .last .0) (c .put-number .result) (blank (c .before .before .before .before .before .before .before) ++ (code (c .before .before .before .before .before .before .before) ++ end (c .before .before .before .before .before .before .before)))
+behind-bits c =
+    let s = c .before .before .before .before .before .before .before in
+    run-put (bits s) (blank s ++ (code s ++ end s)) (behind-letter (c .before .before .before .before)) (c .put-number .ensures)
+
+behind-blank : (c : tie.After-put-byte2) → Left (c .before .before .before .before .before .before .before .before .before .before .before) (c .put-byte2 .last .0) (c .put-byte2 .result) (code (c .before .before .before .before .before .before .before .before .before .before .before) ++ end (c .before .before .before .before .before .before .before .before .before .before .before))
+behind-blank c =
+    let s = c .before .before .before .before .before .before .before .before .before .before .before in
+    run-put (blank s) (code s ++ end s) (behind-bits (c .before .before .before .before)) (c .put-byte2 .ensures)
+
+behind-code : (c : tie.After-put-number2) → Left (c .before .before .before .before .before .before .before .before .before .before .before .before .before .before .before) (c .put-number2 .last .0) (c .put-number2 .result) (end (c .before .before .before .before .before .before .before .before .before .before .before .before .before .before .before))
+behind-code c =
+    let s = c .before .before .before .before .before .before .before .before .before .before .before .before .before .before .before in
+    run-put (code s) (end s) (behind-blank (c .before .before .before .before)) (c .put-number2 .ensures)
+
+put-byte-requires : tie.Need-put-byte-requires
+put-byte-requires c κs = let s = c .before .before in run-room (letter s) (bits s ++ (blank s ++ (code s ++ end s))) (all s)
+
+put-number-requires : tie.Need-put-number-requires
+put-number-requires c κs =
+    let s = c .before .before .before .before .before .before in
+    ((omega arith, omega arith), run-room (bits s) (blank s ++ (code s ++ end s)) (behind-letter (c .before .before .before)))
+
+put-byte-requires-2 : tie.Need-put-byte-requires-2
+put-byte-requires-2 c κs =
+    let s = c .before .before .before .before .before .before .before .before .before .before in
+    run-room (blank s) (code s ++ end s) (behind-bits (c .before .before .before))
+
+put-number-requires-2 : tie.Need-put-number-requires-2
+put-number-requires-2 c κs =
+    let s = c .before .before .before .before .before .before .before .before .before .before .before .before .before .before in
+    ((omega arith, omega arith), run-room (code s) (end s) (behind-blank (c .before .before .before)))
+
+put-byte-requires-3 : tie.Need-put-byte-requires-3
+put-byte-requires-3 c κs = behind-code (c .before .before .before) .room
+
+returns : tie.Need-returns
+returns c = let last = c .before .before in behind-code (last .before .before .before .before) .done _ _ (last .put-byte3 .ensures)
+
+pub put-value-spec : {M : Type 1} → statement M
+put-value-spec = tie.close (tie.spec put-byte-requires put-number-requires put-byte-requires-2 put-number-requires-2 put-byte-requires-3 (λ c. search needs) returns)

@@ -1,0 +1,121 @@
+-- `dump_text::put_variable` meets its contract: seven runs of bytes, one behind the other. Assumes nothing.
+use borrow.Author.Needs.{needs}
+use mathlib.Core.List.{List, _++_}
+use Prim.Native.Nat.{ℕ, _/_, _%_}
+use native.Mathlib.Omega.{arith}
+use Rattle.sheet.specs.Text.{text}
+use Rattle.sheet.specs.Output.{decimal}
+use Rattle.sheet.specs.Puts.{ToPut, all-to-put, run-room, run-put}
+use Rattle.network.specs.Sizes.{queues}
+use Rattle.waveform.specs.Dump.{variableLine}
+use Rattle.dump_text.proofs.put_variable.Statement.{statement}
+use Rattle.dump_text.proofs.put_variable.Tie as tie
+
+-- what is left to put of the line
+abbrev Left : tie.Start → List ℕ → ℕ → List ℕ → Type 0
+Left s out next rest = ToPut (s .args .page .now) (s .args .at) (variableLine (s .args .i)) out next rest
+
+abbrev kind : tie.Start → List ℕ
+kind s = text "$var wire 8 "
+
+abbrev code : tie.Start → List ℕ
+code s = decimal (s .args .i)
+
+abbrev n : tie.Start → List ℕ
+n s = text " n"
+
+abbrev node : tie.Start → List ℕ
+node s = decimal (s .args .i / queues)
+
+abbrev q : tie.Start → List ℕ
+q s = text "q"
+
+abbrev queue : tie.Start → List ℕ
+queue s = decimal (s .args .i % queues)
+
+abbrev end : tie.Start → List ℕ
+end s = text " $end\n"
+
+all : (s : tie.Start) → Left s (s .args .page .now) (s .args .at) (kind s ++ (code s ++ (n s ++ (node s ++ (q s ++ (queue s ++ end s))))))
+unfolding variableLine
+all s = all-to-put (s .args .page .now) (s .args .at) (variableLine (s .args .i)) (s .pre)
+
+behind-kind : (c : tie.After-put-bytes) → Left (c .before .before .before .before) (c .put-bytes .last .0) (c .put-bytes .result) (code (c .before .before .before .before) ++ (n (c .before .before .before .before) ++ (node (c .before .before .before .before) ++ (q (c .before .before .before .before) ++ (queue (c .before .before .before .before) ++ end (c .before .before .before .before))))))
+behind-kind c = let s = c .before .before .before .before in run-put (kind s) (code s ++ (n s ++ (node s ++ (q s ++ (queue s ++ end s))))) (all s) (c .put-bytes .ensures)
+
+behind-code : (c : tie.After-put-number) → Left (c .before .before .before .before .before .before .before .before) (c .put-number .last .0) (c .put-number .result) (n (c .before .before .before .before .before .before .before .before) ++ (node (c .before .before .before .before .before .before .before .before) ++ (q (c .before .before .before .before .before .before .before .before) ++ (queue (c .before .before .before .before .before .before .before .before) ++ end (c .before .before .before .before .before .before .before .before)))))
+behind-code c =
+    let s = c .before .before .before .before .before .before .before .before in
+    run-put (code s) (n s ++ (node s ++ (q s ++ (queue s ++ end s)))) (behind-kind (c .before .before .before .before)) (c .put-number .ensures)
+
+behind-n : (c : tie.After-put-bytes2) → Left (c .before .before .before .before .before .before .before .before .before .before .before .before .before) (c .put-bytes2 .last .0) (c .put-bytes2 .result) (node (c .before .before .before .before .before .before .before .before .before .before .before .before .before) ++ (q (c .before .before .before .before .before .before .before .before .before .before .before .before .before) ++ (queue (c .before .before .before .before .before .before .before .before .before .before .before .before .before) ++ end (c .before .before .before .before .before .before .before .before .before .before .before .before .before))))
+behind-n c =
+    let s = c .before .before .before .before .before .before .before .before .before .before .before .before .before in
+    run-put (n s) (node s ++ (q s ++ (queue s ++ end s))) (behind-code (c .before .before .before .before .before)) (c .put-bytes2 .ensures)
+
+behind-node : (c : tie.After-put-number2) → Left (c .before .before .before .before .before .before .before .before .before .before .before .before .before .before .before .before .before) (c .put-number2 .last .0) (c .put-number2 .result) (q (c .before .before .before .before .before .before .before .before .before .before .before .before .before .before .before .before .before) ++ (queue (c .before .before .before .before .before .before .before .before .before .before .before .before .before .before .before .before .before) ++ end (c .before .before .before .before .before .before .before .before .before .before .before .before .before .before .before .before .before)))
+behind-node c =
+    let s = c .before .before .before .before .before .before .before .before .before .before .before .before .before .before .before .before .before in
+    run-put (node s) (q s ++ (queue s ++ end s)) (behind-n (c .before .before .before .before)) (c .put-number2 .ensures)
+
+behind-q : (c : tie.After-put-bytes3) → Left (c .before .before .before .before .before .before .before .before .before .before .before .before .before .before .before .before .before .before .before .before .before .before) (c .put-bytes3 .last .0) (c .put-bytes3 .result) (queue (c .before .before .before .before .before .before .before .before .before .before .before .before .before .before .before .before .before .before .before .before .before .before) ++ end (c .before .before .before .before .before .before .before .before .before .before .before .before .before .before .before .before .before .before .before .before .before .before))
+behind-q c =
+    let s = c .before .before .before .before .before .before .before .before .before .before .before .before .before .before .before .before .before .before .before .before .before .before in
+    run-put (q s) (queue s ++ end s) (behind-node (c .before .before .before .before .before)) (c .put-bytes3 .ensures)
+
+behind-queue : (c : tie.After-put-number3) → Left (c .before .before .before .before .before .before .before .before .before .before .before .before .before .before .before .before .before .before .before .before .before .before .before .before .before .before) (c .put-number3 .last .0) (c .put-number3 .result) (end (c .before .before .before .before .before .before .before .before .before .before .before .before .before .before .before .before .before .before .before .before .before .before .before .before .before .before))
+behind-queue c =
+    let s = c .before .before .before .before .before .before .before .before .before .before .before .before .before .before .before .before .before .before .before .before .before .before .before .before .before .before in
+    run-put (queue s) (end s) (behind-q (c .before .before .before .before)) (c .put-number3 .ensures)
+
+put-bytes-requires : tie.Need-put-bytes-requires
+put-bytes-requires c κs = let s = c .before .before .before in run-room (kind s) (code s ++ (n s ++ (node s ++ (q s ++ (queue s ++ end s))))) (all s)
+
+put-number-requires : tie.Need-put-number-requires
+put-number-requires c κs =
+    let s = c .before .before .before .before .before .before .before in
+    ((omega arith, omega arith), run-room (code s) (n s ++ (node s ++ (q s ++ (queue s ++ end s)))) (behind-kind (c .before .before .before)))
+
+put-bytes-requires-2 : tie.Need-put-bytes-requires-2
+put-bytes-requires-2 c κs =
+    let s = c .before .before .before .before .before .before .before .before .before .before .before .before in
+    run-room (n s) (node s ++ (q s ++ (queue s ++ end s))) (behind-code (c .before .before .before .before))
+
+put-number-requires-2 : tie.Need-put-number-requires-2
+put-number-requires-2 c κs =
+    let s = c .before .before .before .before .before .before .before .before .before .before .before .before .before .before .before .before in
+    ((omega arith, omega arith), run-room (node s) (q s ++ (queue s ++ end s)) (behind-n (c .before .before .before)))
+
+put-bytes-requires-3 : tie.Need-put-bytes-requires-3
+put-bytes-requires-3 c κs =
+    let s = c .before .before .before .before .before .before .before .before .before .before .before .before .before .before .before .before .before .before .before .before .before in
+    run-room (q s) (queue s ++ end s) (behind-node (c .before .before .before .before))
+
+put-number-requires-3 : tie.Need-put-number-requires-3
+put-number-requires-3 c κs =
+    let s = c .before .before .before .before .before .before .before .before .before .before .before .before .before .before .before .before .before .before .before .before .before .before .before .before .before in
+    ((omega arith, omega arith), run-room (queue s) (end s) (behind-q (c .before .before .before)))
+
+put-bytes-requires-4 : tie.Need-put-bytes-requires-4
+put-bytes-requires-4 c κs = behind-queue (c .before .before .before .before) .room
+
+returns : tie.Need-returns
+returns c = let last = c .before .before in behind-queue (last .before .before .before .before .before) .done _ _ (last .put-bytes4 .ensures)
+
+pub put-variable-spec : {M : Type 1} → statement M
+put-variable-spec =
+    tie.close
+    (tie.spec
+    (λ c. search needs)
+    put-bytes-requires
+    put-number-requires
+    (λ c. search needs)
+    put-bytes-requires-2
+    put-number-requires-2
+    (λ c. search needs)
+    put-bytes-requires-3
+    put-number-requires-3
+    (λ c. search needs)
+    put-bytes-requires-4
+    (λ c. search needs)
+    returns)

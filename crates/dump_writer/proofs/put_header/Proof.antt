@@ -1,0 +1,119 @@
+-- `dump_writer::put_header` meets its contract: seven runs of bytes, one behind the other. Assumes nothing.
+use borrow.Author.Needs.{needs}
+use mathlib.Core.Bool.{true}
+use mathlib.Core.List.{List, _++_}
+use Prim.Native.Nat.{ℕ}
+use lib.ListN.{length}
+use Rattle.sheet.specs.Puts.{ToPut, all-to-put, run-room, run-put}
+use Rattle.waveform.specs.Dump.{opening, closing, valuesOpening, valuesClosing, variableLines, stampLine, valueLines, changes, stepBytes}
+use Rattle.dump_writer.proofs.put_header.Statement.{statement}
+use Rattle.dump_writer.proofs.put_header.Tie as tie
+
+-- what is left to put of the line
+abbrev Left : tie.Start → List ℕ → ℕ → List ℕ → Type 0
+Left s out next rest = ToPut (s .args .page .now) 0 (stepBytes true (s .args .time) (s .args .counts .now) (s .args .fills .now)) out next rest
+
+abbrev start : tie.Start → List ℕ
+start s = opening
+
+abbrev names : tie.Start → List ℕ
+names s = variableLines 0 (length (s .args .counts .now))
+
+abbrev middle : tie.Start → List ℕ
+middle s = closing
+
+abbrev stamp : tie.Start → List ℕ
+stamp s = stampLine (s .args .time)
+
+abbrev dumpvars : tie.Start → List ℕ
+dumpvars s = valuesOpening
+
+abbrev values : tie.Start → List ℕ
+values s = valueLines (changes true (s .args .counts .now) (s .args .fills .now))
+
+abbrev end : tie.Start → List ℕ
+end s = valuesClosing
+
+all : (s : tie.Start) → Left s (s .args .page .now) 0 (start s ++ (names s ++ (middle s ++ (stamp s ++ (dumpvars s ++ (values s ++ end s))))))
+unfolding stepBytes
+all s = all-to-put (s .args .page .now) 0 (stepBytes true (s .args .time) (s .args .counts .now) (s .args .fills .now)) (s .pre .1)
+
+behind-start : (c : tie.After-put-bytes) → Left (c .before .before .before .before .before .before) (c .put-bytes .last .0) (c .put-bytes .result) (names (c .before .before .before .before .before .before) ++ (middle (c .before .before .before .before .before .before) ++ (stamp (c .before .before .before .before .before .before) ++ (dumpvars (c .before .before .before .before .before .before) ++ (values (c .before .before .before .before .before .before) ++ end (c .before .before .before .before .before .before))))))
+behind-start c = let s = c .before .before .before .before .before .before in run-put (start s) (names s ++ (middle s ++ (stamp s ++ (dumpvars s ++ (values s ++ end s))))) (all s) (c .put-bytes .ensures)
+
+behind-names : (c : tie.After-put-variables) → Left (c .before .before .before .before .before .before .before .before .before .before) (c .put-variables .last .0) (c .put-variables .result) (middle (c .before .before .before .before .before .before .before .before .before .before) ++ (stamp (c .before .before .before .before .before .before .before .before .before .before) ++ (dumpvars (c .before .before .before .before .before .before .before .before .before .before) ++ (values (c .before .before .before .before .before .before .before .before .before .before) ++ end (c .before .before .before .before .before .before .before .before .before .before)))))
+behind-names c =
+    let s = c .before .before .before .before .before .before .before .before .before .before in
+    run-put (names s) (middle s ++ (stamp s ++ (dumpvars s ++ (values s ++ end s)))) (behind-start (c .before .before .before .before)) (c .put-variables .ensures)
+
+behind-middle : (c : tie.After-put-bytes2) → Left (c .before .before .before .before .before .before .before .before .before .before .before .before .before .before .before) (c .put-bytes2 .last .0) (c .put-bytes2 .result) (stamp (c .before .before .before .before .before .before .before .before .before .before .before .before .before .before .before) ++ (dumpvars (c .before .before .before .before .before .before .before .before .before .before .before .before .before .before .before) ++ (values (c .before .before .before .before .before .before .before .before .before .before .before .before .before .before .before) ++ end (c .before .before .before .before .before .before .before .before .before .before .before .before .before .before .before))))
+behind-middle c =
+    let s = c .before .before .before .before .before .before .before .before .before .before .before .before .before .before .before in
+    run-put (middle s) (stamp s ++ (dumpvars s ++ (values s ++ end s))) (behind-names (c .before .before .before .before .before)) (c .put-bytes2 .ensures)
+
+behind-stamp : (c : tie.After-put-stamp) → Left (c .before .before .before .before .before .before .before .before .before .before .before .before .before .before .before .before .before .before .before) (c .put-stamp .last .0) (c .put-stamp .result) (dumpvars (c .before .before .before .before .before .before .before .before .before .before .before .before .before .before .before .before .before .before .before) ++ (values (c .before .before .before .before .before .before .before .before .before .before .before .before .before .before .before .before .before .before .before) ++ end (c .before .before .before .before .before .before .before .before .before .before .before .before .before .before .before .before .before .before .before)))
+behind-stamp c =
+    let s = c .before .before .before .before .before .before .before .before .before .before .before .before .before .before .before .before .before .before .before in
+    run-put (stamp s) (dumpvars s ++ (values s ++ end s)) (behind-middle (c .before .before .before .before)) (c .put-stamp .ensures)
+
+behind-dumpvars : (c : tie.After-put-bytes3) → Left (c .before .before .before .before .before .before .before .before .before .before .before .before .before .before .before .before .before .before .before .before .before .before .before .before) (c .put-bytes3 .last .0) (c .put-bytes3 .result) (values (c .before .before .before .before .before .before .before .before .before .before .before .before .before .before .before .before .before .before .before .before .before .before .before .before) ++ end (c .before .before .before .before .before .before .before .before .before .before .before .before .before .before .before .before .before .before .before .before .before .before .before .before))
+behind-dumpvars c =
+    let s = c .before .before .before .before .before .before .before .before .before .before .before .before .before .before .before .before .before .before .before .before .before .before .before .before in
+    run-put (dumpvars s) (values s ++ end s) (behind-stamp (c .before .before .before .before .before)) (c .put-bytes3 .ensures)
+
+behind-values : (c : tie.After-put-values) → Left (c .before .before .before .before .before .before .before .before .before .before .before .before .before .before .before .before .before .before .before .before .before .before .before .before .before .before .before .before) (c .put-values .last .0) (c .put-values .result) (end (c .before .before .before .before .before .before .before .before .before .before .before .before .before .before .before .before .before .before .before .before .before .before .before .before .before .before .before .before))
+behind-values c =
+    let s = c .before .before .before .before .before .before .before .before .before .before .before .before .before .before .before .before .before .before .before .before .before .before .before .before .before .before .before .before in
+    run-put (values s) (end s) (behind-dumpvars (c .before .before .before .before)) (c .put-values .ensures)
+
+put-bytes-requires : tie.Need-put-bytes-requires
+put-bytes-requires c κs = let s = c .before .before .before .before .before in run-room (start s) (names s ++ (middle s ++ (stamp s ++ (dumpvars s ++ (values s ++ end s))))) (all s)
+
+put-variables-requires : tie.Need-put-variables-requires
+put-variables-requires c κs =
+    let s = c .before .before .before .before .before .before .before .before .before in
+    run-room (names s) (middle s ++ (stamp s ++ (dumpvars s ++ (values s ++ end s)))) (behind-start (c .before .before .before))
+
+put-bytes-requires-2 : tie.Need-put-bytes-requires-2
+put-bytes-requires-2 c κs =
+    let s = c .before .before .before .before .before .before .before .before .before .before .before .before .before .before in
+    run-room (middle s) (stamp s ++ (dumpvars s ++ (values s ++ end s))) (behind-names (c .before .before .before .before))
+
+put-stamp-requires : tie.Need-put-stamp-requires
+put-stamp-requires c κs =
+    let s = c .before .before .before .before .before .before .before .before .before .before .before .before .before .before .before .before .before .before in
+    run-room (stamp s) (dumpvars s ++ (values s ++ end s)) (behind-middle (c .before .before .before))
+
+put-bytes-requires-3 : tie.Need-put-bytes-requires-3
+put-bytes-requires-3 c κs =
+    let s = c .before .before .before .before .before .before .before .before .before .before .before .before .before .before .before .before .before .before .before .before .before .before .before in
+    run-room (dumpvars s) (values s ++ end s) (behind-stamp (c .before .before .before .before))
+
+put-values-requires : tie.Need-put-values-requires
+put-values-requires c κs =
+    let s = c .before .before .before .before .before .before .before .before .before .before .before .before .before .before .before .before .before .before .before .before .before .before .before .before .before .before .before in
+    (s .pre .0, run-room (values s) (end s) (behind-dumpvars (c .before .before .before)))
+
+put-bytes-requires-4 : tie.Need-put-bytes-requires-4
+put-bytes-requires-4 c κs = behind-values (c .before .before .before .before) .room
+
+returns : tie.Need-returns
+returns c = let last = c .before .before in behind-values (last .before .before .before .before .before) .done _ _ (last .put-bytes4 .ensures)
+
+pub put-header-spec : {M : Type 1} → statement M
+put-header-spec =
+    tie.close
+    (tie.spec
+    (λ c. search needs)
+    put-bytes-requires
+    put-variables-requires
+    (λ c. search needs)
+    put-bytes-requires-2
+    put-stamp-requires
+    (λ c. search needs)
+    put-bytes-requires-3
+    put-values-requires
+    (λ c. search needs)
+    put-bytes-requires-4
+    (λ c. search needs)
+    returns)

@@ -1,0 +1,2 @@
+-- What the inner functions of the writer of a dump answer.
+pub mod Writing

@@ -1,0 +1,205 @@
+// A sheet replayed as a dump (R423, R424): what a command does to the store, and the step that shows it, written onto a lent page. A D is
+// replayed move by move, so that each of its moves is a step of its own. Order: a step; a command at once; a move of a D.
+use network::Drained;
+use network::Moved;
+use network::Sizes;
+use sheet::Command;
+use waveform::Written;
+ghost use mathlib.Core.Path.{_≡_};
+ghost use Prim.Native.Nat.{_≤_};
+ghost use lib.Dec.{eqb};
+ghost use lib.ListN.{length};
+ghost use Rattle.network.specs.Calls.{movedNumber, drainedMoves};
+ghost use Rattle.waveform.specs.Calls.{writtenLength};
+ghost use Rattle.replay.specs.Replay.{shown, shownIf, carriedOut, changed, beginsDump, commandShown, movesAsked, oneWord, movedOn, makesMove, roomLeft, moveShown};
+
+// R246: the words of a D's ledger.
+pub const LEDGER_WORDS: usize = 64;
+
+// A move of a D: whether one was made, the words of the ledger that are left, and the bytes of its step.
+pub struct Replayed {
+    pub moved: bool,
+    pub room: usize,
+    pub bytes: usize,
+}
+
+// How many bytes a call of the writer left on the page.
+fn bytes_of(written: Written) -> usize
+    ensures { λ r. ⌜ r ≡ writtenLength written ⌝ }
+{
+    match written {
+        Written::Refused(_) => 0,
+        Written::Bytes(n) => n,
+    }
+}
+
+// The step of the words as they are, a header or a later one, if something has changed: how many bytes it has.
+fn show(changed: bool, first: bool, store: &[u64], fills: &mut [u8], page: &mut [u8]) -> usize
+    ensures { λ r. ⌜ shown r (now (fills .exit)) (now (page .exit)) ≡ shownIf changed first (now (store .entry)) (now (fills .entry)) (now (page .entry)) ⌝ }
+{
+    if !changed {
+        return 0;
+    }
+    if first {
+        return bytes_of(dump_writer::write_header(store, fills, page));
+    }
+    bytes_of(dump_writer::write_changes(store, fills, page))
+}
+
+// T: whether it made a network.
+fn make(store: &mut [u64], x: u32, y: u32, e: u32, a: u32, j: u32) -> bool
+    ensures store { λ _. ⌜ now (store .exit) ≡ carriedOut (Command.Make x y e a j) (now (store .entry)) ⌝ }
+    ensures changed { λ r. ⌜ r ≡ changed (Command.Make x y e a j) (now (store .entry)) ⌝ }
+{
+    let s = Sizes {
+        x: x as u64,
+        y: y as u64,
+        escape: e as u64,
+        adaptive: a as u64,
+        injection: j as u64,
+    };
+    calls::make(store, s) == 0
+}
+
+// Whether an M made its move.
+fn was_made(answer: Moved) -> bool
+    ensures { λ r. ⌜ r ≡ eqb (movedNumber answer) 0 ⌝ }
+{
+    match answer {
+        Moved::Refused(refusal) => refusal == 0,
+        Moved::Passed => true,
+        Moved::Delivered(_) => true,
+    }
+}
+
+// What a command does at once to the store, and whether that changed something. A D does nothing here: its moves come one by one.
+fn apply(store: &mut [u64], command: Command) -> bool
+    ensures store { λ _. ⌜ now (store .exit) ≡ carriedOut command (now (store .entry)) ⌝ }
+    ensures changed { λ r. ⌜ r ≡ changed command (now (store .entry)) ⌝ }
+{
+    match command {
+        Command::Make { x, y, e, a, j } => make(store, x, y, e, a, j),
+        Command::Offer {
+            node,
+            destination,
+            tag,
+        } => calls::offer(store, node as u64, destination as u64, tag) == 0,
+        Command::Move {
+            node,
+            queue,
+            output,
+        } => was_made(calls::move_packet(store, node as u64, queue as u64, output as u64)),
+        Command::Drain { budget: _ } => false,
+        Command::Bad => false,
+    }
+}
+
+// R424: a T begins a new dump.
+fn begins_dump(command: Command) -> bool
+    ensures { λ r. ⌜ r ≡ beginsDump command ⌝ }
+{
+    match command {
+        Command::Make {
+            x: _,
+            y: _,
+            e: _,
+            a: _,
+            j: _,
+        } => true,
+        Command::Offer {
+            node: _,
+            destination: _,
+            tag: _,
+        } => false,
+        Command::Move {
+            node: _,
+            queue: _,
+            output: _,
+        } => false,
+        Command::Drain { budget: _ } => false,
+        Command::Bad => false,
+    }
+}
+
+// R423: what a command does at once, with the step that shows it: how many bytes that has, 0 if nothing has changed.
+pub fn carry_out(store: &mut [u64], command: Command, fills: &mut [u8], page: &mut [u8]) -> usize
+    ensures store { λ _. ⌜ now (store .exit) ≡ carriedOut command (now (store .entry)) ⌝ }
+    ensures shown { λ r. ⌜ shown r (now (fills .exit)) (now (page .exit)) ≡ commandShown command (now (store .entry)) (now (fills .entry)) (now (page .entry)) ⌝ }
+    ensures within { λ r. ⌜ r ≤ length (now (page .entry)) ⌝ }
+{
+    let changed = apply(store, command);
+    let first = begins_dump(command);
+    show(changed, first, store, fills, page)
+}
+
+// How many moves a command asks for besides, to be made one by one: a D's budget, and none of any other.
+pub fn moves_asked(command: Command) -> u32
+    ensures { λ r. ⌜ r ≡ movesAsked command ⌝ }
+{
+    match command {
+        Command::Make {
+            x: _,
+            y: _,
+            e: _,
+            a: _,
+            j: _,
+        } => 0,
+        Command::Offer {
+            node: _,
+            destination: _,
+            tag: _,
+        } => 0,
+        Command::Move {
+            node: _,
+            queue: _,
+            output: _,
+        } => 0,
+        Command::Drain { budget } => budget,
+        Command::Bad => 0,
+    }
+}
+
+// The ledger of a single move: a word, while the D has one left.
+fn one_word(room: usize) -> usize
+    ensures { λ r. ⌜ r ≡ oneWord room ⌝ }
+{
+    if room == 0 {
+        return 0;
+    }
+    1
+}
+
+// The moves that a Drain made.
+fn moves_of(answer: Drained) -> u64
+    ensures { λ r. ⌜ r ≡ drainedMoves answer ⌝ }
+{
+    match answer {
+        Drained::Refused(_) => 0,
+        Drained::Stopped {
+            moves,
+            delivered: _,
+            stop: _,
+        } => moves,
+    }
+}
+
+// R423: one move of a D that has so many words of its ledger left, with the step that shows it.
+pub fn drain_move(store: &mut [u64], room: usize, fills: &mut [u8], page: &mut [u8]) -> Replayed
+    ensures store { λ _. ⌜ now (store .exit) ≡ movedOn (now (store .entry)) room ⌝ }
+    ensures moved { λ r. ⌜ r .moved ≡ makesMove (now (store .entry)) room ⌝ }
+    ensures room { λ r. ⌜ r .room ≡ roomLeft (now (store .entry)) room ⌝ }
+    ensures shown { λ r. ⌜ shown (r .bytes) (now (fills .exit)) (now (page .exit)) ≡ moveShown (now (store .entry)) room (now (fills .entry)) (now (page .entry)) ⌝ }
+    ensures within { λ r. ⌜ r .bytes ≤ length (now (page .entry)) ⌝ }
+{
+    let mut ledger = [0u64; 1];
+    let words = one_word(room);
+    let answer = calls::drain(store, 1, &mut ledger[..words]);
+    let moved = moves_of(answer) != 0;
+    let left = room - writer::delivered_by(answer);
+    let bytes = show(moved, false, store, fills, page);
+    Replayed {
+        moved: moved,
+        room: left,
+        bytes: bytes,
+    }
+}
