@@ -41,8 +41,8 @@
  *
  * The archive, libbench_c.a, is for x86-64 Linux (ELF, the System V calling
  * convention). `rt staticlib bench_c` builds it in target/staticlib; link it
- * behind your own objects, as tests/c-example does. It calls nothing but memmove
- * and memset of the C library.
+ * behind your own objects, as tests/c-example does. It calls nothing but memcpy,
+ * memmove and memset of the C library.
  *
  *     uint64_t words[BENCH_WORDS(4, 1, 2, 1, 1)] = {0}, ledger[8] = {0};
  *     uint64_t out[BENCH_DRAIN_OUT] = {0};
@@ -227,11 +227,12 @@ uint64_t bench_write_changes(const uint64_t *words, size_t len, uint8_t *fills,
 
 /*
  * Reads one step, all of `bytes`, and puts the fills that it tells into `fills`
- * (R415 to R420). Given the steps of one network in order, from the header on, the
- * list is that network's fills after each (R421). Refused, tested in this order:
- * the bytes are not one step as docs/WAVEFORM.md fixes it (13); `fills` is too
- * short for it (15): a header needs a byte for each of its variables, a later step
- * as many as its last variable's number and one.
+ * (R415 to R420). Given the steps of one network in order, from the header on, a
+ * list of BENCH_FILLS bytes is that network's fills after each (R421). Refused,
+ * tested in this order: the bytes are not one step as docs/WAVEFORM.md fixes it
+ * (13); `fills` is too short for it (15): a header needs a byte for each of its
+ * variables, a later step as many as its last variable's number and one, or none
+ * if it tells no variable.
  * out[0]: 1 for a header, 0 for a later step.
  * out[1]: the time stamp, which is the moves made.
  * out[2]: the number of variables that the step tells.

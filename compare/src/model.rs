@@ -10,7 +10,7 @@ pub mod words;
 use network::{Kind, Network, Output, Step, QUEUES};
 use words::{decode, encode, packet_to_word, Sizes};
 
-/// The refusals with their numbers (R161 to R174). 13 is what the program gives
+/// The refusals with their numbers (R161 to R175). 13 is what the program gives
 /// for a bad line, and the reader of the waveform for bytes that are no step.
 #[derive(Clone, Copy, Debug, PartialEq, Eq)]
 pub enum Refusal {

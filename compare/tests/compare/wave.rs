@@ -9,7 +9,7 @@ use compare::generate::{any_call, any_drain, network, Shape, FILLS, QUEUES};
 use compare::lab::Lab;
 use compare::random::Random;
 
-/// Room for any step: a line has at most 26 bytes, and there are two lines for
+/// Room for any step: a line has at most 29 bytes, and there are two lines for
 /// each variable of a header of 256 nodes.
 const ROOM: usize = 130_000;
 /// The same for networks of 16 nodes.

@@ -1,4 +1,4 @@
-// The call Check: are these words a network, and if not, which test refuses them. Every other call but Make makes these tests first.
+// The call Check: are these words a network, and if not, which test refuses them. Every other call that is lent words, but for Make, makes these tests first.
 // Order: the refusal; the words opened; the sizes; the clauses of the check; the counters. The queues' clauses are in the crate `queue_check`,
 // a packet's in `packet_check`, the rings' in `ring_check`.
 use network::ACCEPTED_AT;

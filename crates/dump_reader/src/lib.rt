@@ -10,6 +10,7 @@ use network::SHORT_PAGE;
 use reader::Number;
 use reader::field_end;
 use reader::read_number;
+use waveform::MOST_VARIABLES;
 use waveform::Names;
 use waveform::StepRead;
 use waveform::TimeStamp;
@@ -33,9 +34,7 @@ const LARGEST_FILL: u64 = 255;
 
 const LARGEST_VARIABLE: u64 = MOST_VARIABLES as u64 - 1;
 
-// The variables of the largest network, and the bytes of their longest line.
-const MOST_VARIABLES: usize = 2304;
-
+// The bytes of the longest line of a variable.
 const LINE_ROOM: usize = 32;
 
 // R402: how many the fixed bytes before and behind the variables are, and before and behind the values.

@@ -3,7 +3,7 @@
 use mathlib.Core.Path.{_≡_, refl, ap, ap₂, sym, _∙_}
 use mathlib.Core.Logic.{_≢_}
 use mathlib.Core.Bool.{Bool, true, false, _||_}
-use mathlib.Core.List.{List, [], _∷_, _++_, append-assoc}
+use mathlib.Core.List.{List, [], _∷_, _++_, append-nil, append-assoc}
 use Prim.Native.Nat.{ℕ, suc, _+_, _*_, _/_, _%_, _<_, _≤_}
 use native.Mathlib.Omega.{arith}
 use lib.Dec.{eqb, ltb}
@@ -61,7 +61,7 @@ module _ {S : Shape} {w : List ℕ} {i : ℕ} {lent counts : List ℕ} (f : Fill
   filled-all e v =
       f .same
       ∙ ap (λ l. fillsTo S w i ++ l) (ap (λ k. drop k lent) e ∙ drop-length lent)
-      ∙ mathlib.Core.List.append-nil (fillsTo S w i)
+      ∙ append-nil (fillsTo S w i)
       ∙ ap (fillsTo S w) v
 
 -- a step of fills that have been read

@@ -13,6 +13,7 @@ use network::MOVES_AT;
 use network::QUEUES;
 use network::SHORT_PAGE;
 use network::Sizes;
+use waveform::MOST_VARIABLES;
 use waveform::Written;
 ghost use mathlib.Core.Path.{_≡_};
 ghost use mathlib.Core.Bool.{true, false, not, _||_};
@@ -28,9 +29,6 @@ ghost use Rattle.waveform.specs.Dump.{variablesOf, mostVariables, fills as fill
 ghost use Rattle.waveform.specs.Calls.{writeAnswer, writePage, writeList};
 ghost use Rattle.waveform.specs.Answers.{WriteTells};
 ghost use Rattle.dump_writer.specs.Writing.{FillsAdded, countsAnswer, countsPage, countsList};
-
-// The variables of the largest network.
-const MOST_VARIABLES: usize = 2304;
 
 // The fixed bytes of a header.
 const FIXED_BYTES: usize = 98;

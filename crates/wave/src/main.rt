@@ -10,6 +10,7 @@ use session::STORE_WORDS;
 use sheet::Command;
 use sheet::Fed;
 use sheet::Pending;
+use waveform::MOST_VARIABLES;
 ghost use mathlib.Core.Path.{_≡_};
 ghost use mathlib.Core.Bool.{true};
 ghost use mathlib.Core.List.{List};
@@ -25,9 +26,7 @@ ghost use Rattle.replay.specs.Whole.{Roomy};
 // The bytes of a read at most.
 const PIECE: usize = 1024;
 
-// The variables of the largest network, and room for any step of it (waveform, specs/Lengths.antt: `pageRoom`).
-const MOST_VARIABLES: usize = 2304;
-
+// Room for any step of the largest network (waveform, specs/Lengths.antt: `pageRoom`).
 const PAGE_BYTES: usize = 120 + 48 * MOST_VARIABLES;
 
 // How far the sheet has come: the bytes that are pending of a line, and whether to go on.

@@ -17,11 +17,11 @@ use Rattle.waveform.specs.Reading.{largestFill, largestTime}
 use Rattle.waveform.specs.Calls.{fillsNow, writtenStep}
 use Rattle.waveform.specs.DumpLaws.{fills-length, fill-most, variables-most, time-most, lines-told, lines-untold, changeAt}
 
-pub stamp-length : (time : ℕ) → length (stampLine time) ≡ 2 + length (decimal time)
+pub stamp-length : (time : ℕ) → length (stampLine time) ≡ length (decimal time) + 2
 unfolding stampLine
 stamp-length time = simp length-append (omega arith)
 
-pub value-length : (c : Change) → length (valueLine c) ≡ 3 + length (numeral two (c .fill)) + length (decimal (c .variable))
+pub value-length : (c : Change) → length (valueLine c) ≡ length (numeral two (c .fill)) + length (decimal (c .variable)) + 3
 unfolding valueLine
 value-length c = simp length-append (omega arith)
 

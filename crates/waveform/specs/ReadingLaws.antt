@@ -21,6 +21,7 @@ use Rattle.sheet.specs.Numerals.{numeral-digits, numeral-is-number, value-numer
 use Rattle.waveform.specs.declared.ValueLine.{ValueLine}
 use Rattle.waveform.specs.Dump.{mostVariables, opening, closing, valuesOpening, valuesClosing, variableLine, variableLines, stampLine, Change, two, valueLine, valueLines, tells, changesTo, changes, stepBytes}
 use Rattle.waveform.specs.Reading.{isEnded, behind, largestTime, isStamp, readStamp, largestFill, blank, isValueLine, readValue, Run, oneMore, runWithin, run, startsWith, variablesFrom, variablesIn, areNames, readNames, Step, neededFrom, needed, readLater, headerStamp, headerValues, tellsAll, readHeader, readStep, applied}
+use Rattle.waveform.specs.Lengths.{stamp-length, value-length}
 use Rattle.waveform.specs.DumpLaws.{changeAt}
 use Rattle.waveform.specs.StartLaws.{starts-append}
 
@@ -56,10 +57,6 @@ stamp-front : (time : ℕ) (rest : List ℕ) → stampLine time ++ rest ≡ code
 unfolding stampLine
 stamp-front time rest = ap (λ l. code "#" ∷ l) (append-snoc (decimal time) lf rest)
 
-stamp-length : (time : ℕ) → length (stampLine time) ≡ length (decimal time) + 2
-unfolding stampLine
-stamp-length time = let l = length-append (decimal time) (lf ∷ []) in omega arith
-
 stamp-field : (bs : List ℕ) (time : ℕ) (rest : List ℕ) → Field ten lf largestTime bs time rest
     → readStamp (code "#" ∷ bs) ≡ record { good = true; time = time; length = length (decimal time) + 2 }
 unfolding readStamp isStamp
@@ -79,13 +76,6 @@ value-front c rest =
     ap (λ l. code "b" ∷ l)
     (append-assoc (numeral two (c .fill)) (blank ∷ (decimal (c .variable) ++ (lf ∷ []))) rest
     ∙ ap (λ l. numeral two (c .fill) ++ (blank ∷ l)) (append-snoc (decimal (c .variable)) lf rest))
-
-value-length : (c : Change) → length (valueLine c) ≡ length (numeral two (c .fill)) + length (decimal (c .variable)) + 3
-unfolding valueLine
-value-length c =
-    let a = length-append (numeral two (c .fill)) (blank ∷ (decimal (c .variable) ++ (lf ∷ []))) in
-    let b = length-append (decimal (c .variable)) (lf ∷ []) in
-    omega arith
 
 value-fields : (bs : List ℕ) (c : Change) (middle rest : List ℕ) → Field two blank largestFill bs (c .fill) middle
     → Field ten lf (mostVariables - 1) middle (c .variable) rest

@@ -1,6 +1,12 @@
 // What the definitions of a dump speak of (R400 to R420): the answers of its calls, and what its reader finds at a place. The crates `dump_text`,
 // `dump_writer` and `dump_reader` have the code.
 
+use network::MOST_NODES;
+use network::QUEUES;
+
+// R403: the variables of the largest network.
+pub const MOST_VARIABLES: usize = (MOST_NODES * QUEUES) as usize;
+
 // A step written: refused by a rule, or how many bytes the step has.
 pub enum Written {
     Refused(u64),

@@ -24,11 +24,17 @@ all : (s : tie.Start) → Left s (s .args .page .now) (s .args .at) (35 ∷ (num
 unfolding stampLine
 all s = all-to-put (s .args .page .now) (s .args .at) (stampLine (s .args .time)) (s .pre)
 
-behind-sign : (c : tie.After-put-byte) → Left (c .before .before .before) (c .put-byte .last .0) (c .put-byte .result) (number (c .before .before .before) ++ end)
-behind-sign c = let s = c .before .before .before in run-put (35 ∷ []) (number s ++ end) (all s) (c .put-byte .ensures)
+abbrev from-sign : tie.After-put-byte → tie.Start
+from-sign c = c .before .before .before
+
+behind-sign : (c : tie.After-put-byte) → Left (from-sign c) (c .put-byte .last .0) (c .put-byte .result) (number (from-sign c) ++ end)
+behind-sign c = let s = from-sign c in run-put (35 ∷ []) (number s ++ end) (all s) (c .put-byte .ensures)
+
+abbrev from-number : tie.After-put-number → tie.Start
+from-number c = from-sign (c .before .before .before .before)
 
 behind-number : (c : tie.After-put-number)
-    → Left (c .before .before .before .before .before .before .before) (c .put-number .last .0) (c .put-number .result) end
+    → Left (from-number c) (c .put-number .last .0) (c .put-number .result) end
 behind-number c = let sign = c .before .before .before .before in run-put (number (sign .before .before .before)) end (behind-sign sign) (c .put-number .ensures)
 
 put-byte-requires : tie.Need-put-byte-requires

@@ -33,22 +33,34 @@ all : (s : tie.Start) → Left s (s .args .page .now) (s .args .at) (letter s ++
 unfolding valueLine
 all s = all-to-put (s .args .page .now) (s .args .at) (valueLine (record { variable = s .args .variable; fill = s .args .fill })) (s .pre)
 
-behind-letter : (c : tie.After-put-byte) → Left (c .before .before .before) (c .put-byte .last .0) (c .put-byte .result) (bits (c .before .before .before) ++ (blank (c .before .before .before) ++ (code (c .before .before .before) ++ end (c .before .before .before))))
-behind-letter c = let s = c .before .before .before in run-put (letter s) (bits s ++ (blank s ++ (code s ++ end s))) (all s) (c .put-byte .ensures)
+abbrev from-letter : tie.After-put-byte → tie.Start
+from-letter c = c .before .before .before
 
-behind-bits : (c : tie.After-put-number) → Left (c .before .before .before .before .before .before .before) (c .put-number .last .0) (c .put-number .result) (blank (c .before .before .before .before .before .before .before) ++ (code (c .before .before .before .before .before .before .before) ++ end (c .before .before .before .before .before .before .before)))
+behind-letter : (c : tie.After-put-byte) → Left (from-letter c) (c .put-byte .last .0) (c .put-byte .result) (bits (from-letter c) ++ (blank (from-letter c) ++ (code (from-letter c) ++ end (from-letter c))))
+behind-letter c = let s = from-letter c in run-put (letter s) (bits s ++ (blank s ++ (code s ++ end s))) (all s) (c .put-byte .ensures)
+
+abbrev from-bits : tie.After-put-number → tie.Start
+from-bits c = from-letter (c .before .before .before .before)
+
+behind-bits : (c : tie.After-put-number) → Left (from-bits c) (c .put-number .last .0) (c .put-number .result) (blank (from-bits c) ++ (code (from-bits c) ++ end (from-bits c)))
 behind-bits c =
-    let s = c .before .before .before .before .before .before .before in
+    let s = from-bits c in
     run-put (bits s) (blank s ++ (code s ++ end s)) (behind-letter (c .before .before .before .before)) (c .put-number .ensures)
 
-behind-blank : (c : tie.After-put-byte2) → Left (c .before .before .before .before .before .before .before .before .before .before .before) (c .put-byte2 .last .0) (c .put-byte2 .result) (code (c .before .before .before .before .before .before .before .before .before .before .before) ++ end (c .before .before .before .before .before .before .before .before .before .before .before))
+abbrev from-blank : tie.After-put-byte2 → tie.Start
+from-blank c = from-bits (c .before .before .before .before)
+
+behind-blank : (c : tie.After-put-byte2) → Left (from-blank c) (c .put-byte2 .last .0) (c .put-byte2 .result) (code (from-blank c) ++ end (from-blank c))
 behind-blank c =
-    let s = c .before .before .before .before .before .before .before .before .before .before .before in
+    let s = from-blank c in
     run-put (blank s) (code s ++ end s) (behind-bits (c .before .before .before .before)) (c .put-byte2 .ensures)
 
-behind-code : (c : tie.After-put-number2) → Left (c .before .before .before .before .before .before .before .before .before .before .before .before .before .before .before) (c .put-number2 .last .0) (c .put-number2 .result) (end (c .before .before .before .before .before .before .before .before .before .before .before .before .before .before .before))
+abbrev from-code : tie.After-put-number2 → tie.Start
+from-code c = from-blank (c .before .before .before .before)
+
+behind-code : (c : tie.After-put-number2) → Left (from-code c) (c .put-number2 .last .0) (c .put-number2 .result) (end (from-code c))
 behind-code c =
-    let s = c .before .before .before .before .before .before .before .before .before .before .before .before .before .before .before in
+    let s = from-code c in
     run-put (code s) (end s) (behind-blank (c .before .before .before .before)) (c .put-number2 .ensures)
 
 put-byte-requires : tie.Need-put-byte-requires
@@ -56,17 +68,17 @@ put-byte-requires c κs = let s = c .before .before in run-room (letter s) (bits
 
 put-number-requires : tie.Need-put-number-requires
 put-number-requires c κs =
-    let s = c .before .before .before .before .before .before in
+    let s = from-letter (c .before .before .before) in
     ((omega arith, omega arith), run-room (bits s) (blank s ++ (code s ++ end s)) (behind-letter (c .before .before .before)))
 
 put-byte-requires-2 : tie.Need-put-byte-requires-2
 put-byte-requires-2 c κs =
-    let s = c .before .before .before .before .before .before .before .before .before .before in
+    let s = from-bits (c .before .before .before) in
     run-room (blank s) (code s ++ end s) (behind-bits (c .before .before .before))
 
 put-number-requires-2 : tie.Need-put-number-requires-2
 put-number-requires-2 c κs =
-    let s = c .before .before .before .before .before .before .before .before .before .before .before .before .before .before in
+    let s = from-blank (c .before .before .before) in
     ((omega arith, omega arith), run-room (code s) (end s) (behind-blank (c .before .before .before)))
 
 put-byte-requires-3 : tie.Need-put-byte-requires-3

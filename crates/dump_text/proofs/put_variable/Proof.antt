@@ -40,32 +40,50 @@ all : (s : tie.Start) → Left s (s .args .page .now) (s .args .at) (kind s ++ (
 unfolding variableLine
 all s = all-to-put (s .args .page .now) (s .args .at) (variableLine (s .args .i)) (s .pre)
 
-behind-kind : (c : tie.After-put-bytes) → Left (c .before .before .before .before) (c .put-bytes .last .0) (c .put-bytes .result) (code (c .before .before .before .before) ++ (n (c .before .before .before .before) ++ (node (c .before .before .before .before) ++ (q (c .before .before .before .before) ++ (queue (c .before .before .before .before) ++ end (c .before .before .before .before))))))
-behind-kind c = let s = c .before .before .before .before in run-put (kind s) (code s ++ (n s ++ (node s ++ (q s ++ (queue s ++ end s))))) (all s) (c .put-bytes .ensures)
+abbrev from-kind : tie.After-put-bytes → tie.Start
+from-kind c = c .before .before .before .before
 
-behind-code : (c : tie.After-put-number) → Left (c .before .before .before .before .before .before .before .before) (c .put-number .last .0) (c .put-number .result) (n (c .before .before .before .before .before .before .before .before) ++ (node (c .before .before .before .before .before .before .before .before) ++ (q (c .before .before .before .before .before .before .before .before) ++ (queue (c .before .before .before .before .before .before .before .before) ++ end (c .before .before .before .before .before .before .before .before)))))
+behind-kind : (c : tie.After-put-bytes) → Left (from-kind c) (c .put-bytes .last .0) (c .put-bytes .result) (code (from-kind c) ++ (n (from-kind c) ++ (node (from-kind c) ++ (q (from-kind c) ++ (queue (from-kind c) ++ end (from-kind c))))))
+behind-kind c = let s = from-kind c in run-put (kind s) (code s ++ (n s ++ (node s ++ (q s ++ (queue s ++ end s))))) (all s) (c .put-bytes .ensures)
+
+abbrev from-code : tie.After-put-number → tie.Start
+from-code c = from-kind (c .before .before .before .before)
+
+behind-code : (c : tie.After-put-number) → Left (from-code c) (c .put-number .last .0) (c .put-number .result) (n (from-code c) ++ (node (from-code c) ++ (q (from-code c) ++ (queue (from-code c) ++ end (from-code c)))))
 behind-code c =
-    let s = c .before .before .before .before .before .before .before .before in
+    let s = from-code c in
     run-put (code s) (n s ++ (node s ++ (q s ++ (queue s ++ end s)))) (behind-kind (c .before .before .before .before)) (c .put-number .ensures)
 
-behind-n : (c : tie.After-put-bytes2) → Left (c .before .before .before .before .before .before .before .before .before .before .before .before .before) (c .put-bytes2 .last .0) (c .put-bytes2 .result) (node (c .before .before .before .before .before .before .before .before .before .before .before .before .before) ++ (q (c .before .before .before .before .before .before .before .before .before .before .before .before .before) ++ (queue (c .before .before .before .before .before .before .before .before .before .before .before .before .before) ++ end (c .before .before .before .before .before .before .before .before .before .before .before .before .before))))
+abbrev from-n : tie.After-put-bytes2 → tie.Start
+from-n c = from-code (c .before .before .before .before .before)
+
+behind-n : (c : tie.After-put-bytes2) → Left (from-n c) (c .put-bytes2 .last .0) (c .put-bytes2 .result) (node (from-n c) ++ (q (from-n c) ++ (queue (from-n c) ++ end (from-n c))))
 behind-n c =
-    let s = c .before .before .before .before .before .before .before .before .before .before .before .before .before in
+    let s = from-n c in
     run-put (n s) (node s ++ (q s ++ (queue s ++ end s))) (behind-code (c .before .before .before .before .before)) (c .put-bytes2 .ensures)
 
-behind-node : (c : tie.After-put-number2) → Left (c .before .before .before .before .before .before .before .before .before .before .before .before .before .before .before .before .before) (c .put-number2 .last .0) (c .put-number2 .result) (q (c .before .before .before .before .before .before .before .before .before .before .before .before .before .before .before .before .before) ++ (queue (c .before .before .before .before .before .before .before .before .before .before .before .before .before .before .before .before .before) ++ end (c .before .before .before .before .before .before .before .before .before .before .before .before .before .before .before .before .before)))
+abbrev from-node : tie.After-put-number2 → tie.Start
+from-node c = from-n (c .before .before .before .before)
+
+behind-node : (c : tie.After-put-number2) → Left (from-node c) (c .put-number2 .last .0) (c .put-number2 .result) (q (from-node c) ++ (queue (from-node c) ++ end (from-node c)))
 behind-node c =
-    let s = c .before .before .before .before .before .before .before .before .before .before .before .before .before .before .before .before .before in
+    let s = from-node c in
     run-put (node s) (q s ++ (queue s ++ end s)) (behind-n (c .before .before .before .before)) (c .put-number2 .ensures)
 
-behind-q : (c : tie.After-put-bytes3) → Left (c .before .before .before .before .before .before .before .before .before .before .before .before .before .before .before .before .before .before .before .before .before .before) (c .put-bytes3 .last .0) (c .put-bytes3 .result) (queue (c .before .before .before .before .before .before .before .before .before .before .before .before .before .before .before .before .before .before .before .before .before .before) ++ end (c .before .before .before .before .before .before .before .before .before .before .before .before .before .before .before .before .before .before .before .before .before .before))
+abbrev from-q : tie.After-put-bytes3 → tie.Start
+from-q c = from-node (c .before .before .before .before .before)
+
+behind-q : (c : tie.After-put-bytes3) → Left (from-q c) (c .put-bytes3 .last .0) (c .put-bytes3 .result) (queue (from-q c) ++ end (from-q c))
 behind-q c =
-    let s = c .before .before .before .before .before .before .before .before .before .before .before .before .before .before .before .before .before .before .before .before .before .before in
+    let s = from-q c in
     run-put (q s) (queue s ++ end s) (behind-node (c .before .before .before .before .before)) (c .put-bytes3 .ensures)
 
-behind-queue : (c : tie.After-put-number3) → Left (c .before .before .before .before .before .before .before .before .before .before .before .before .before .before .before .before .before .before .before .before .before .before .before .before .before .before) (c .put-number3 .last .0) (c .put-number3 .result) (end (c .before .before .before .before .before .before .before .before .before .before .before .before .before .before .before .before .before .before .before .before .before .before .before .before .before .before))
+abbrev from-queue : tie.After-put-number3 → tie.Start
+from-queue c = from-q (c .before .before .before .before)
+
+behind-queue : (c : tie.After-put-number3) → Left (from-queue c) (c .put-number3 .last .0) (c .put-number3 .result) (end (from-queue c))
 behind-queue c =
-    let s = c .before .before .before .before .before .before .before .before .before .before .before .before .before .before .before .before .before .before .before .before .before .before .before .before .before .before in
+    let s = from-queue c in
     run-put (queue s) (end s) (behind-q (c .before .before .before .before)) (c .put-number3 .ensures)
 
 put-bytes-requires : tie.Need-put-bytes-requires
@@ -73,27 +91,27 @@ put-bytes-requires c κs = let s = c .before .before .before in run-room (kind s
 
 put-number-requires : tie.Need-put-number-requires
 put-number-requires c κs =
-    let s = c .before .before .before .before .before .before .before in
+    let s = from-kind (c .before .before .before) in
     ((omega arith, omega arith), run-room (code s) (n s ++ (node s ++ (q s ++ (queue s ++ end s)))) (behind-kind (c .before .before .before)))
 
 put-bytes-requires-2 : tie.Need-put-bytes-requires-2
 put-bytes-requires-2 c κs =
-    let s = c .before .before .before .before .before .before .before .before .before .before .before .before in
+    let s = from-code (c .before .before .before .before) in
     run-room (n s) (node s ++ (q s ++ (queue s ++ end s))) (behind-code (c .before .before .before .before))
 
 put-number-requires-2 : tie.Need-put-number-requires-2
 put-number-requires-2 c κs =
-    let s = c .before .before .before .before .before .before .before .before .before .before .before .before .before .before .before .before in
+    let s = from-n (c .before .before .before) in
     ((omega arith, omega arith), run-room (node s) (q s ++ (queue s ++ end s)) (behind-n (c .before .before .before)))
 
 put-bytes-requires-3 : tie.Need-put-bytes-requires-3
 put-bytes-requires-3 c κs =
-    let s = c .before .before .before .before .before .before .before .before .before .before .before .before .before .before .before .before .before .before .before .before .before in
+    let s = from-node (c .before .before .before .before) in
     run-room (q s) (queue s ++ end s) (behind-node (c .before .before .before .before))
 
 put-number-requires-3 : tie.Need-put-number-requires-3
 put-number-requires-3 c κs =
-    let s = c .before .before .before .before .before .before .before .before .before .before .before .before .before .before .before .before .before .before .before .before .before .before .before .before .before in
+    let s = from-q (c .before .before .before) in
     ((omega arith, omega arith), run-room (queue s) (end s) (behind-q (c .before .before .before)))
 
 put-bytes-requires-4 : tie.Need-put-bytes-requires-4

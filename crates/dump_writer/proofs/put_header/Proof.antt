@@ -38,32 +38,50 @@ all : (s : tie.Start) → Left s (s .args .page .now) 0 (start s ++ (names s ++ 
 unfolding stepBytes
 all s = all-to-put (s .args .page .now) 0 (stepBytes true (s .args .time) (s .args .counts .now) (s .args .fills .now)) (s .pre .1)
 
-behind-start : (c : tie.After-put-bytes) → Left (c .before .before .before .before .before .before) (c .put-bytes .last .0) (c .put-bytes .result) (names (c .before .before .before .before .before .before) ++ (middle (c .before .before .before .before .before .before) ++ (stamp (c .before .before .before .before .before .before) ++ (dumpvars (c .before .before .before .before .before .before) ++ (values (c .before .before .before .before .before .before) ++ end (c .before .before .before .before .before .before))))))
-behind-start c = let s = c .before .before .before .before .before .before in run-put (start s) (names s ++ (middle s ++ (stamp s ++ (dumpvars s ++ (values s ++ end s))))) (all s) (c .put-bytes .ensures)
+abbrev from-start : tie.After-put-bytes → tie.Start
+from-start c = c .before .before .before .before .before .before
 
-behind-names : (c : tie.After-put-variables) → Left (c .before .before .before .before .before .before .before .before .before .before) (c .put-variables .last .0) (c .put-variables .result) (middle (c .before .before .before .before .before .before .before .before .before .before) ++ (stamp (c .before .before .before .before .before .before .before .before .before .before) ++ (dumpvars (c .before .before .before .before .before .before .before .before .before .before) ++ (values (c .before .before .before .before .before .before .before .before .before .before) ++ end (c .before .before .before .before .before .before .before .before .before .before)))))
+behind-start : (c : tie.After-put-bytes) → Left (from-start c) (c .put-bytes .last .0) (c .put-bytes .result) (names (from-start c) ++ (middle (from-start c) ++ (stamp (from-start c) ++ (dumpvars (from-start c) ++ (values (from-start c) ++ end (from-start c))))))
+behind-start c = let s = from-start c in run-put (start s) (names s ++ (middle s ++ (stamp s ++ (dumpvars s ++ (values s ++ end s))))) (all s) (c .put-bytes .ensures)
+
+abbrev from-names : tie.After-put-variables → tie.Start
+from-names c = from-start (c .before .before .before .before)
+
+behind-names : (c : tie.After-put-variables) → Left (from-names c) (c .put-variables .last .0) (c .put-variables .result) (middle (from-names c) ++ (stamp (from-names c) ++ (dumpvars (from-names c) ++ (values (from-names c) ++ end (from-names c)))))
 behind-names c =
-    let s = c .before .before .before .before .before .before .before .before .before .before in
+    let s = from-names c in
     run-put (names s) (middle s ++ (stamp s ++ (dumpvars s ++ (values s ++ end s)))) (behind-start (c .before .before .before .before)) (c .put-variables .ensures)
 
-behind-middle : (c : tie.After-put-bytes2) → Left (c .before .before .before .before .before .before .before .before .before .before .before .before .before .before .before) (c .put-bytes2 .last .0) (c .put-bytes2 .result) (stamp (c .before .before .before .before .before .before .before .before .before .before .before .before .before .before .before) ++ (dumpvars (c .before .before .before .before .before .before .before .before .before .before .before .before .before .before .before) ++ (values (c .before .before .before .before .before .before .before .before .before .before .before .before .before .before .before) ++ end (c .before .before .before .before .before .before .before .before .before .before .before .before .before .before .before))))
+abbrev from-middle : tie.After-put-bytes2 → tie.Start
+from-middle c = from-names (c .before .before .before .before .before)
+
+behind-middle : (c : tie.After-put-bytes2) → Left (from-middle c) (c .put-bytes2 .last .0) (c .put-bytes2 .result) (stamp (from-middle c) ++ (dumpvars (from-middle c) ++ (values (from-middle c) ++ end (from-middle c))))
 behind-middle c =
-    let s = c .before .before .before .before .before .before .before .before .before .before .before .before .before .before .before in
+    let s = from-middle c in
     run-put (middle s) (stamp s ++ (dumpvars s ++ (values s ++ end s))) (behind-names (c .before .before .before .before .before)) (c .put-bytes2 .ensures)
 
-behind-stamp : (c : tie.After-put-stamp) → Left (c .before .before .before .before .before .before .before .before .before .before .before .before .before .before .before .before .before .before .before) (c .put-stamp .last .0) (c .put-stamp .result) (dumpvars (c .before .before .before .before .before .before .before .before .before .before .before .before .before .before .before .before .before .before .before) ++ (values (c .before .before .before .before .before .before .before .before .before .before .before .before .before .before .before .before .before .before .before) ++ end (c .before .before .before .before .before .before .before .before .before .before .before .before .before .before .before .before .before .before .before)))
+abbrev from-stamp : tie.After-put-stamp → tie.Start
+from-stamp c = from-middle (c .before .before .before .before)
+
+behind-stamp : (c : tie.After-put-stamp) → Left (from-stamp c) (c .put-stamp .last .0) (c .put-stamp .result) (dumpvars (from-stamp c) ++ (values (from-stamp c) ++ end (from-stamp c)))
 behind-stamp c =
-    let s = c .before .before .before .before .before .before .before .before .before .before .before .before .before .before .before .before .before .before .before in
+    let s = from-stamp c in
     run-put (stamp s) (dumpvars s ++ (values s ++ end s)) (behind-middle (c .before .before .before .before)) (c .put-stamp .ensures)
 
-behind-dumpvars : (c : tie.After-put-bytes3) → Left (c .before .before .before .before .before .before .before .before .before .before .before .before .before .before .before .before .before .before .before .before .before .before .before .before) (c .put-bytes3 .last .0) (c .put-bytes3 .result) (values (c .before .before .before .before .before .before .before .before .before .before .before .before .before .before .before .before .before .before .before .before .before .before .before .before) ++ end (c .before .before .before .before .before .before .before .before .before .before .before .before .before .before .before .before .before .before .before .before .before .before .before .before))
+abbrev from-dumpvars : tie.After-put-bytes3 → tie.Start
+from-dumpvars c = from-stamp (c .before .before .before .before .before)
+
+behind-dumpvars : (c : tie.After-put-bytes3) → Left (from-dumpvars c) (c .put-bytes3 .last .0) (c .put-bytes3 .result) (values (from-dumpvars c) ++ end (from-dumpvars c))
 behind-dumpvars c =
-    let s = c .before .before .before .before .before .before .before .before .before .before .before .before .before .before .before .before .before .before .before .before .before .before .before .before in
+    let s = from-dumpvars c in
     run-put (dumpvars s) (values s ++ end s) (behind-stamp (c .before .before .before .before .before)) (c .put-bytes3 .ensures)
 
-behind-values : (c : tie.After-put-values) → Left (c .before .before .before .before .before .before .before .before .before .before .before .before .before .before .before .before .before .before .before .before .before .before .before .before .before .before .before .before) (c .put-values .last .0) (c .put-values .result) (end (c .before .before .before .before .before .before .before .before .before .before .before .before .before .before .before .before .before .before .before .before .before .before .before .before .before .before .before .before))
+abbrev from-values : tie.After-put-values → tie.Start
+from-values c = from-dumpvars (c .before .before .before .before)
+
+behind-values : (c : tie.After-put-values) → Left (from-values c) (c .put-values .last .0) (c .put-values .result) (end (from-values c))
 behind-values c =
-    let s = c .before .before .before .before .before .before .before .before .before .before .before .before .before .before .before .before .before .before .before .before .before .before .before .before .before .before .before .before in
+    let s = from-values c in
     run-put (values s) (end s) (behind-dumpvars (c .before .before .before .before)) (c .put-values .ensures)
 
 put-bytes-requires : tie.Need-put-bytes-requires
@@ -71,27 +89,27 @@ put-bytes-requires c κs = let s = c .before .before .before .before .before in 
 
 put-variables-requires : tie.Need-put-variables-requires
 put-variables-requires c κs =
-    let s = c .before .before .before .before .before .before .before .before .before in
+    let s = from-start (c .before .before .before) in
     run-room (names s) (middle s ++ (stamp s ++ (dumpvars s ++ (values s ++ end s)))) (behind-start (c .before .before .before))
 
 put-bytes-requires-2 : tie.Need-put-bytes-requires-2
 put-bytes-requires-2 c κs =
-    let s = c .before .before .before .before .before .before .before .before .before .before .before .before .before .before in
+    let s = from-names (c .before .before .before .before) in
     run-room (middle s) (stamp s ++ (dumpvars s ++ (values s ++ end s))) (behind-names (c .before .before .before .before))
 
 put-stamp-requires : tie.Need-put-stamp-requires
 put-stamp-requires c κs =
-    let s = c .before .before .before .before .before .before .before .before .before .before .before .before .before .before .before .before .before .before in
+    let s = from-middle (c .before .before .before) in
     run-room (stamp s) (dumpvars s ++ (values s ++ end s)) (behind-middle (c .before .before .before))
 
 put-bytes-requires-3 : tie.Need-put-bytes-requires-3
 put-bytes-requires-3 c κs =
-    let s = c .before .before .before .before .before .before .before .before .before .before .before .before .before .before .before .before .before .before .before .before .before .before .before in
+    let s = from-stamp (c .before .before .before .before) in
     run-room (dumpvars s) (values s ++ end s) (behind-stamp (c .before .before .before .before))
 
 put-values-requires : tie.Need-put-values-requires
 put-values-requires c κs =
-    let s = c .before .before .before .before .before .before .before .before .before .before .before .before .before .before .before .before .before .before .before .before .before .before .before .before .before .before .before in
+    let s = from-dumpvars (c .before .before .before) in
     (s .pre .0, run-room (values s) (end s) (behind-dumpvars (c .before .before .before)))
 
 put-bytes-requires-4 : tie.Need-put-bytes-requires-4

@@ -8,9 +8,7 @@ returns : tie.Need-returns
 returns c = search needs
 
 returns-2 : tie.Need-returns-2
-returns-2 c =
-    let a = c .before .args in
-    rw (c .if1 .left) refl
+returns-2 c = rw (c .if1 .left) refl
 
 pub tells-spec : {M : Type 1} → statement M
 tells-spec = tie.close (tie.spec returns returns-2)

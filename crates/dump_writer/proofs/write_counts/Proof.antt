@@ -1,6 +1,6 @@
 -- `dump_writer::write_counts` meets its contract. Assumes nothing.
 use mathlib.Core.Path.{_≡_, refl, ap, _∙_, subst}
-use mathlib.Core.Bool.{Bool, true, _||_}
+use mathlib.Core.Bool.{Bool, true, false, _||_}
 use mathlib.Core.List.{List, _++_}
 use Prim.Native.Nat.{ℕ, _+_, _<_, _≤_}
 use native.Mathlib.Nat.{zero-add}
@@ -19,7 +19,7 @@ use Rattle.dump_writer.proofs.write_counts.Tie as tie
 -- the second of two tests applies
 or-true : (a b : Bool) → b ≡ true → (a || b) ≡ true
 or-true true b e = refl
-or-true mathlib.Core.Bool.false b e = e
+or-true false b e = e
 
 -- bytes put at the start of a page
 at-front : {before bytes after : List ℕ} {next : ℕ} → Put before 0 bytes after next → after ≡ bytes ++ drop (length bytes) before
