@@ -9,7 +9,7 @@ ghost use mathlib.Core.Path.{_≡_};
 ghost use Prim.Native.Nat.{_<_, _≤_};
 ghost use lib.ListN.{length, drop};
 ghost use Rattle.sheet.specs.Output.{Room, Put};
-ghost use Rattle.waveform.specs.Dump.{mostVariables, variableLine, stampLine, valueLine};
+ghost use Rattle.waveform.specs.Dump.{variableLine, stampLine, valueLine};
 ghost use Rattle.waveform.specs.Reading.{startsWith};
 
 // The base of the values.

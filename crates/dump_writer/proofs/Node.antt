@@ -9,7 +9,7 @@ use lib.ListN.{length, getD, set, length-set}
 use Rattle.network.specs.Sizes.{Shape, nodes, queues, capacity, largestCapacity}
 use Rattle.network.specs.SizesLaws.{range-of, capacity-most}
 use Rattle.network.specs.Layout.{headerWords, nodeWords, need, queueStart, queueEnd, queueLength, held}
-use Rattle.network.specs.LayoutLaws.{end-next, end-need, node-words}
+use Rattle.network.specs.LayoutLaws.{end-next, end-need}
 use Rattle.network.specs.CheckLaws.{Network}
 use Rattle.base.specs.Sums.{sumBelow}
 use Rattle.waveform.specs.Dump.{variablesOf, fills}

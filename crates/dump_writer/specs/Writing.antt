@@ -2,16 +2,16 @@
 -- a call names it. Order: fills read into a list; a step of fills that have been read; that of a network's fills it is what the calls say. Assumes nothing.
 use mathlib.Core.Path.{_≡_, refl, ap, ap₂, sym, _∙_}
 use mathlib.Core.Logic.{_≢_}
-use mathlib.Core.Bool.{Bool, true, false, _||_}
+use mathlib.Core.Bool.{Bool, true, _||_}
 use mathlib.Core.List.{List, [], _∷_, _++_, append-nil, append-assoc}
 use Prim.Native.Nat.{ℕ, suc, _+_, _*_, _/_, _%_, _<_, _≤_}
 use native.Mathlib.Omega.{arith}
 use lib.Dec.{eqb, ltb}
 use lib.ListN.{length, getD, drop, set, length-append, length-drop}
 use lib.Seq.{drop-cons, drop-length, set-at}
-use borrow.Author.Tests.{ne-eqb, eq-eqb, lt-ltb, le-ltb}
+use borrow.Author.Tests.{ne-eqb, le-ltb}
 use Rattle.network.specs.Sizes.{Shape, nodes, queues}
-use Rattle.network.specs.Layout.{shape, movesMade, held, queueStart}
+use Rattle.network.specs.Layout.{shape, movesMade, held}
 use Rattle.network.specs.Refusals.{networkRefusal, refuse, shortPage}
 use Rattle.network.specs.RefusalLaws.{elseBy-zero, elseBy-first}
 use Rattle.network.specs.Calls.{unlessRefused}

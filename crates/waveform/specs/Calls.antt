@@ -3,7 +3,7 @@
 use mathlib.Core.Bool.{Bool, not, cond, _||_}
 use mathlib.Core.List.{List, _++_}
 use Prim.Native.Nat.{ℕ}
-use lib.Dec.{eqb, ltb}
+use lib.Dec.{ltb}
 use lib.ListN.{length, drop}
 use Rattle.network.specs.Layout.{shape, movesMade}
 use Rattle.network.specs.Refusals.{networkRefusal, refuse, elseBy, badLine, shortPage}

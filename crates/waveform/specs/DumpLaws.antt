@@ -1,14 +1,14 @@
 -- Laws of a dump's bytes. Order: the fills of the first queues, and of a network; variables' lines; changes and their lines. Assumes nothing.
-use mathlib.Core.Path.{_≡_, refl, ap, ap₂, sym, _∙_, subst}
+use mathlib.Core.Path.{_≡_, refl, ap, sym, _∙_, subst}
 use mathlib.Core.Bool.{Bool, true, false}
 use mathlib.Core.List.{List, [], _∷_, _++_, append-nil, append-assoc}
 use mathlib.Core.Logic.{_⊎_, inl, inr}
-use Prim.Native.Nat.{ℕ, zero, suc, _+_, _*_, _/_, _%_, _<_, _≤_}
+use Prim.Native.Nat.{ℕ, zero, suc, _+_, _/_, _%_, _<_, _≤_}
 use native.Mathlib.Nat.{eq-or-lt-of-le, le-of-suc-le-suc, not-suc-le-zero}
 use native.Mathlib.Omega.{arith}
 use lib.ListN.{length, getD, length-append, List·getD-append}
 use lib.Seq.{getD-at}
-use Rattle.network.specs.Sizes.{Shape, nodes, queues, mostNodes, dimensions, capacity}
+use Rattle.network.specs.Sizes.{Shape, nodes, queues, capacity}
 use Rattle.network.specs.SizesLaws.{range-of, capacity-most}
 use Rattle.network.specs.TorusLaws.{inRange-torus, inRange-nodes, nodes-pos}
 use Rattle.network.specs.Layout.{shape, movesMade, queueStart, queuePart, queueLength, held}

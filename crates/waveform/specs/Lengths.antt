@@ -1,19 +1,18 @@
 -- How long the lines and the steps of a dump are. Order: a line; lines one after another; a step, and a page that is never too short for one. Assumes nothing.
-use mathlib.Core.Path.{_≡_, refl, ap, sym, _∙_}
+use mathlib.Core.Path.{_≡_, refl, ap, _∙_}
 use mathlib.Core.Bool.{Bool, true, false}
-use mathlib.Core.List.{List, [], _∷_, _++_}
+use mathlib.Core.List.{List}
 use Prim.Native.Nat.{ℕ, zero, suc, _+_, _*_, _/_, _%_, _^_, _<_, _≤_}
 use native.Mathlib.Omega.{arith}
 use lib.ListN.{length, getD, length-append}
-use Rattle.network.specs.Sizes.{Shape, queues}
+use Rattle.network.specs.Sizes.{queues}
 use Rattle.network.specs.Layout.{shape, movesMade}
 use Rattle.network.specs.Refusals.{networkRefusal}
-use Rattle.sheet.specs.Text.{text}
 use Rattle.sheet.specs.Commands.{ten}
 use Rattle.sheet.specs.Output.{numeral, decimal}
 use Rattle.sheet.specs.Numerals.{numeral-length}
-use Rattle.waveform.specs.Dump.{variablesOf, mostVariables, opening, closing, valuesOpening, valuesClosing, variableLine, variableLines, stampLine, Change, two, valueLine, valueLines, tells, changesTo, changes, stepBytes}
-use Rattle.waveform.specs.Reading.{largestFill, largestTime}
+use Rattle.waveform.specs.Dump.{variablesOf, mostVariables, variableLine, variableLines, stampLine, Change, two, valueLine, valueLines, tells, changesTo, changes, stepBytes}
+use Rattle.waveform.specs.Reading.{largestFill}
 use Rattle.waveform.specs.Calls.{fillsNow, writtenStep}
 use Rattle.waveform.specs.DumpLaws.{fills-length, fill-most, variables-most, time-most, lines-told, lines-untold, changeAt}
 
