@@ -58,7 +58,7 @@ why_not() {
 
 build() { # WHY
     command -v rt >/dev/null 2>&1 || fail "$1, and the command rt of the Rattle kit, which would build it, is not on the PATH"
-    echo "$name: $1; building it: rt check $name (from nothing it took us 3 minutes on two cores)" >&2
+    echo "$name: $1; building it: rt check $name (from nothing that takes some minutes)" >&2
     local began=$SECONDS from
     from=$(sources) && mkdir -p "$root/target" && rm -f "$stamp" || fail "cannot write to $root/target"
     if ! (cd "$root" && rt check "$name") >"$log" 2>&1 </dev/null; then

@@ -1,5 +1,4 @@
--- A D replayed move by move leaves the words that the D leaves: theorem `drain-replayed`, and `command-replayed` for
--- every command. Order: a Drain with no
+-- A D replayed move by move leaves the words that the D leaves: theorem `drain-replayed`, and `command-replayed` for every command. Order: a Drain with no
 -- budget; the next move of a Drain, if there is one; one move and the rest; the theorems. Assumes nothing.
 use mathlib.Core.Path.{_≡_, refl, ap, ap₂, sym, _∙_, subst}
 use mathlib.Core.Logic.{_≢_, _⊎_, inl, inr}
