@@ -21,34 +21,34 @@ static uint64_t told(const char *call, uint64_t refusal)
 int main(void)
 {
     /* All that is lent is initialised. */
-    uint64_t words[BENCH_WORDS(4, 1, 2, 1, 1)] = {0}, ledger[8] = {0};
+    uint64_t words[BENCH_WORDS(4, 1, 1, 2, 1, 1)] = {0}, ledger[8] = {0};
     size_t len = sizeof words / sizeof words[0];
     uint64_t moved[BENCH_MOVE_OUT] = {0}, credit[BENCH_CREDIT_OUT] = {0};
     uint64_t look[BENCH_LOOK_OUT] = {0}, drain[BENCH_DRAIN_OUT] = {0};
 
-    if (told("make", bench_make(words, len, 4, 1, 2, 1, 1)) != 0)
+    if (told("make", bench_make(words, len, 4, 1, 1, 2, 1, 1)) != 0)
         return 1;
     if (told("offer 7 at node 0 for node 2", bench_offer(words, len, 0, 2, 7)) != 0)
         return 1;
 
     /* Node 0 has one slot for new packets. When it is full, move the head on and offer again. */
     if (told("offer 8 at node 0 for node 1", bench_offer(words, len, 0, 1, 8)) == BENCH_GATE_FULL) {
-        told("move from queue 0 of node 0 to output 5", bench_move(words, len, 0, 0, 5, moved));
+        told("move from queue 0 of node 0 to output 7", bench_move(words, len, 0, 0, 7, moved));
         told("offer 8 again", bench_offer(words, len, 0, 1, 8));
     }
 
     /* Where the first packet stands now: in the escape queue x+ of node 1. */
-    if (bench_look(words, len, 1, 5, look) == 0)
+    if (bench_look(words, len, 1, 7, look) == 0)
         for (uint64_t i = 0; i < look[1]; i++) {
             uint64_t packet = words[look[0] + i];
-            printf("queue 5 of node 1 holds tag %" PRIu32 ", destination %" PRIu32 ", hops left %d and %d\n", BENCH_TAG(packet),
-                   BENCH_DESTINATION(packet), BENCH_DX(packet), BENCH_DY(packet));
+            printf("queue 7 of node 1 holds tag %" PRIu32 ", destination %" PRIu32 ", hops left %d, %d and %d\n", BENCH_TAG(packet),
+                   BENCH_DESTINATION(packet), BENCH_DX(packet), BENCH_DY(packet), BENCH_DZ(packet));
         }
 
     /* One slot is free there. Who enters the ring needs two (R152): refused by 12, no fault. The adaptive queue is free. */
-    if (bench_credit(words, len, 0, 5, credit) == 0)
-        printf("output 5 of node 0: %" PRIu64 " free\n", credit[0]);
-    if (told("move from queue 0 of node 0 to output 5", bench_move(words, len, 0, 0, 5, moved)) == BENCH_NO_BUBBLE)
+    if (bench_credit(words, len, 0, 7, credit) == 0)
+        printf("output 7 of node 0: %" PRIu64 " free\n", credit[0]);
+    if (told("move from queue 0 of node 0 to output 7", bench_move(words, len, 0, 0, 7, moved)) == BENCH_NO_BUBBLE)
         told("move from queue 0 of node 0 to output 1", bench_move(words, len, 0, 0, 1, moved));
 
     /* At its destination a packet is delivered by output 0, and its word handed out. */

@@ -8,10 +8,10 @@
 
 #include "bench.h"
 
-#define FILLS BENCH_FILLS(2, 1)
+#define FILLS BENCH_FILLS(2, 1, 1)
 
-static uint64_t words[BENCH_WORDS(2, 1, 2, 1, 1)];
-static uint8_t written[FILLS], told[FILLS], page[BENCH_PAGE(2, 1)];
+static uint64_t words[BENCH_WORDS(2, 1, 1, 2, 1, 1)];
+static uint8_t written[FILLS], told[FILLS], page[BENCH_PAGE(2, 1, 1)];
 static const size_t len = sizeof words / sizeof words[0];
 
 /* Reads the first bytes of the page as a step, and prints what it tells. */
@@ -45,7 +45,7 @@ int main(void)
     uint64_t refusal;
 
     memset(told, 9, sizeof told); /* what a list has before the header does not matter */
-    bench_make(words, len, 2, 1, 2, 1, 1);
+    bench_make(words, len, 2, 1, 1, 2, 1, 1);
     refusal = bench_write_header(words, len, written, FILLS, page, sizeof page, out);
     printf("header: %llu, %llu bytes\n", (unsigned long long)refusal, (unsigned long long)out[0]);
     read_back((size_t)out[0]);

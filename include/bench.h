@@ -3,20 +3,21 @@
  *
  * The rules are in docs/RULES.md; R12 below is a clause there.
  *
- * A network is a torus with X columns and Y rows that moves whole packets. It
- * lives in an array of 64-bit words that you lend to each call; the library
- * keeps nothing between calls, allocates nothing, and touches no memory but
- * what the call lends. Use the words as memory to work in, not as a format to
- * store or send (R40 to R49).
+ * A network is a torus with X columns, Y rows and Z planes that moves whole
+ * packets. It lives in an array of 64-bit words that you lend to each call; the
+ * library keeps nothing between calls, allocates nothing, and touches no memory
+ * but what the call lends and up to BENCH_STACK bytes of stack. Use the words as
+ * memory to work in, not as a format to store or send (R40 to R49).
  *
- * Sizes: X and Y 1 to 16; slots of an escape queue E 2 to 8, of an adaptive
- * queue A 1 to 8, of an injection queue J 1 to 8 (R21 to R24).
+ * Sizes: X, Y and Z 1 to 16; slots of an escape queue E 2 to 8, of an adaptive
+ * queue A 1 to 8, of an injection queue J 1 to 8 (R21 to R24). A network of two
+ * dimensions has Z = 1.
  *
- * Nodes are y * X + x. The queues of a node are numbered: 0 takes new packets
- * in, 1 to 4 are the adaptive queues of the directions x+, x-, y+, y-, and 5 to
- * 8 the escape queues of the same (R30 to R34). An output is 0, delivery, or
- * the number of the queue that the packet joins, 1 to 8, one node on in that
- * queue's direction (R106, R107).
+ * Nodes are (z * Y + y) * X + x. The queues of a node are numbered: 0 takes new
+ * packets in, 1 to 6 are the adaptive queues of the directions x+, x-, y+, y-,
+ * z+, z-, and 7 to 12 the escape queues of the same (R30 to R34). An output is
+ * 0, delivery, or the number of the queue that the packet joins, 1 to 12, one
+ * node on in that queue's direction (R106, R107).
  *
  * Memory, for every call:
  *   - a pointer with a length is valid for that many elements: 64-bit words for
@@ -44,10 +45,10 @@
  * behind your own objects, as tests/c-example does. It calls nothing but memcpy,
  * memmove and memset of the C library.
  *
- *     uint64_t words[BENCH_WORDS(4, 1, 2, 1, 1)] = {0}, ledger[8] = {0};
+ *     uint64_t words[BENCH_WORDS(4, 1, 1, 2, 1, 1)] = {0}, ledger[8] = {0};
  *     uint64_t out[BENCH_DRAIN_OUT] = {0};
  *     size_t len = sizeof words / sizeof words[0];
- *     bench_make(words, len, 4, 1, 2, 1, 1);
+ *     bench_make(words, len, 4, 1, 1, 2, 1, 1);
  *     bench_offer(words, len, 0, 2, 7);
  *     bench_drain(words, len, 10, ledger, 8, out);
  *     // out: 3 moves, 1 delivered, BENCH_EMPTIED; BENCH_TAG(ledger[0]) is 7
@@ -68,16 +69,21 @@ extern "C" {
  * each change after which a program written for the older one could be wrong.
  * Header and archive must be of one commit: the archive does not carry it.
  */
-#define BENCH_VERSION 3
+#define BENCH_VERSION 4
+
+/* The bytes of stack that a call uses at most, on the largest network too. It is
+ * measured and not proved: tests/c-example holds the archive to it. */
+#define BENCH_STACK (72 * 1024)
 
 /* The words that a network of these sizes needs. */
-#define BENCH_WORDS(x, y, e, a, j) \
-    (8 + (size_t)(x) * (size_t)(y) * (9 + (size_t)(j) + 4 * (size_t)(a) + 4 * (size_t)(e)))
+#define BENCH_WORDS(x, y, z, e, a, j) \
+    (9 + (size_t)(x) * (size_t)(y) * (size_t)(z) * \
+             (13 + (size_t)(j) + 6 * (size_t)(a) + 6 * (size_t)(e)))
 
 /* The bytes of a list of fills of such a network, one for each queue, and of a
  * page on which any step of its dump has room (R406, R413). */
-#define BENCH_FILLS(x, y) (9 * (size_t)(x) * (size_t)(y))
-#define BENCH_PAGE(x, y) (120 + 48 * BENCH_FILLS(x, y))
+#define BENCH_FILLS(x, y, z) (13 * (size_t)(x) * (size_t)(y) * (size_t)(z))
+#define BENCH_PAGE(x, y, z) (120 + 48 * BENCH_FILLS(x, y, z))
 
 /* The number of words of `out`, call by call. */
 #define BENCH_MOVE_OUT 2
@@ -89,20 +95,22 @@ extern "C" {
 #define BENCH_READ_OUT 3
 
 /* The parts of a packet word (R60 to R63): the caller's tag, the destination,
- * and the hops left in x and y, below 0 where they go to x- or y-. */
+ * and the hops left in x, y and z, below 0 where they go to x-, y- or z-. Bit 15
+ * of the word is 0 in a network (R69, R87). */
 #define BENCH_TAG(word) ((uint32_t)((uint64_t)(word) >> 32))
 #define BENCH_DESTINATION(word) ((uint32_t)((uint64_t)(word) >> 16 & 0xffff))
-#define BENCH_DX(word) ((int)(((uint64_t)(word) >> 8 & 0xff) ^ 0x80) - 0x80)
-#define BENCH_DY(word) ((int)(((uint64_t)(word) & 0xff) ^ 0x80) - 0x80)
+#define BENCH_DX(word) ((int)(((uint64_t)(word) >> 10 & 0x1f) ^ 0x10) - 0x10)
+#define BENCH_DY(word) ((int)(((uint64_t)(word) >> 5 & 0x1f) ^ 0x10) - 0x10)
+#define BENCH_DZ(word) ((int)(((uint64_t)(word) & 0x1f) ^ 0x10) - 0x10)
 
 /* The refusals (R161 to R175). */
 enum {
-    BENCH_SHORT_STORE = 1,    /* less than 8 words, or less than the sizes ask for */
-    BENCH_WRONG_SIZE = 2,     /* X, Y, E, A or J out of range */
+    BENCH_SHORT_STORE = 1,    /* less than 9 words, or less than the sizes ask for */
+    BENCH_WRONG_SIZE = 2,     /* X, Y, Z, E, A or J out of range */
     BENCH_NO_NETWORK = 3,     /* the check of the words fails otherwise */
-    BENCH_NO_SUCH_NODE = 4,   /* node or destination not below X * Y */
-    BENCH_NO_SUCH_QUEUE = 5,  /* above 8 */
-    BENCH_NO_SUCH_OUTPUT = 6, /* above 8; for bench_credit also 0 */
+    BENCH_NO_SUCH_NODE = 4,   /* node or destination not below X * Y * Z */
+    BENCH_NO_SUCH_QUEUE = 5,  /* above 12 */
+    BENCH_NO_SUCH_OUTPUT = 6, /* above 12; for bench_credit also 0 */
     BENCH_GATE_FULL = 7,      /* the injection queue holds J */
     BENCH_COUNT_SPENT = 8,    /* 2^32 - 1 packets were accepted */
     BENCH_NOBODY_THERE = 9,   /* the queue is empty */
@@ -126,12 +134,12 @@ enum {
  * (R91, R92). Refused, tested in this order (R180): a size out of range (2); a
  * store shorter than the sizes ask for (1).
  */
-uint64_t bench_make(uint64_t *words, size_t len, uint64_t x, uint64_t y, uint64_t e,
-                    uint64_t a, uint64_t j);
+uint64_t bench_make(uint64_t *words, size_t len, uint64_t x, uint64_t y, uint64_t z,
+                    uint64_t e, uint64_t a, uint64_t j);
 
 /*
- * Whether the words are a network (R70 to R85). Refused, tested in this order
- * (R181): less than 8 words (1); a size out of range (2); a store shorter than
+ * Whether the words are a network (R70 to R87). Refused, tested in this order
+ * (R181): less than 9 words (1); a size out of range (2); a store shorter than
  * the sizes ask for (1); anything else that is not as in a network (3). Every
  * call below that is lent words begins with these four tests, so it is safe to
  * lend any words to any of them; "further" tests below are those that follow.
@@ -164,9 +172,9 @@ uint64_t bench_move(uint64_t *words, size_t len, uint64_t node, uint64_t queue,
                     uint64_t output, uint64_t out[2]);
 
 /*
- * The free slots of the queue that an output from 1 to 8 leads to (R115, R116).
+ * The free slots of the queue that an output from 1 to 12 leads to (R115, R116).
  * Refused further, tested in this order (R185): no such node (4); output 0 or
- * above 8 (6).
+ * above 12 (6).
  * out[0]: the number of free slots.
  */
 uint64_t bench_credit(const uint64_t *words, size_t len, uint64_t node, uint64_t output,

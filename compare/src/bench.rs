@@ -10,7 +10,13 @@ use std::rc::Rc;
 /// then the words that the C interface calls `out`, all 0 on a refusal.
 pub trait Bench {
     fn name(&self) -> &'static str;
-    fn make(&self, words: &mut [u64], sizes: [u64; 5]) -> u64;
+    /// Whether a Drain looks for each of its moves from node 0 on. To empty the
+    /// largest networks that way takes minutes.
+    fn searches_from_node_0(&self) -> bool {
+        false
+    }
+    /// The sizes are X, Y, Z, E, A, J.
+    fn make(&self, words: &mut [u64], sizes: [u64; 6]) -> u64;
     fn check(&self, words: &[u64]) -> u64;
     fn offer(&self, words: &mut [u64], node: u64, destination: u64, tag: u32) -> u64;
     /// Packets handed out (0 or 1), the packet word.
@@ -53,7 +59,7 @@ pub enum WaveStep {
 #[derive(Clone, Copy, Debug, PartialEq, Eq)]
 pub enum Call {
     Make {
-        sizes: [u64; 5],
+        sizes: [u64; 6],
     },
     Check,
     Offer {
@@ -195,8 +201,12 @@ impl Bench for Model {
         "model"
     }
 
-    fn make(&self, words: &mut [u64], [x, y, e, a, j]: [u64; 5]) -> u64 {
-        told(model::make(words, x, y, e, a, j), |_| []).0
+    fn searches_from_node_0(&self) -> bool {
+        true
+    }
+
+    fn make(&self, words: &mut [u64], sizes: [u64; 6]) -> u64 {
+        told(model::make(words, sizes), |_| []).0
     }
 
     fn check(&self, words: &[u64]) -> u64 {
@@ -275,8 +285,12 @@ impl Bench for Plain {
         }
     }
 
-    fn make(&self, words: &mut [u64], [x, y, e, a, j]: [u64; 5]) -> u64 {
-        plain::make(words, x, y, e, a, j)
+    fn searches_from_node_0(&self) -> bool {
+        self.simple
+    }
+
+    fn make(&self, words: &mut [u64], sizes: [u64; 6]) -> u64 {
+        plain::make(words, sizes)
     }
 
     fn check(&self, words: &[u64]) -> u64 {

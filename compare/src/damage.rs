@@ -1,19 +1,24 @@
 //! Faults in the words of a network: one word replaced by something else, or
 //! one clause of the check broken while the others still hold.
 
-use crate::generate::{end_node, held_and_work, packet_word, ring, Shape};
-use crate::generate::{HEADER, MOST_ACCEPTED, QUEUES};
+use crate::generate::{along, end_node, held_and_work, packet_word, ring, way};
+use crate::generate::{Offsets, Shape, ACCEPTED, BIT_15, DELIVERED, DIMENSIONS, FIRST_ESCAPE};
+use crate::generate::{HEADER, MOST_ACCEPTED, MOST_WORK, MOVES, OFFSET_SHIFTS, OFFSET_VALUES};
+use crate::generate::{OFFSETS, QUEUES};
 use crate::random::Random;
 
 /// One word gets another value. It may still be a network afterwards.
 pub fn one_word(random: &mut Random, shape: &Shape, words: &mut [u64]) {
     let index = match random.below(4) {
         0 => random.below(HEADER as u64) as usize,
-        1 => shape.count_word(random.below(shape.nodes()), random.below(9) as usize),
+        1 => {
+            let (node, queue) = any_queue(random, shape);
+            shape.count_word(node, queue)
+        }
         _ => random.below(shape.need() as u64) as usize,
     };
     let old = words[index];
-    words[index] = match random.below(10) {
+    words[index] = match random.below(11) {
         0 => old.wrapping_add(1),
         1 => old.wrapping_sub(1),
         2 => 0,
@@ -21,8 +26,12 @@ pub fn one_word(random: &mut Random, shape: &Shape, words: &mut [u64]) {
         4 => u64::MAX,
         5 => random.number(),
         6 => random.below(20),
-        7 => (old & !0xff) | 0x80,
-        8 => (old & !0xff00) | 0x8000,
+        7 => {
+            let shift = random.pick(&OFFSET_SHIFTS);
+            (old & !(31 << shift)) | random.below(32) << shift
+        }
+        8 => (old & !OFFSETS) | random.below(OFFSETS + 1),
+        9 => old ^ BIT_15,
         _ => old ^ (1 << random.below(64)),
     };
 }
@@ -34,7 +43,7 @@ pub struct Fault {
 }
 
 /// Faults after which the words are never a network, whatever they were.
-pub const FAULTS: [Fault; 14] = [
+pub const FAULTS: [Fault; 13] = [
     Fault {
         name: "a queue claims more than its capacity",
         apply: |random, shape, words| {
@@ -72,71 +81,61 @@ pub const FAULTS: [Fault; 14] = [
         },
     },
     Fault {
+        name: "bit 15 set",
+        apply: |random, shape, words| {
+            let Some((_, _, at)) = any_packet(random, shape, words) else {
+                return false;
+            };
+            words[at] |= BIT_15;
+            true
+        },
+    },
+    Fault {
         name: "an offset beyond half the size, with its destination",
         apply: |random, shape, words| {
-            let far = random.between(9, 128) as i64;
-            let far = if random.chance(1, 2) || far == 128 {
-                -far
-            } else {
-                far
-            };
-            let dx = [far, 0];
-            let way = random.below(2) as usize;
-            put_offsets(random, shape, words, |_| true, dx[way], dx[1 - way])
+            let dimension = any_dimension(random);
+            let half = shape.sides[dimension] as i64 / 2;
+            let beyond: Vec<i64> = OFFSET_VALUES.filter(|hops| hops.abs() > half).collect();
+            let offsets = along(dimension, random.pick(&beyond));
+            put_offsets(random, shape, words, |_| true, offsets)
         },
     },
     Fault {
-        name: "an offset one beyond half of X, with its destination",
+        name: "an offset one beyond half the size, with its destination",
         apply: |random, shape, words| {
-            let over = shape.x as i64 / 2 + 1;
-            let over = if random.chance(1, 2) { over } else { -over };
-            put_offsets(random, shape, words, |queue| queue == 0, over, 0)
+            let dimension = any_dimension(random);
+            let over = shape.sides[dimension] as i64 / 2 + 1;
+            let offsets = along(dimension, either_way(random, over));
+            put_offsets(random, shape, words, |queue| queue == 0, offsets)
         },
     },
     Fault {
-        name: "an offset one beyond half of Y, with its destination",
+        name: "half the size left in a queue of that dimension",
         apply: |random, shape, words| {
-            let over = shape.y as i64 / 2 + 1;
-            let over = if random.chance(1, 2) { over } else { -over };
-            put_offsets(random, shape, words, |queue| queue == 0, 0, over)
-        },
-    },
-    Fault {
-        name: "half of X left in an x queue",
-        apply: |random, shape, words| {
-            let half = shape.x as i64 / 2;
-            let half = if random.chance(1, 2) { half } else { -half };
-            let x_queue = |queue| matches!(queue, 1 | 2 | 5 | 6);
-            put_offsets(random, shape, words, x_queue, half, 0)
-        },
-    },
-    Fault {
-        name: "half of Y left in a y queue",
-        apply: |random, shape, words| {
-            let half = shape.y as i64 / 2;
-            let half = if random.chance(1, 2) { half } else { -half };
-            let y_queue = |queue| matches!(queue, 3 | 4 | 7 | 8);
-            put_offsets(random, shape, words, y_queue, 0, half)
+            let dimension = any_dimension(random);
+            let half = shape.sides[dimension] as i64 / 2;
+            let offsets = along(dimension, either_way(random, half));
+            let its_own = |queue| queue > 0 && way(queue).0 == dimension;
+            put_offsets(random, shape, words, its_own, offsets)
         },
     },
     Fault {
         name: "a wrong sign",
         apply: |random, shape, words| {
-            let queue = random.between(1, 8) as usize;
-            let wrong = if queue % 2 == 1 { -1 } else { 1 };
-            let (dx, dy) = if matches!(queue, 1 | 2 | 5 | 6) {
-                (wrong, 0)
-            } else {
-                (0, wrong)
-            };
-            put_offsets(random, shape, words, |q| q == queue, dx, dy)
+            let queue = random.between(1, QUEUES as u64 - 1) as usize;
+            let (dimension, sign) = way(queue);
+            let offsets = along(dimension, -sign);
+            put_offsets(random, shape, words, |q| q == queue, offsets)
         },
     },
     Fault {
-        name: "dx left in a y escape queue",
+        name: "hops of a dimension before that of an escape queue",
         apply: |random, shape, words| {
-            let dx = if random.chance(1, 2) { 1 } else { -1 };
-            put_offsets(random, shape, words, |queue| queue >= 7, dx, 0)
+            // dx in a y or z escape queue, dy in a z one.
+            let dimension = random.below(DIMENSIONS as u64 - 1) as usize;
+            let offsets = along(dimension, either_way(random, 1));
+            let after = |queue| queue >= FIRST_ESCAPE && way(queue).0 > dimension;
+            put_offsets(random, shape, words, after, offsets)
         },
     },
     Fault {
@@ -148,32 +147,32 @@ pub const FAULTS: [Fault; 14] = [
         apply: |random, shape, words| {
             let (held, _) = held_and_work(shape, words);
             match random.below(4) {
-                0 => words[6] = words[6].wrapping_add(1),
-                1 => words[6] = words[6].wrapping_sub(1),
+                0 => words[DELIVERED] = words[DELIVERED].wrapping_add(1),
+                1 => words[DELIVERED] = words[DELIVERED].wrapping_sub(1),
                 2 => {
-                    words[5] = (1 << 32) + random.below(2);
-                    words[6] = words[5] - held;
-                    words[7] = 0;
+                    words[ACCEPTED] = (1 << 32) + random.below(2);
+                    words[DELIVERED] = words[ACCEPTED] - held;
+                    words[MOVES] = 0;
                 }
                 _ => {
                     // Delivered above accepted; only a wrapping sum is right.
                     if held == 0 {
                         return false;
                     }
-                    words[5] = random.below(held);
-                    words[6] = words[5].wrapping_sub(held);
-                    words[7] = 0;
+                    words[ACCEPTED] = random.below(held);
+                    words[DELIVERED] = words[ACCEPTED].wrapping_sub(held);
+                    words[MOVES] = 0;
                 }
             }
             true
         },
     },
     Fault {
-        name: "more moves than 17 for each packet accepted",
+        name: "more moves than 25 for each packet accepted",
         apply: |random, shape, words| {
             let (_, work) = held_and_work(shape, words);
-            let most = 17 * words[5] - work;
-            words[7] = match random.below(3) {
+            let most = MOST_WORK * words[ACCEPTED] - work;
+            words[MOVES] = match random.below(3) {
                 0 => most + 1,
                 1 => u64::MAX - random.below(work + 2),
                 _ => most + 1 + random.below(u64::MAX - most),
@@ -184,10 +183,10 @@ pub const FAULTS: [Fault; 14] = [
     Fault {
         name: "wrong sizes",
         apply: |random, _, words| {
-            let which = random.below(5) as usize;
+            let which = random.below(6) as usize;
             let wrong = match which {
-                0 | 1 => [0, 17, 1 << 32, (1 << 32) + 4, u64::MAX],
-                2 => [0, 1, 9, (1 << 32) + 4, u64::MAX],
+                0..DIMENSIONS => [0, 17, 1 << 32, (1 << 32) + 4, u64::MAX],
+                DIMENSIONS => [0, 1, 9, (1 << 32) + 4, u64::MAX],
                 _ => [0, 9, 1 << 32, (1 << 32) + 4, u64::MAX],
             };
             words[which] = random.pick(&wrong);
@@ -197,7 +196,20 @@ pub const FAULTS: [Fault; 14] = [
 ];
 
 fn any_queue(random: &mut Random, shape: &Shape) -> (u64, usize) {
-    (random.below(shape.nodes()), random.below(9) as usize)
+    let queue = random.below(QUEUES as u64) as usize;
+    (random.below(shape.nodes()), queue)
+}
+
+fn any_dimension(random: &mut Random) -> usize {
+    random.below(DIMENSIONS as u64) as usize
+}
+
+fn either_way(random: &mut Random, hops: i64) -> i64 {
+    if random.chance(1, 2) {
+        hops
+    } else {
+        -hops
+    }
 }
 
 /// A random packet held: its node, its queue and the index of its word.
@@ -225,19 +237,18 @@ fn put_offsets(
     shape: &Shape,
     words: &mut [u64],
     wanted: impl Fn(usize) -> bool,
-    dx: i64,
-    dy: i64,
+    offsets: Offsets,
 ) -> bool {
     for _ in 0..20 {
         match any_packet(random, shape, words) {
             None => return false,
             Some((node, queue, at)) if wanted(queue) => {
                 let tag = words[at] >> 32;
-                words[at] = packet_word(tag, end_node(shape, node, dx, dy), dx, dy);
-                words[7] = 0;
-                if words[5] <= MOST_ACCEPTED - 100 {
-                    words[5] += 100;
-                    words[6] += 100;
+                words[at] = packet_word(tag, end_node(shape, node, offsets), offsets);
+                words[MOVES] = 0;
+                if words[ACCEPTED] <= MOST_ACCEPTED - 100 {
+                    words[ACCEPTED] += 100;
+                    words[DELIVERED] += 100;
                 }
                 return true;
             }
@@ -249,25 +260,20 @@ fn put_offsets(
 
 /// Fills a whole escape ring with packets that are at their destination.
 fn fill_a_ring(random: &mut Random, shape: &Shape, words: &mut [u64]) -> bool {
-    let queue = random.between(5, 8) as usize;
-    let (side, lines) = if queue < 7 {
-        (shape.x, shape.y)
-    } else {
-        (shape.y, shape.x)
-    };
-    if side < 2 {
+    let queue = random.between(FIRST_ESCAPE as u64, QUEUES as u64 - 1) as usize;
+    if shape.sides[way(queue).0] < 2 {
         return false;
     }
-    for node in ring(shape, queue, random.below(lines)) {
+    for node in ring(shape, queue, random.below(shape.nodes())) {
         let at = shape.count_word(node, queue);
         for slot in words[at] as usize + 1..=shape.slots(queue) {
-            words[at + slot] = packet_word(0, node, 0, 0);
+            words[at + slot] = packet_word(0, node, [0; DIMENSIONS]);
         }
         words[at] = shape.slots(queue) as u64;
     }
     let (held, _) = held_and_work(shape, words);
-    words[5] = held;
-    words[6] = 0;
-    words[7] = 0;
+    words[ACCEPTED] = held;
+    words[DELIVERED] = 0;
+    words[MOVES] = 0;
     true
 }

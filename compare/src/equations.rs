@@ -12,40 +12,40 @@ pub struct Survey {
     pub moves_made: u64,
 }
 
-/// R228: tag and destination; both offset bytes are 0.
+/// R228: the word with its three offsets, the fifteen lowest bits, set to 0.
 pub fn label(word: u64) -> u64 {
-    word - word % (1 << 16)
+    word - word % (1 << 15)
 }
 
 fn destination(word: u64) -> u64 {
     word / (1 << 16) % (1 << 16)
 }
 
-/// The hops in one offset byte.
-fn hops(byte: u64) -> u64 {
-    let byte = byte % 256;
-    if byte < 128 {
-        byte
+/// The hops in the lowest five bits.
+fn hops(bits: u64) -> u64 {
+    let offset = bits % 32;
+    if offset < 16 {
+        offset
     } else {
-        256 - byte
+        32 - offset
     }
 }
 
 impl Survey {
     pub fn of(words: &[u64]) -> Survey {
         let capacities = {
-            let (e, a, j) = (words[2], words[3], words[4]);
-            [j, a, a, a, a, e, e, e, e]
+            let (e, a, j) = (words[3], words[4], words[5]);
+            [j, a, a, a, a, a, a, e, e, e, e, e, e]
         };
         let mut labels = Vec::new();
         let mut work_left = 0;
-        let mut rest = &words[8..];
-        for _ in 0..words[0] * words[1] {
+        let mut rest = &words[9..];
+        for _ in 0..words[0] * words[1] * words[2] {
             for capacity in capacities {
                 let held = rest[0] as usize;
                 for word in &rest[1..=held] {
                     labels.push(label(*word));
-                    work_left += hops(word / 256) + hops(*word) + 1;
+                    work_left += hops(word / 1024) + hops(word / 32) + hops(*word) + 1;
                 }
                 rest = &rest[1 + capacity as usize..];
             }
@@ -54,9 +54,9 @@ impl Survey {
         Survey {
             labels,
             work_left,
-            accepted: words[5],
-            delivered: words[6],
-            moves_made: words[7],
+            accepted: words[6],
+            delivered: words[7],
+            moves_made: words[8],
         }
     }
 }
@@ -141,10 +141,10 @@ mod tests {
     /// network that has delivered it.
     fn before_and_after() -> (Vec<u64>, Vec<u64>, u64) {
         let word = 7 << 32;
-        let mut before = vec![0; 30];
-        before[..10].copy_from_slice(&[1, 1, 2, 1, 1, 1, 0, 0, 1, word]);
-        let mut after = vec![0; 30];
-        after[..8].copy_from_slice(&[1, 1, 2, 1, 1, 1, 1, 1]);
+        let mut before = vec![0; 41];
+        before[..11].copy_from_slice(&[1, 1, 1, 2, 1, 1, 1, 0, 0, 1, word]);
+        let mut after = vec![0; 41];
+        after[..9].copy_from_slice(&[1, 1, 1, 2, 1, 1, 1, 1, 1]);
         (before, after, word)
     }
 
@@ -175,7 +175,7 @@ mod tests {
             assert!(run.verify(&after).is_err(), "{moves:?}");
         }
         // Header words that did not rise with the run.
-        for index in [5, 6, 7] {
+        for index in [6, 7, 8] {
             let mut run = Run::begin(&before);
             run.note(0, Some(word));
             let mut changed = after.clone();

@@ -3,7 +3,16 @@
 use crate::bench::{Bench, WaveReader, WaveWriter};
 
 extern "C" {
-    fn bench_make(words: *mut u64, len: usize, x: u64, y: u64, e: u64, a: u64, j: u64) -> u64;
+    fn bench_make(
+        words: *mut u64,
+        len: usize,
+        x: u64,
+        y: u64,
+        z: u64,
+        e: u64,
+        a: u64,
+        j: u64,
+    ) -> u64;
     fn bench_check(words: *const u64, len: usize) -> u64;
     fn bench_offer(words: *mut u64, len: usize, node: u64, destination: u64, tag: u32) -> u64;
     fn bench_move(
@@ -77,8 +86,8 @@ impl Bench for Library {
         "library"
     }
 
-    fn make(&self, words: &mut [u64], [x, y, e, a, j]: [u64; 5]) -> u64 {
-        unsafe { bench_make(words.as_mut_ptr(), words.len(), x, y, e, a, j) }
+    fn make(&self, words: &mut [u64], [x, y, z, e, a, j]: [u64; 6]) -> u64 {
+        unsafe { bench_make(words.as_mut_ptr(), words.len(), x, y, z, e, a, j) }
     }
 
     fn check(&self, words: &[u64]) -> u64 {

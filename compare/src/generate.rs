@@ -6,54 +6,120 @@ use crate::bench::Call;
 use crate::model;
 use crate::random::Random;
 
-pub const HEADER: usize = 8;
-pub const QUEUES: usize = 9;
-pub const MOST_ACCEPTED: u64 = u32::MAX as u64;
+pub const HEADER: usize = 9;
+/// The header words that follow the sizes.
+pub const ACCEPTED: usize = 6;
+pub const DELIVERED: usize = 7;
+pub const MOVES: usize = 8;
 
-/// The five sizes of a network.
+pub const DIMENSIONS: usize = 3;
+pub const DIRECTIONS: usize = 6;
+pub const QUEUES: usize = 13;
+pub const FIRST_ESCAPE: usize = 7;
+pub const MOST_ACCEPTED: u64 = u32::MAX as u64;
+/// The moves made and the work left are at most this for each packet accepted.
+pub const MOST_WORK: u64 = 25;
+
+/// Hops in each dimension, above 0 for plus.
+pub type Offsets = [i64; DIMENSIONS];
+
+/// The six sizes of a network. The sides are X, Y and Z.
 #[derive(Clone, Copy, Debug, PartialEq, Eq)]
 pub struct Shape {
-    pub x: u64,
-    pub y: u64,
+    pub sides: [u64; DIMENSIONS],
     pub e: u64,
     pub a: u64,
     pub j: u64,
 }
 
+/// Sides with a 1 in every place and in none, and some that are half-way in one
+/// dimension only.
+pub const SIDES: [[u64; DIMENSIONS]; 16] = [
+    [1, 1, 1],
+    [4, 1, 1],
+    [1, 4, 1],
+    [1, 1, 4],
+    [4, 4, 1],
+    [4, 1, 4],
+    [1, 4, 4],
+    [2, 3, 4],
+    [2, 1, 1],
+    [1, 2, 1],
+    [1, 1, 2],
+    [3, 1, 2],
+    [1, 5, 2],
+    [5, 2, 3],
+    [3, 4, 5],
+    [2, 2, 2],
+];
+
 impl Shape {
-    pub const fn new(x: u64, y: u64, e: u64, a: u64, j: u64) -> Shape {
-        Shape { x, y, e, a, j }
+    pub const fn new(x: u64, y: u64, z: u64, e: u64, a: u64, j: u64) -> Shape {
+        Shape::of([x, y, z], [e, a, j])
     }
 
-    /// Random sizes with at most `most` nodes a side.
+    /// From the sides and the slots of an escape, an adaptive and an injection
+    /// queue.
+    pub const fn of(sides: [u64; DIMENSIONS], [e, a, j]: [u64; 3]) -> Shape {
+        Shape { sides, e, a, j }
+    }
+
+    /// Random sizes with at most `most` nodes a side. Every side is 1 more often
+    /// than by lot alone.
     pub fn random(random: &mut Random, most: u64) -> Shape {
+        let sides = [(); DIMENSIONS].map(|_| {
+            if random.chance(1, 5) {
+                1
+            } else {
+                random.between(1, most)
+            }
+        });
+        Shape::with_sides(random, sides)
+    }
+
+    /// The sides of the list in the first rounds, then random ones.
+    pub fn in_round(round: usize, random: &mut Random, most: u64) -> Shape {
+        match SIDES.get(round) {
+            Some(sides) => Shape::with_sides(random, *sides),
+            None => Shape::random(random, most),
+        }
+    }
+
+    /// Random slots.
+    pub fn with_sides(random: &mut Random, sides: [u64; DIMENSIONS]) -> Shape {
         Shape {
-            x: random.between(1, most),
-            y: random.between(1, most),
+            sides,
             e: random.between(2, 8),
             a: random.between(1, 8),
             j: random.between(1, 8),
         }
     }
 
-    pub fn sizes(&self) -> [u64; 5] {
-        [self.x, self.y, self.e, self.a, self.j]
+    /// X, Y, Z, E, A, J, as Make takes them.
+    pub fn sizes(&self) -> [u64; 6] {
+        let [x, y, z] = self.sides;
+        [x, y, z, self.e, self.a, self.j]
     }
 
     pub fn nodes(&self) -> u64 {
-        self.x * self.y
+        self.sides.iter().product()
+    }
+
+    /// The number of queues, which is that of the waveform's variables.
+    pub fn queues(&self) -> usize {
+        self.nodes() as usize * QUEUES
     }
 
     pub fn slots(&self, queue: usize) -> usize {
         match queue {
             0 => self.j as usize,
-            1..=4 => self.a as usize,
+            1..FIRST_ESCAPE => self.a as usize,
             _ => self.e as usize,
         }
     }
 
     pub fn node_words(&self) -> usize {
-        (9 + self.j + 4 * self.a + 4 * self.e) as usize
+        (13 + self.j + 6 * self.a + 6 * self.e) as usize
     }
 
     pub fn need(&self) -> usize {
@@ -65,18 +131,46 @@ impl Shape {
         let before: usize = (0..queue).map(|q| 1 + self.slots(q)).sum();
         HEADER + node as usize * self.node_words() + before
     }
+
+    /// x, y and z of a node.
+    pub fn place(&self, node: u64) -> [u64; DIMENSIONS] {
+        let [x, y, _] = self.sides;
+        [node % x, node / x % y, node / (x * y)]
+    }
+
+    fn node_at(&self, [x, y, z]: [u64; DIMENSIONS]) -> u64 {
+        (z * self.sides[1] + y) * self.sides[0] + x
+    }
+}
+
+/// The direction of a transit queue, or of an output that is no delivery: its
+/// dimension, and 1 or -1.
+pub fn way(queue: usize) -> (usize, i64) {
+    let direction = (queue - 1) % DIRECTIONS;
+    let sign = if direction.is_multiple_of(2) { 1 } else { -1 };
+    (direction / 2, sign)
+}
+
+/// Some hops in one dimension and none in the others.
+pub fn along(dimension: usize, hops: i64) -> Offsets {
+    let mut offsets = [0; DIMENSIONS];
+    offsets[dimension] = hops;
+    offsets
 }
 
 /// How many packets the queues of a network get.
 #[derive(Clone, Copy, Debug, PartialEq, Eq)]
 pub enum Fill {
     Empty,
+    /// A packet here and there, for networks that are large.
+    Rare,
     Sparse,
     Half,
     Mixed,
     Full,
 }
 
+/// Those for networks of any size.
 pub const FILLS: [Fill; 5] = [
     Fill::Empty,
     Fill::Sparse,
@@ -89,6 +183,7 @@ impl Fill {
     fn packets(self, random: &mut Random, slots: usize) -> usize {
         match self {
             Fill::Empty => 0,
+            Fill::Rare => random.chance(1, 200) as usize,
             Fill::Sparse => random.chance(1, 4) as usize,
             Fill::Half => slots / 2,
             Fill::Mixed => random.below(slots as u64 + 1) as usize,
@@ -97,44 +192,55 @@ impl Fill {
     }
 }
 
-/// The lowest and the highest lawful offset of dimension 0 or 1 in a queue,
-/// or none if the queue cannot hold a packet at all.
+/// The lowest and the highest lawful offset of a dimension in a queue, or none
+/// if the queue cannot hold a packet at all.
 pub fn offset_range(shape: &Shape, queue: usize, dimension: usize) -> Option<(i64, i64)> {
-    let half = [shape.x, shape.y][dimension] as i64 / 2;
-    // x queues are 1, 2, 5, 6; y queues 3, 4, 7, 8; the odd ones are plus.
-    let of_dimension = match queue {
-        1 | 2 | 5 | 6 => dimension == 0,
-        3 | 4 | 7 | 8 => dimension == 1,
-        _ => false,
-    };
-    if of_dimension {
+    let half = shape.sides[dimension] as i64 / 2;
+    if queue == 0 {
+        return Some((-half, half));
+    }
+    let (own, sign) = way(queue);
+    if dimension == own {
         return match half {
             0 => None,
-            _ if queue % 2 == 1 => Some((0, half - 1)),
+            _ if sign > 0 => Some((0, half - 1)),
             _ => Some((1 - half, 0)),
         };
     }
-    match queue {
-        7 | 8 => Some((0, 0)),
-        _ => Some((-half, half)),
+    // In an escape queue the dimensions before its own are used up.
+    if queue >= FIRST_ESCAPE && dimension < own {
+        return Some((0, 0));
     }
+    Some((-half, half))
 }
 
-/// A packet word from its parts; the offsets are cut to bytes.
-pub const fn packet_word(tag: u64, destination: u64, dx: i64, dy: i64) -> u64 {
-    (tag << 32) | (destination << 16) | ((dx as u64 & 255) << 8) | (dy as u64 & 255)
+/// The bits of the offsets in a packet word; the bit above them is always 0.
+pub const OFFSETS: u64 = (1 << 15) - 1;
+pub const BIT_15: u64 = 1 << 15;
+/// Where the five bits of each offset begin.
+pub const OFFSET_SHIFTS: [u32; DIMENSIONS] = [10, 5, 0];
+/// What five bits can say.
+pub const OFFSET_VALUES: std::ops::RangeInclusive<i64> = -16..=15;
+
+/// A packet word from its parts; the offsets are cut to five bits.
+pub const fn packet_word(tag: u64, destination: u64, [dx, dy, dz]: Offsets) -> u64 {
+    let offsets = (dx as u64 & 31) << 10 | (dy as u64 & 31) << 5 | (dz as u64 & 31);
+    (tag << 32) | (destination << 16) | offsets
 }
 
 /// The node moved by offsets round the torus.
-pub fn end_node(shape: &Shape, node: u64, dx: i64, dy: i64) -> u64 {
-    let (x, y) = (shape.x as i64, shape.y as i64);
-    let (column, row) = (node as i64 % x, node as i64 / x);
-    ((row + dy).rem_euclid(y) * x + (column + dx).rem_euclid(x)) as u64
+pub fn end_node(shape: &Shape, node: u64, offsets: Offsets) -> u64 {
+    let mut place = shape.place(node);
+    for (dimension, coordinate) in place.iter_mut().enumerate() {
+        let moved = *coordinate as i64 + offsets[dimension];
+        *coordinate = moved.rem_euclid(shape.sides[dimension] as i64) as u64;
+    }
+    shape.node_at(place)
 }
 
 /// A random lawful packet for a queue, if there is any.
 fn packet(random: &mut Random, shape: &Shape, node: u64, queue: usize) -> Option<u64> {
-    let mut offsets = [0; 2];
+    let mut offsets = [0; DIMENSIONS];
     for (dimension, offset) in offsets.iter_mut().enumerate() {
         let (low, high) = offset_range(shape, queue, dimension)?;
         *offset = match random.below(4) {
@@ -148,16 +254,16 @@ fn packet(random: &mut Random, shape: &Shape, node: u64, queue: usize) -> Option
         1 => MOST_ACCEPTED - random.below(2),
         _ => random.number() >> 32,
     };
-    let destination = end_node(shape, node, offsets[0], offsets[1]);
-    Some(packet_word(tag, destination, offsets[0], offsets[1]))
+    let destination = end_node(shape, node, offsets);
+    Some(packet_word(tag, destination, offsets))
 }
 
-/// The nodes of one escape ring: a row for queues 5 and 6, else a column.
-pub fn ring(shape: &Shape, queue: usize, line: u64) -> Vec<u64> {
-    match queue {
-        5 | 6 => (0..shape.x).map(|x| line * shape.x + x).collect(),
-        _ => (0..shape.y).map(|y| y * shape.x + line).collect(),
-    }
+/// The nodes of the ring through a node along the dimension of a queue.
+pub fn ring(shape: &Shape, queue: usize, node: u64) -> Vec<u64> {
+    let (dimension, _) = way(queue);
+    let hops = 0..shape.sides[dimension] as i64;
+    hops.map(|hops| end_node(shape, node, along(dimension, hops)))
+        .collect()
 }
 
 /// Takes the newest packet of a queue out of the words.
@@ -171,7 +277,7 @@ fn take_newest(words: &mut [u64], shape: &Shape, node: u64, queue: usize) {
 /// Random words, exactly as many as needed, that pass the check.
 pub fn network(random: &mut Random, shape: &Shape, fill: Fill) -> Vec<u64> {
     let mut words = vec![0; shape.need()];
-    words[..5].copy_from_slice(&shape.sizes());
+    words[..6].copy_from_slice(&shape.sizes());
     for node in 0..shape.nodes() {
         for queue in 0..QUEUES {
             let at = shape.count_word(node, queue);
@@ -184,13 +290,16 @@ pub fn network(random: &mut Random, shape: &Shape, fill: Fill) -> Vec<u64> {
             }
         }
     }
-    for queue in 5..QUEUES {
-        let lines = if queue < 7 { shape.y } else { shape.x };
-        for line in 0..lines {
-            let nodes = ring(shape, queue, line);
-            let full =
-                |node: &u64| words[shape.count_word(*node, queue)] == shape.slots(queue) as u64;
-            if nodes.iter().all(full) {
+    let full = |words: &[u64], node: u64, queue: usize| {
+        words[shape.count_word(node, queue)] == shape.slots(queue) as u64
+    };
+    for queue in FIRST_ESCAPE..QUEUES {
+        for node in 0..shape.nodes() {
+            if !full(&words, node, queue) {
+                continue;
+            }
+            let nodes = ring(shape, queue, node);
+            if nodes.iter().all(|node| full(&words, *node, queue)) {
                 let node = random.pick(&nodes);
                 take_newest(&mut words, shape, node, queue);
             }
@@ -207,28 +316,33 @@ pub fn held_and_work(shape: &Shape, words: &[u64]) -> (u64, u64) {
         for queue in 0..QUEUES {
             let at = shape.count_word(node, queue);
             for word in &words[at + 1..][..words[at] as usize] {
-                let hops = |byte: u64| (byte as u8 as i8 as i64).unsigned_abs();
                 held += 1;
-                work += hops(word >> 8) + hops(*word) + 1;
+                work += hops(*word) + 1;
             }
         }
     }
     (held, work)
 }
 
+/// The hops left to a packet, of all three dimensions together.
+fn hops(word: u64) -> u64 {
+    let fields = OFFSET_SHIFTS.map(|shift| word >> shift & 31);
+    fields.iter().map(|field| (*field).min(32 - *field)).sum()
+}
+
 /// Accepted, delivered and moves made that fit the packets held.
 fn set_counters(random: &mut Random, shape: &Shape, words: &mut [u64]) {
     let (held, work) = held_and_work(shape, words);
     let most = MOST_ACCEPTED - held;
-    words[6] = match random.below(4) {
+    words[DELIVERED] = match random.below(4) {
         0 => 0,
         1 => random.below(100),
         2 => most - random.below(3),
         _ => random.below(most + 1),
     };
-    words[5] = words[6] + held;
-    let most = 17 * words[5] - work;
-    words[7] = match random.below(4) {
+    words[ACCEPTED] = words[DELIVERED] + held;
+    let most = MOST_WORK * words[ACCEPTED] - work;
+    words[MOVES] = match random.below(4) {
         0 => 0,
         1 => random.below(most.min(100) + 1),
         2 => most,
@@ -291,8 +405,8 @@ pub fn any_move(random: &mut Random, nodes: u64, words: &[u64]) -> Call {
     }
     Call::Move {
         node: argument(random, nodes),
-        queue: argument(random, 9),
-        output: argument(random, 9),
+        queue: argument(random, QUEUES as u64),
+        output: argument(random, QUEUES as u64),
     }
 }
 
@@ -306,19 +420,19 @@ pub fn any_drain(random: &mut Random) -> Call {
 /// Any call but Make for words that are, or look like, a network.
 pub fn any_call(random: &mut Random, words: &[u64]) -> Call {
     let nodes = match words {
-        [x @ 1..=16, y @ 1..=16, ..] => x * y,
-        _ => random.below(300),
+        [x @ 1..=16, y @ 1..=16, z @ 1..=16, ..] => x * y * z,
+        _ => random.below(5000),
     };
     match random.below(16) {
         0 => Call::Check,
         1 => Call::First,
         2 => Call::Credit {
             node: argument(random, nodes),
-            output: argument(random, 9),
+            output: argument(random, QUEUES as u64),
         },
         3 => Call::Look {
             node: argument(random, nodes),
-            queue: argument(random, 9),
+            queue: argument(random, QUEUES as u64),
         },
         4 => any_drain(random),
         5..=9 => Call::Offer {
@@ -331,11 +445,11 @@ pub fn any_call(random: &mut Random, words: &[u64]) -> Call {
 }
 
 /// Sizes for Make, some of them out of range.
-pub fn any_sizes(random: &mut Random, most: u64) -> [u64; 5] {
+pub fn any_sizes(random: &mut Random, most: u64) -> [u64; 6] {
     let mut sizes = Shape::random(random, most).sizes();
     if random.chance(1, 2) {
-        let which = random.below(5) as usize;
-        sizes[which] = hostile(random, if which < 2 { 16 } else { 8 });
+        let which = random.below(6) as usize;
+        sizes[which] = hostile(random, if which < DIMENSIONS { 16 } else { 8 });
     }
     sizes
 }

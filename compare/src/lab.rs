@@ -7,7 +7,8 @@ mod wave;
 
 use crate::bench::{all, perform, readers, writers, Answer, Bench, Call, Model};
 use crate::bench::{WaveReader, WaveWriter};
-use crate::equations::Run;
+use crate::equations::{Run, Survey};
+use crate::generate::{ACCEPTED, DELIVERED, HEADER, MOVES};
 use crate::model;
 
 /// Words behind the lent ones, in each copy, that nobody may touch.
@@ -71,7 +72,7 @@ impl Lab {
     }
 
     fn fail(&self, name: &str, call: Call, why: &str, before: &[u64]) -> ! {
-        let header = &before[..before.len().min(8)];
+        let header = &before[..before.len().min(HEADER)];
         panic!(
             "{}: {name} in {call:?}: {why}\nwords {}, header {header:?}",
             self.place,
@@ -206,7 +207,7 @@ impl Lab {
             run.note(step.node as u64, word);
         }
         let next = model::first(words).expect("it was not refused before");
-        let empty = words[5] == words[6];
+        let empty = words[ACCEPTED] == words[DELIVERED];
         let full = delivered == ledger.len() as u64 && next.is_some_and(|step| step.output == 0);
         let right_stop = match stop {
             0 => empty,
@@ -215,8 +216,8 @@ impl Lab {
             _ => false,
         };
         let counted = moves == steps.len() as u64
-            && moves == words[7] - before[7]
-            && delivered == words[6] - before[6];
+            && moves == words[MOVES] - before[MOVES]
+            && delivered == words[DELIVERED] - before[DELIVERED];
         if !(right_stop && counted) {
             self.fail("a drain", call, "wrong stop or counts", &before);
         }
@@ -230,7 +231,7 @@ impl Lab {
         }
         let answer = self.call(&mut words.to_vec(), Call::First);
         let [found, node, queue, output] = answer.out;
-        let held = words[5] != words[6];
+        let held = words[ACCEPTED] != words[DELIVERED];
         if (found == 1) != held {
             self.fail("a run", Call::First, "a move exactly if held", words);
         }
@@ -242,6 +243,53 @@ impl Lab {
         if held && self.try_out(words, named) != 0 {
             self.fail("a run", named, "First's move is refused", words);
         }
+    }
+
+    /// Empties a network that is too large for those that search from node 0
+    /// before every move, the model among them. The others are compared with
+    /// each other, and each with what demand 3 says of such a drain.
+    pub fn empty_a_large_one(&mut self, words: &[u64]) {
+        let start = Survey::of(words);
+        let held = start.labels.len();
+        let call = Call::Drain {
+            budget: u32::MAX,
+            ledger: held,
+        };
+        let mut first: Option<(Vec<u64>, Vec<u64>)> = None;
+        let quick = self.benches.iter().filter(|b| !b.searches_from_node_0());
+        for bench in quick {
+            let fail = |why: &str| self.fail(bench.name(), call, why, words);
+            let (mut store, mut ledger) = (words.to_vec(), vec![RUBBISH; held]);
+            let (refusal, out) = bench.drain(&mut store, u32::MAX, &mut ledger);
+            if (refusal, out) != (0, [start.work_left, held as u64, 0]) {
+                fail(&format!("answered {refusal} and {out:?}"));
+            }
+            let emptied = Survey {
+                labels: Vec::new(),
+                work_left: 0,
+                delivered: start.accepted,
+                moves_made: start.moves_made + start.work_left,
+                ..start
+            };
+            if Survey::of(&store) != emptied {
+                fail("the words are not those of an emptied network");
+            }
+            let mut labels = ledger.clone();
+            labels.sort_unstable();
+            if labels != start.labels {
+                fail("the labels handed out are not those that were held");
+            }
+            let mine = (store, ledger);
+            if first.as_ref().is_some_and(|other| *other != mine) {
+                fail("differs from the one before");
+            }
+            first.get_or_insert(mine);
+        }
+        self.counts.calls += 1;
+        self.counts.refusals[0] += 1;
+        self.counts.runs += 1;
+        self.counts.moves += start.work_left;
+        self.counts.handed_out += held as u64;
     }
 
     /// A drain must do what First and Move do in turn, on each implementation
@@ -289,8 +337,8 @@ impl Lab {
 
 /// The words that a network with this header needs.
 fn need(words: &[u64]) -> usize {
-    let (x, y, e, a, j) = (words[0], words[1], words[2], words[3], words[4]);
-    (8 + x * y * (9 + j + 4 * a + 4 * e)) as usize
+    let &[x, y, z, e, a, j] = words.first_chunk().expect("a header");
+    HEADER + (x * y * z * (13 + j + 6 * a + 6 * e)) as usize
 }
 
 /// The first difference between the model's outcome and another one.

@@ -84,9 +84,9 @@ fn known_output(output: u64) -> Result<usize, Refusal> {
     }
 }
 
-/// Make: 2, then 1.
-pub fn make(words: &mut [u64], x: u64, y: u64, e: u64, a: u64, j: u64) -> Result<(), Refusal> {
-    let sizes = Sizes::new(x, y, e, a, j)?;
+/// Make, given X, Y, Z, E, A, J: 2, then 1.
+pub fn make(words: &mut [u64], sizes: [u64; 6]) -> Result<(), Refusal> {
+    let sizes = Sizes::new(sizes)?;
     if words.len() < sizes.need() {
         return Err(Refusal::ShortStore);
     }

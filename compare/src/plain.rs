@@ -1,8 +1,10 @@
 //! A plain and fast implementation on the words themselves: the baseline of
-//! the benchmark. Safe Rust, no allocation, one pass for the check.
+//! the benchmark. Safe Rust, no allocation, one pass for the check and a look at
+//! the rings.
 
 #![forbid(unsafe_code)]
 
+mod check;
 mod drain;
 mod first;
 mod wave;
@@ -11,9 +13,21 @@ pub use drain::{drain, drain_simple};
 pub use first::first;
 pub use wave::{write_changes, write_header};
 
-const HEADER: usize = 8;
-const QUEUES: usize = 9;
-const MAX_NODES: usize = 256;
+use check::open;
+use std::array;
+
+const HEADER: usize = 9;
+const ACCEPTED: usize = 6;
+const DELIVERED: usize = 7;
+const MOVES: usize = 8;
+
+const DIMENSIONS: usize = 3;
+const DIRECTIONS: usize = 2 * DIMENSIONS;
+const QUEUES: usize = 1 + 2 * DIRECTIONS;
+const FIRST_ESCAPE: usize = 1 + DIRECTIONS;
+const MAX_SIDE: usize = 16;
+const MAX_NODES: usize = MAX_SIDE * MAX_SIDE * MAX_SIDE;
+const MAX_WORK: u64 = 25;
 
 const SHORT_STORE: u64 = 1;
 const WRONG_SIZE: u64 = 2;
@@ -30,10 +44,18 @@ const NO_BUBBLE: u64 = 12;
 const TO_ONESELF: u64 = 14;
 const NO_ROOM: u64 = 15;
 
+/// The direction of a queue or an output from 1 on: 0 to 5 for x+, x-, y+, y-,
+/// z+, z-.
+fn direction_of(queue: usize) -> usize {
+    (queue - 1) % DIRECTIONS
+}
+
 /// Where everything stands in the words of a network.
 struct Layout {
-    x: usize,
-    y: usize,
+    /// Nodes along each dimension.
+    side: [usize; DIMENSIONS],
+    /// What one hop along each dimension adds to a node's number.
+    step: [usize; DIMENSIONS],
     /// Words of one node.
     stride: usize,
     /// Slots of each queue.
@@ -43,24 +65,27 @@ struct Layout {
 }
 
 impl Layout {
-    fn new(x: u64, y: u64, e: u64, a: u64, j: u64) -> Option<Layout> {
+    /// From X, Y, Z, E, A, J.
+    fn new([x, y, z, e, a, j]: [u64; 6]) -> Option<Layout> {
         // An unsigned difference is below n exactly for n values.
-        let sizes_fit = x.wrapping_sub(1) < 16 && y.wrapping_sub(1) < 16;
+        let sizes_fit = x.wrapping_sub(1) < 16 && y.wrapping_sub(1) < 16 && z.wrapping_sub(1) < 16;
         let slots_fit = e.wrapping_sub(2) < 7 && a.wrapping_sub(1) < 8 && j.wrapping_sub(1) < 8;
         if !(sizes_fit && slots_fit) {
             return None;
         }
-        let (e, a, j) = (e as usize, a as usize, j as usize);
-        let cap = [j, a, a, a, a, e, e, e, e];
+        let mut cap = [e as usize; QUEUES];
+        cap[0] = j as usize;
+        cap[1..FIRST_ESCAPE].fill(a as usize);
         let mut start = [0; QUEUES];
         let mut stride = 0;
         for queue in 0..QUEUES {
             start[queue] = stride;
             stride += 1 + cap[queue];
         }
+        let side = [x as usize, y as usize, z as usize];
         Some(Layout {
-            x: x as usize,
-            y: y as usize,
+            side,
+            step: [1, side[0], side[0] * side[1]],
             stride,
             cap,
             start,
@@ -68,7 +93,7 @@ impl Layout {
     }
 
     fn nodes(&self) -> usize {
-        self.x * self.y
+        self.side.iter().product()
     }
 
     fn need(&self) -> usize {
@@ -80,128 +105,88 @@ impl Layout {
         HEADER + node * self.stride + self.start[queue]
     }
 
-    /// The neighbour in direction 0 to 3: x+, x-, y+, y-.
-    fn neighbour(&self, node: usize, direction: usize) -> usize {
-        let (x, y) = (self.x, self.y);
-        let (cx, cy) = (node % x, node / x);
-        match direction {
-            0 if cx + 1 == x => node + 1 - x,
-            0 => node + 1,
-            1 if cx == 0 => node + x - 1,
-            1 => node - 1,
-            2 if cy + 1 == y => cx,
-            2 => node + x,
-            _ if cy == 0 => node + (y - 1) * x,
-            _ => node - x,
+    fn coordinate(&self, node: usize, dimension: usize) -> usize {
+        node / self.step[dimension] % self.side[dimension]
+    }
+
+    /// The neighbour of a node whose coordinate along the direction is known.
+    fn next_to(&self, node: usize, coordinate: usize, direction: usize) -> usize {
+        let (step, last) = (self.step[direction / 2], self.side[direction / 2] - 1);
+        let plus = direction.is_multiple_of(2);
+        match (plus, coordinate) {
+            (true, c) if c == last => node - last * step,
+            (true, _) => node + step,
+            (false, 0) => node + last * step,
+            (false, _) => node - step,
         }
     }
 
-    /// The lawful offsets in each queue: lowest and highest dx, then dy.
-    fn limits(&self) -> [[i8; 4]; QUEUES] {
-        let (hx, hy) = ((self.x / 2) as i8, (self.y / 2) as i8);
-        [
-            [-hx, hx, -hy, hy],
-            [0, hx - 1, -hy, hy],
-            [1 - hx, 0, -hy, hy],
-            [-hx, hx, 0, hy - 1],
-            [-hx, hx, 1 - hy, 0],
-            [0, hx - 1, -hy, hy],
-            [1 - hx, 0, -hy, hy],
-            [0, 0, 0, hy - 1],
-            [0, 0, 1 - hy, 0],
-        ]
+    /// The node that an output from 1 on leads to.
+    fn beyond(&self, node: usize, output: usize) -> usize {
+        let direction = direction_of(output);
+        let coordinate = self.coordinate(node, direction / 2);
+        self.next_to(node, coordinate, direction)
     }
 }
 
-/// A coordinate moved by an offset of at most the size, round the torus.
-fn wrapped(place: usize, offset: i8, size: usize) -> usize {
-    let sum = place as isize + offset as isize;
-    let size = size as isize;
-    let sum = if sum < 0 { sum + size } else { sum };
-    let sum = if sum >= size { sum - size } else { sum };
-    sum as usize
+/// Where the five bits of each offset begin in a packet word.
+const SHIFT: [u32; DIMENSIONS] = [10, 5, 0];
+/// The bits of all three, and the bit above them that is 0 in every packet.
+const OFFSETS: u64 = 0x7fff;
+const UNUSED_BIT: u64 = 0x8000;
+
+fn offset(word: u64, dimension: usize) -> i8 {
+    // The five bits to the top of a byte, and back with their sign.
+    ((word >> SHIFT[dimension] << 3) as i8) >> 3
 }
 
-/// The check in one pass. Gives the layout and the number of packets held.
-fn open(words: &[u64]) -> Result<(Layout, u64), u64> {
-    if words.len() < HEADER {
-        return Err(SHORT_STORE);
-    }
-    let layout = Layout::new(words[0], words[1], words[2], words[3], words[4]).ok_or(WRONG_SIZE)?;
-    if words.len() < layout.need() {
-        return Err(SHORT_STORE);
-    }
-    let limits = layout.limits();
-    let mut nodes = words[HEADER..layout.need()].chunks_exact(layout.stride);
-    let (mut held, mut work) = (0u64, 0u64);
-    // For each escape direction, a bit for each ring that has a free slot.
-    let mut free = [0u32; 4];
-    for cy in 0..layout.y {
-        for (cx, node) in (0..layout.x).zip(&mut nodes) {
-            let mut rest = node;
-            for queue in 0..QUEUES {
-                let (words, after) = rest.split_at(1 + layout.cap[queue]);
-                rest = after;
-                let (count, slots) = (words[0], &words[1..]);
-                if count > slots.len() as u64 {
-                    return Err(NO_NETWORK);
-                }
-                let (packets, unused) = slots.split_at(count as usize);
-                if unused.iter().fold(0, |all, word| all | word) != 0 {
-                    return Err(NO_NETWORK);
-                }
-                let [dx_low, dx_high, dy_low, dy_high] = limits[queue];
-                for &word in packets {
-                    let (dx, dy) = ((word >> 8) as i8, word as i8);
-                    if dx < dx_low || dx > dx_high || dy < dy_low || dy > dy_high {
-                        return Err(NO_NETWORK);
-                    }
-                    let end_x = wrapped(cx, dx, layout.x);
-                    let end_y = wrapped(cy, dy, layout.y);
-                    if (word >> 16) as u16 as usize != end_y * layout.x + end_x {
-                        return Err(NO_NETWORK);
-                    }
-                    work += dx.unsigned_abs() as u64 + dy.unsigned_abs() as u64;
-                }
-                held += count;
-                if queue >= 5 && !unused.is_empty() {
-                    let ring = if queue < 7 { cy } else { cx };
-                    free[queue - 5] |= 1 << ring;
-                }
-            }
-        }
-    }
-    let (rows, columns) = ((1u32 << layout.y) - 1, (1u32 << layout.x) - 1);
-    let (accepted, delivered, moves) = (words[5], words[6], words[7]);
-    if free != [rows, rows, columns, columns]
-        || accepted > u32::MAX as u64
-        || accepted.checked_sub(delivered) != Some(held)
-        || moves > 17 * accepted
-        || moves + work + held > 17 * accepted
-    {
-        return Err(NO_NETWORK);
-    }
-    Ok((layout, held))
+fn offsets(word: u64) -> [i8; DIMENSIONS] {
+    array::from_fn(|dimension| offset(word, dimension))
 }
 
-/// The routes of a head in their order; unused places are `usize::MAX`.
-fn routes(queue: usize, word: u64) -> [usize; 3] {
-    let (dx, dy) = ((word >> 8) as i8, word as i8);
-    const NONE: usize = usize::MAX;
-    let along_x = if dx > 0 { 1 } else { 2 };
-    let along_y = if dy > 0 { 3 } else { 4 };
-    match (dx != 0, dy != 0) {
-        (false, false) => [0, NONE, NONE],
-        (true, false) => [along_x, along_x + 4, NONE],
-        (false, true) => [along_y, along_y + 4, NONE],
-        (true, true) if matches!(queue, 3 | 4 | 7 | 8) => [along_y, along_x, along_x + 4],
-        (true, true) => [along_x, along_y, along_x + 4],
+fn destination(word: u64) -> u16 {
+    (word >> 16) as u16
+}
+
+/// Stands in a list of routes where a dimension has no hops left.
+const NONE: usize = usize::MAX;
+
+/// The adaptive queue along a dimension, by the sign of the hops left there.
+fn way(word: u64, dimension: usize) -> usize {
+    match offset(word, dimension) {
+        0 => NONE,
+        hops => 1 + 2 * dimension + (hops < 0) as usize,
+    }
+}
+
+/// The routes of a head in their order; unused places are `NONE`.
+fn routes(queue: usize, word: u64) -> [usize; DIMENSIONS + 1] {
+    if word & OFFSETS == 0 {
+        return [0, NONE, NONE, NONE];
+    }
+    let (x, y, z) = (way(word, 0), way(word, 1), way(word, 2));
+    let first = if x != NONE {
+        x
+    } else if y != NONE {
+        y
+    } else {
+        z
+    };
+    let escape = first + DIRECTIONS;
+    match queue {
+        3 | 4 | 9 | 10 => [y, x, z, escape],
+        5 | 6 | 11 | 12 => [z, x, y, escape],
+        _ => [x, y, z, escape],
     }
 }
 
 /// The flow rule for a target with so many free slots: 0, 11 or 12.
 fn flow(queue: usize, output: usize, free: usize) -> u64 {
-    let needed = if output >= 5 && output != queue { 2 } else { 1 };
+    let needed = if output >= FIRST_ESCAPE && output != queue {
+        2
+    } else {
+        1
+    };
     if free >= needed {
         0
     } else if free == 0 {
@@ -213,12 +198,16 @@ fn flow(queue: usize, output: usize, free: usize) -> u64 {
 
 /// The packet word after a hop to this output.
 fn hopped(word: u64, output: usize) -> u64 {
-    match (output - 1) % 4 {
-        0 => word - 0x100,
-        1 => (word & !0xff00) | (word.wrapping_add(0x100) & 0xff00),
-        2 => word - 1,
-        _ => (word & !0xff) | (word.wrapping_add(1) & 0xff),
-    }
+    let direction = direction_of(output);
+    let one = 1 << SHIFT[direction / 2];
+    let field = 31 * one;
+    // In five bits, 31 is one less than 0.
+    let change = if direction.is_multiple_of(2) {
+        field
+    } else {
+        one
+    };
+    (word & !field) | (word.wrapping_add(change) & field)
 }
 
 /// Takes the oldest packet out of a queue's words.
@@ -241,26 +230,27 @@ fn push(queue: &mut [u64], word: u64) {
 /// Makes a permitted move; `target` is the index of the target's count word,
 /// which a delivery does not have. Gives the delivered word.
 fn carry_out(words: &mut [u64], source: usize, output: usize, target: usize) -> u64 {
-    words[7] += 1;
+    words[MOVES] += 1;
     let word = pop(&mut words[source..]);
     if output == 0 {
-        words[6] += 1;
+        words[DELIVERED] += 1;
         return word;
     }
     push(&mut words[target..], hopped(word, output));
     0
 }
 
-pub fn make(words: &mut [u64], x: u64, y: u64, e: u64, a: u64, j: u64) -> u64 {
-    let layout = match Layout::new(x, y, e, a, j) {
+/// Makes an empty network of the sizes X, Y, Z, E, A, J.
+pub fn make(words: &mut [u64], sizes: [u64; 6]) -> u64 {
+    let layout = match Layout::new(sizes) {
         None => return WRONG_SIZE,
         Some(layout) => layout,
     };
     if words.len() < layout.need() {
         return SHORT_STORE;
     }
-    words[..5].copy_from_slice(&[x, y, e, a, j]);
-    words[5..layout.need()].fill(0);
+    words[..6].copy_from_slice(&sizes);
+    words[6..layout.need()].fill(0);
     0
 }
 
@@ -280,34 +270,36 @@ pub fn offer(words: &mut [u64], node: u64, destination: u64, tag: u32) -> u64 {
     if node == destination {
         return TO_ONESELF;
     }
-    if words[5] == u32::MAX as u64 {
+    if words[ACCEPTED] == u32::MAX as u64 {
         return COUNT_SPENT;
     }
     let at = layout.at(node as usize, 0);
     if words[at] == layout.cap[0] as u64 {
         return INJECTION_FULL;
     }
-    let (from, to) = (node as usize, destination as usize);
-    let dx = shorter_way(from % layout.x, to % layout.x, layout.x);
-    let dy = shorter_way(from / layout.x, to / layout.x, layout.y);
-    let word = (tag as u64) << 32 | destination << 16 | (dx as u64) << 8 | dy as u64;
+    let mut word = (tag as u64) << 32 | destination << 16;
+    for (d, shift) in SHIFT.into_iter().enumerate() {
+        let from = layout.coordinate(node as usize, d);
+        let to = layout.coordinate(destination as usize, d);
+        word |= shorter_way(from, to, layout.side[d]) << shift;
+    }
     push(&mut words[at..], word);
-    words[5] += 1;
+    words[ACCEPTED] += 1;
     0
 }
 
-/// The offset byte of an offer in one dimension; half-way round it is minus
-/// from an odd coordinate.
-fn shorter_way(from: usize, to: usize, size: usize) -> u8 {
+/// The five bits of an offer's offset in one dimension; half-way round it is
+/// minus from an odd coordinate.
+fn shorter_way(from: usize, to: usize, size: usize) -> u64 {
     let plus = if to >= from {
         to - from
     } else {
         to + size - from
     };
-    if 2 * plus < size || (2 * plus == size && from % 2 == 0) {
-        plus as u8
+    if 2 * plus < size || (2 * plus == size && from.is_multiple_of(2)) {
+        plus as u64
     } else {
-        (plus as u8).wrapping_sub(size as u8)
+        (32 + plus - size) as u64
     }
 }
 
@@ -324,10 +316,10 @@ fn try_move(words: &mut [u64], node: u64, queue: u64, output: u64) -> Result<[u6
     if node >= layout.nodes() as u64 {
         return Err(NO_SUCH_NODE);
     }
-    if queue > 8 {
+    if queue >= QUEUES as u64 {
         return Err(NO_SUCH_QUEUE);
     }
-    if output > 8 {
+    if output >= QUEUES as u64 {
         return Err(NO_SUCH_OUTPUT);
     }
     let (node, queue, output) = (node as usize, queue as usize, output as usize);
@@ -341,7 +333,7 @@ fn try_move(words: &mut [u64], node: u64, queue: u64, output: u64) -> Result<[u6
     if output == 0 {
         return Ok([1, carry_out(words, source, 0, 0)]);
     }
-    let target = layout.at(layout.neighbour(node, (output - 1) % 4), output);
+    let target = layout.at(layout.beyond(node, output), output);
     match flow(queue, output, layout.cap[output] - words[target] as usize) {
         0 => {
             carry_out(words, source, output, target);
@@ -356,10 +348,10 @@ pub fn credit(words: &[u64], node: u64, output: u64) -> (u64, [u64; 1]) {
     match open(words) {
         Err(refusal) => (refusal, [0]),
         Ok((layout, _)) if node >= layout.nodes() as u64 => (NO_SUCH_NODE, [0]),
-        Ok(_) if output == 0 || output > 8 => (NO_SUCH_OUTPUT, [0]),
+        Ok(_) if output == 0 || output >= QUEUES as u64 => (NO_SUCH_OUTPUT, [0]),
         Ok((layout, _)) => {
             let output = output as usize;
-            let neighbour = layout.neighbour(node as usize, (output - 1) % 4);
+            let neighbour = layout.beyond(node as usize, output);
             let held = words[layout.at(neighbour, output)];
             (0, [layout.cap[output] as u64 - held])
         }
@@ -371,7 +363,7 @@ pub fn look(words: &[u64], node: u64, queue: u64) -> (u64, [u64; 2]) {
     match open(words) {
         Err(refusal) => (refusal, [0, 0]),
         Ok((layout, _)) if node >= layout.nodes() as u64 => (NO_SUCH_NODE, [0, 0]),
-        Ok(_) if queue > 8 => (NO_SUCH_QUEUE, [0, 0]),
+        Ok(_) if queue >= QUEUES as u64 => (NO_SUCH_QUEUE, [0, 0]),
         Ok((layout, _)) => {
             let at = layout.at(node as usize, queue as usize);
             (0, [at as u64 + 1, words[at]])

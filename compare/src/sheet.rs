@@ -17,7 +17,7 @@ const LONGEST_LINE: usize = 64;
 #[derive(Clone, Copy, Debug, PartialEq, Eq)]
 pub enum Line {
     Make {
-        sizes: [u32; 5],
+        sizes: [u32; 6],
     },
     Offer {
         node: u32,
@@ -79,8 +79,8 @@ pub fn parse(line: &[u8]) -> Option<Line> {
     let letter = fields.next()?;
     let numbers: Vec<u32> = fields.map(number).collect::<Option<_>>()?;
     match (letter, numbers.as_slice()) {
-        (b"T", &[x, y, e, a, j]) => Some(Line::Make {
-            sizes: [x, y, e, a, j],
+        (b"T", numbers) => Some(Line::Make {
+            sizes: numbers.try_into().ok()?,
         }),
         (b"O", &[node, destination, tag]) => Some(Line::Offer {
             node,
@@ -122,8 +122,7 @@ impl Program {
         match parse(line) {
             None => self.print("?,13".into()),
             Some(Line::Make { sizes }) => {
-                let [x, y, e, a, j] = sizes.map(u64::from);
-                let result = model::make(&mut self.store, x, y, e, a, j);
+                let result = model::make(&mut self.store, sizes.map(u64::from));
                 self.print_refusal('T', &result);
             }
             Some(Line::Offer {

@@ -10,55 +10,62 @@
 mod wave;
 
 use compare::bench::{all, perform, Answer, Bench, Call, Model};
-use compare::generate::packet_word;
+use compare::generate::{packet_word, Offsets, ACCEPTED, BIT_15, DELIVERED, DIMENSIONS, MOVES};
 
 const MAX: u64 = u64::MAX;
 /// As 0, if a number is cut to 32 bits.
 const CUT: u64 = 1 << 32;
 
-/// Four nodes with E 2, A 1, J 1 need 8 + 4 * 22 words (R47).
-const NEED: usize = 96;
+/// Four nodes with E 2, A 1, J 1 need 9 + 4 * 32 words (R47).
+const NEED: usize = 137;
 /// Lent are four more, which no call may change (R48).
-const LENT: usize = 100;
+const LENT: usize = 141;
 const BEHIND: u64 = 0x5555_aaaa_5555_aaaa;
 /// What stands in a ledger before the call; a call is lent the first of these.
 const LEDGER: [u64; 8] = [11, 22, 33, 44, 55, 66, 77, 88];
 
 /// A packet with tag 7 (R60).
-const fn packet(destination: u64, dx: i64, dy: i64) -> u64 {
-    packet_word(7, destination, dx, dy)
+const fn packet(destination: u64, offsets: Offsets) -> u64 {
+    packet_word(7, destination, offsets)
 }
 
 /// One that stands at its destination.
 const fn arrived(node: u64) -> u64 {
-    packet(node, 0, 0)
+    packet(node, [0, 0, 0])
 }
 
 /// The word with the number held by a queue (R43, R44).
 const fn at(node: usize, queue: usize) -> usize {
-    8 + 22 * node + [0, 2, 4, 6, 8, 10, 13, 16, 19][queue]
+    9 + 32 * node + [0, 2, 4, 6, 8, 10, 12, 14, 17, 20, 23, 26, 29][queue]
 }
 
-/// A store of 100 words: a network of four nodes, and what is different.
+/// The number held by queue 0 of node 0, and its one packet.
+const COUNT: usize = at(0, 0);
+const HEAD: usize = at(0, 0) + 1;
+
+/// A store of 141 words: a network of four nodes, and what is different.
 #[derive(Clone, Copy)]
 struct Store {
-    columns: u64,
-    rows: u64,
+    sides: [u64; DIMENSIONS],
     /// Packets held, each with its node and its queue.
     held: &'static [(usize, usize, u64)],
     /// In the end, words that are put in place of others.
     changes: &'static [(usize, u64)],
 }
 
-const ROW: Store = Store::of(4, 1);
-const SQUARE: Store = Store::of(2, 2);
-const COLUMN: Store = Store::of(1, 4);
+/// Four nodes along x, along y and along z.
+const ROW: Store = Store::of(4, 1, 1);
+const COLUMN: Store = Store::of(1, 4, 1);
+const SHAFT: Store = Store::of(1, 1, 4);
+/// Two by two, in x and y, in x and z, in y and z.
+const SQUARE: Store = Store::of(2, 2, 1);
+const FRONT: Store = Store::of(2, 1, 2);
+const SIDE: Store = Store::of(1, 2, 2);
 
 impl Store {
-    const fn of(columns: u64, rows: u64) -> Store {
+    const fn of(x: u64, y: u64, z: u64) -> Store {
         Store {
-            columns,
-            rows,
+            sides: [x, y, z],
             held: &[],
             changes: &[],
         }
@@ -76,15 +83,20 @@ impl Store {
     /// to node 1 with one hop left.
     fn words(&self) -> Vec<u64> {
         let mut words = vec![0; NEED];
-        words[..5].copy_from_slice(&[self.columns, self.rows, 2, 1, 1]);
-        let (dx, dy) = if self.columns > 1 { (1, 0) } else { (0, 1) };
-        let first = (0, 0, packet(1, dx, dy));
+        let [x, y, z] = self.sides;
+        words[..6].copy_from_slice(&[x, y, z, 2, 1, 1]);
+        let to_node_1 = match self.sides {
+            [1, 1, _] => [0, 0, 1],
+            [1, _, _] => [0, 1, 0],
+            _ => [1, 0, 0],
+        };
+        let first = (0, 0, packet(1, to_node_1));
         for (node, queue, word) in [first].iter().chain(self.held) {
             let count = at(*node, *queue);
             words[count] += 1;
             let newest = count + words[count] as usize;
             words[newest] = *word;
-            words[5] += 1;
+            words[ACCEPTED] += 1;
         }
         words.resize(LENT, BEHIND);
         for (index, word) in self.changes {
@@ -94,9 +106,9 @@ impl Store {
     }
 }
 
-const fn make(x: u64, y: u64, e: u64, a: u64, j: u64) -> Call {
+const fn make(x: u64, y: u64, z: u64, [e, a, j]: [u64; 3]) -> Call {
     Call::Make {
-        sizes: [x, y, e, a, j],
+        sizes: [x, y, z, e, a, j],
     }
 }
 
@@ -202,45 +214,47 @@ fn passes(what: &str, words: &[u64], len: usize) {
     done(what, words, len, Call::Check, [0; 4], (words, LEDGER));
 }
 
-/// R161: fewer words than eight, or than the sizes ask for. R181: eight words
-/// are tested before the sizes, the sizes before the need, the need before the
-/// other clauses of the check.
+/// R161: fewer words than nine, or than the sizes ask for. R181: nine words are
+/// tested before the sizes, the sizes before the need, the need before the other
+/// clauses of the check.
 #[test]
 fn short_stores() {
     let row = ROW.words();
-    let broken = ROW.but(&[(8, MAX)]).words();
+    let broken = ROW.but(&[(COUNT, MAX)]).words();
     let ones = vec![MAX; LENT];
     for call in ON_WORDS {
-        for len in [0, 1, 7] {
-            refused("R161: less than eight words", &row, len, call, 1);
+        for len in [0, 1, 8] {
+            refused("R161: less than nine words", &row, len, call, 1);
             refused("R181: 1 before 2", &ones, len, call, 1);
         }
-        for len in [8, 9, 95] {
+        for len in [9, 10, 136] {
             refused("R161: less than the sizes ask for", &row, len, call, 1);
             refused("R181: 1 before 3", &broken, len, call, 1);
             refused("R181: 2 before the second 1", &ones, len, call, 2);
         }
     }
-    for len in [NEED, 97, LENT] {
+    for len in [NEED, 138, LENT] {
         passes("R161: enough words", &row, len);
     }
 }
 
 /// R161 for Make: what the sizes ask for (R47), and a store that is shorter.
 #[rustfmt::skip]
-const SHORT_FOR_MAKE: [(&str, usize, Call); 12] = [
-    ("96 words needed",           0, make(4, 1, 2, 1, 1)),
-    ("96 words needed",           1, make(4, 1, 2, 1, 1)),
-    ("96 words needed",           7, make(4, 1, 2, 1, 1)),
-    ("96 words needed",           8, make(4, 1, 2, 1, 1)),
-    ("96 words needed",          95, make(4, 1, 2, 1, 1)),
-    ("100 words needed, J 2",    99, make(4, 1, 2, 1, 2)),
-    ("104 words needed, J 3",   100, make(4, 1, 2, 1, 3)),
-    ("112 words needed, A 2",   100, make(4, 1, 2, 2, 1)),
-    ("112 words needed, E 3",   100, make(4, 1, 3, 1, 1)),
-    ("118 words needed, Y 5",   100, make(1, 5, 2, 1, 1)),
-    ("118 words needed, X 5",   100, make(5, 1, 2, 1, 1)),
-    ("20744 words needed (K2)", 100, make(16, 16, 8, 8, 8)),
+const SHORT_FOR_MAKE: [(&str, usize, Call); 14] = [
+    ("137 words needed",           0, make(4, 1, 1, [2, 1, 1])),
+    ("137 words needed",           1, make(4, 1, 1, [2, 1, 1])),
+    ("137 words needed",           8, make(4, 1, 1, [2, 1, 1])),
+    ("137 words needed",           9, make(4, 1, 1, [2, 1, 1])),
+    ("137 words needed",         136, make(4, 1, 1, [2, 1, 1])),
+    ("141 words needed, J 2",    140, make(4, 1, 1, [2, 1, 2])),
+    ("145 words needed, J 3",    141, make(4, 1, 1, [2, 1, 3])),
+    ("161 words needed, A 2",    141, make(4, 1, 1, [2, 2, 1])),
+    ("161 words needed, E 3",    141, make(4, 1, 1, [3, 1, 1])),
+    ("169 words needed, X 5",    141, make(5, 1, 1, [2, 1, 1])),
+    ("169 words needed, Y 5",    141, make(1, 5, 1, [2, 1, 1])),
+    ("169 words needed, Z 5",    141, make(1, 1, 5, [2, 1, 1])),
+    ("29961 words needed (K2)",  141, make(16, 16, 1, [8, 8, 8])),
+    ("479241 words needed",      141, make(16, 16, 16, [8, 8, 8])),
 ];
 
 #[test]
@@ -253,29 +267,30 @@ fn short_stores_of_make() {
 /// The sizes that are outside, each with the others as in the row: the clause,
 /// the header word, the values.
 #[rustfmt::skip]
-const WRONG_SIZES: [(&str, usize, &[u64]); 5] = [
+const WRONG_SIZES: [(&str, usize, &[u64]); 6] = [
     ("R21: X is 1 to 16", 0, &[0, 17, 18, 256, CUT + 4, 1 << 63, MAX]),
     ("R21: Y is 1 to 16", 1, &[0, 17, 18, 256, CUT + 1, 1 << 63, MAX]),
-    ("R22: E is 2 to 8",  2, &[0, 1, 9, 10, 256, CUT + 2, 1 << 63, MAX]),
-    ("R23: A is 1 to 8",  3, &[0, 9, 10, 256, CUT + 1, 1 << 63, MAX]),
-    ("R24: J is 1 to 8",  4, &[0, 9, 10, 256, CUT + 1, 1 << 63, MAX]),
+    ("R21: Z is 1 to 16", 2, &[0, 17, 18, 256, CUT + 1, 1 << 63, MAX]),
+    ("R22: E is 2 to 8",  3, &[0, 1, 9, 10, 256, CUT + 2, 1 << 63, MAX]),
+    ("R23: A is 1 to 8",  4, &[0, 9, 10, 256, CUT + 1, 1 << 63, MAX]),
+    ("R24: J is 1 to 8",  5, &[0, 9, 10, 256, CUT + 1, 1 << 63, MAX]),
 ];
 
 /// R162: in Make's arguments, where it comes before the store's length (R180),
-/// and in the words, where it comes before all but the eight words (R181).
+/// and in the words, where it comes before all but the nine words (R181).
 #[test]
 fn wrong_sizes() {
     for (what, size, values) in WRONG_SIZES {
         for value in values {
-            let mut sizes = [4, 1, 2, 1, 1];
+            let mut sizes = [4, 1, 1, 2, 1, 1];
             sizes[size] = *value;
-            for len in [0, 7, 8, 95, LENT] {
+            for len in [0, 8, 9, 136, LENT] {
                 refused(what, &ROW.words(), len, Call::Make { sizes }, 2);
             }
             let mut words = ROW.words();
             words[size] = *value;
             for call in ON_WORDS {
-                refused(what, &words, 8, call, 2);
+                refused(what, &words, 9, call, 2);
                 refused(what, &words, LENT, call, 2);
             }
         }
@@ -287,29 +302,39 @@ fn wrong_sizes() {
 }
 
 /// Accepted has come to 2^32 - 1, and one packet is still held.
-const SPENT: Store = ROW.but(&[(5, CUT - 1), (6, CUT - 2)]);
+const SPENT: Store = ROW.but(&[(ACCEPTED, CUT - 1), (DELIVERED, CUT - 2)]);
 /// The packet of queue 0 is at its destination.
-const ARRIVED: Store = ROW.but(&[(9, arrived(0))]);
+const ARRIVED: Store = ROW.but(&[(HEAD, arrived(0))]);
 /// Of node 1, which is the next one from node 0 in direction x+, queue 1 holds
-/// A packets; queue 5 holds one; queue 5 holds E.
+/// A packets; queue 7 holds one; queue 7 holds E.
 const ADAPTIVE_FULL: Store = ROW.with(&[(1, 1, arrived(1))]);
-const ESCAPE_ONE: Store = ROW.with(&[(1, 5, arrived(1))]);
-const ESCAPE_FULL: Store = ROW.with(&[(1, 5, arrived(1)), (1, 5, arrived(1))]);
+const ESCAPE_ONE: Store = ROW.with(&[(1, 7, arrived(1))]);
+const ESCAPE_FULL: Store = ROW.with(&[(1, 7, arrived(1)), (1, 7, arrived(1))]);
 /// The same, with one more packet at node 0 that is to go on to node 1, in
-/// queue 1 or in queue 5.
-const FROM_ADAPTIVE_ONE: Store = ROW.with(&[(0, 1, packet(1, 1, 0)), (1, 5, arrived(1))]);
-const FROM_ESCAPE_ONE: Store = ROW.with(&[(0, 5, packet(1, 1, 0)), (1, 5, arrived(1))]);
-const FROM_ESCAPE_FULL: Store = ROW.with(&[
-    (0, 5, packet(1, 1, 0)),
-    (1, 5, arrived(1)),
-    (1, 5, arrived(1)),
-]);
-/// Of node 3, the next one in direction x-, queue 2 holds A packets; queue 6
+/// queue 1 or in queue 7.
+const ON: u64 = packet(1, [1, 0, 0]);
+const FROM_ADAPTIVE_ONE: Store = ROW.with(&[(0, 1, ON), (1, 7, arrived(1))]);
+const FROM_ESCAPE_ONE: Store = ROW.with(&[(0, 7, ON), (1, 7, arrived(1))]);
+const FROM_ESCAPE_FULL: Store = ROW.with(&[(0, 7, ON), (1, 7, arrived(1)), (1, 7, arrived(1))]);
+/// Of node 3, the next one in direction x-, queue 2 holds A packets; queue 8
 /// holds one.
 const OTHER_WAY_FULL: Store = ROW.with(&[(3, 2, arrived(3))]);
-const OTHER_WAY_ONE: Store = ROW.with(&[(3, 6, arrived(3))]);
+const OTHER_WAY_ONE: Store = ROW.with(&[(3, 8, arrived(3))]);
+/// Along z: of node 1, the next one in direction z+, queue 11 holds one packet;
+/// it holds E, with a packet in queue 11 of node 0 that is to go on; queue 5
+/// holds A.
+const DEEP_ONE: Store = SHAFT.with(&[(1, 11, arrived(1))]);
+const FROM_DEEP_FULL: Store = SHAFT.with(&[
+    (0, 11, packet(1, [0, 0, 1])),
+    (1, 11, arrived(1)),
+    (1, 11, arrived(1)),
+]);
+const DEEP_FULL: Store = SHAFT.with(&[(1, 5, arrived(1))]);
+/// In the front, with x and z: a packet of an x ring is to turn to z at node 0,
+/// where queue 11 of node 2 holds one.
+const TURN_ONE: Store = FRONT.with(&[(0, 7, packet(2, [0, 0, 1])), (2, 11, arrived(2))]);
 
-/// Arguments that are refused on the row, or on the row with some changes.
+/// Arguments that are refused, mostly on the row as it is or with some changes.
 #[rustfmt::skip]
 const ARGUMENTS: &[(&str, Store, Call, u64)] = &[
     ("R164: a node beyond the last",            ROW,               offer(4, 0),         4),
@@ -341,57 +366,69 @@ const ARGUMENTS: &[(&str, Store, Call, u64)] = &[
     ("R164: a node beyond the last",            ROW,               go(4, 0, 1),         4),
     ("R164: cut to 32 bits it is node 0",       ROW,               go(CUT, 0, 1),       4),
     ("R164: the largest node",                  ROW,               go(MAX, 0, 1),       4),
-    ("R165: a queue beyond the last",           ROW,               go(0, 9, 1),         5),
+    ("R165: a queue beyond the last",           ROW,               go(0, 13, 1),        5),
     ("R165: cut to 32 bits it is queue 0",      ROW,               go(0, CUT, 1),       5),
     ("R165: the largest queue",                 ROW,               go(0, MAX, 1),       5),
-    ("R166: an output beyond the last",         ROW,               go(0, 0, 9),         6),
+    ("R166: an output beyond the last",         ROW,               go(0, 0, 13),        6),
     ("R166: cut to 32 bits it is output 1",     ROW,               go(0, 0, CUT + 1),   6),
     ("R166: the largest output",                ROW,               go(0, 0, MAX),       6),
     ("R169: empty, queue 0 of another node",    ROW,               go(1, 0, 1),         9),
     ("R169: empty, an adaptive queue",          ROW,               go(0, 1, 1),         9),
-    ("R169: empty, an escape queue",            ROW,               go(0, 8, 0),         9),
-    ("R169: empty, the last queue of all",      ROW,               go(3, 8, 8),         9),
+    ("R169: empty, an escape queue",            ROW,               go(0, 12, 0),        9),
+    ("R169: empty, the last queue of all",      ROW,               go(3, 12, 12),       9),
     ("R142, R170: dx 1 is no delivery (K9)",    ROW,               go(0, 0, 0),        10),
     ("R145, R170: dx 1 is not x-",              ROW,               go(0, 0, 2),        10),
     ("R143, R170: dy 0 is not y+",              ROW,               go(0, 0, 3),        10),
     ("R143, R170: dy 0 is not y-",              ROW,               go(0, 0, 4),        10),
-    ("R145, R170: nor x- by escape",            ROW,               go(0, 0, 6),        10),
-    ("R144, R170: nor y+ by escape",            ROW,               go(0, 0, 7),        10),
-    ("R144, R170: nor y- by escape",            ROW,               go(0, 0, 8),        10),
-    ("R141, R170: arrived, not on (K9)",        ARRIVED,           go(0, 0, 5),        10),
+    ("R143, R170: dz 0 is not z+",              ROW,               go(0, 0, 5),        10),
+    ("R143, R170: dz 0 is not z-",              ROW,               go(0, 0, 6),        10),
+    ("R145, R170: nor x- by escape",            ROW,               go(0, 0, 8),        10),
+    ("R144, R170: nor y+ by escape",            ROW,               go(0, 0, 9),        10),
+    ("R144, R170: nor y- by escape",            ROW,               go(0, 0, 10),       10),
+    ("R144, R170: nor z+ by escape",            ROW,               go(0, 0, 11),       10),
+    ("R144, R170: nor z- by escape",            ROW,               go(0, 0, 12),       10),
+    ("R145, R170: dz 1 is not z-",              SHAFT,             go(0, 0, 6),        10),
+    ("R144, R170: dz 1, not x+ by escape",      SHAFT,             go(0, 0, 7),        10),
+    ("R144, R170: dz 1, not y+ by escape",      SHAFT,             go(0, 0, 9),        10),
+    ("R145, R170: dz 1, not z- by escape",      SHAFT,             go(0, 0, 12),       10),
+    ("R141, R170: arrived, not on (K9)",        ARRIVED,           go(0, 0, 7),        10),
     ("R141, R170: arrived, not on",             ARRIVED,           go(0, 0, 1),        10),
     ("R150, R171: adaptive target full",        ADAPTIVE_FULL,     go(0, 0, 1),        11),
-    ("R152, R171: escape target full",          ESCAPE_FULL,       go(0, 0, 5),        11),
-    ("R151, R171: full within the ring",        FROM_ESCAPE_FULL,  go(0, 5, 5),        11),
-    ("R152, R172: one slot, from injection",    ESCAPE_ONE,        go(0, 0, 5),        12),
-    ("R301, R172: one slot, from adaptive",     FROM_ADAPTIVE_ONE, go(0, 1, 5),        12),
-    ("R184: 4 before 5 and 6",                  ROW,               go(4, 9, 9),         4),
-    ("R184: 5 before 6",                        ROW,               go(0, 9, 9),         5),
-    ("R184: 6 before 9",                        ROW,               go(1, 0, 9),         6),
-    ("R184: 6 before 10",                       ARRIVED,           go(0, 0, 9),         6),
+    ("R150, R171: the same along z",            DEEP_FULL,         go(0, 0, 5),        11),
+    ("R152, R171: escape target full",          ESCAPE_FULL,       go(0, 0, 7),        11),
+    ("R151, R171: full within the ring",        FROM_ESCAPE_FULL,  go(0, 7, 7),        11),
+    ("R151, R171: the same along z",            FROM_DEEP_FULL,    go(0, 11, 11),      11),
+    ("R152, R172: one slot, from injection",    ESCAPE_ONE,        go(0, 0, 7),        12),
+    ("R152, R172: the same along z",            DEEP_ONE,          go(0, 0, 11),       12),
+    ("R152, R172: one slot, from an x ring",    TURN_ONE,          go(0, 7, 11),       12),
+    ("R301, R172: one slot, from adaptive",     FROM_ADAPTIVE_ONE, go(0, 1, 7),        12),
+    ("R184: 4 before 5 and 6",                  ROW,               go(4, 13, 13),       4),
+    ("R184: 5 before 6",                        ROW,               go(0, 13, 13),       5),
+    ("R184: 6 before 9",                        ROW,               go(1, 0, 13),        6),
+    ("R184: 6 before 10",                       ARRIVED,           go(0, 0, 13),        6),
     ("R184: 9 before 10",                       ROW,               go(1, 0, 0),         9),
-    ("R184: 9 before 11",                       ESCAPE_FULL,       go(0, 5, 5),         9),
-    ("R184: 9 before 12",                       ESCAPE_ONE,        go(0, 1, 5),         9),
+    ("R184: 9 before 11",                       ESCAPE_FULL,       go(0, 7, 7),         9),
+    ("R184: 9 before 12",                       ESCAPE_ONE,        go(0, 1, 7),         9),
     ("R184: 10 before 11",                      OTHER_WAY_FULL,    go(0, 0, 2),        10),
-    ("R184: 10 before 12",                      OTHER_WAY_ONE,     go(0, 0, 6),        10),
+    ("R184: 10 before 12",                      OTHER_WAY_ONE,     go(0, 0, 8),        10),
 
     ("R164: a node beyond the last",            ROW,               credit(4, 1),        4),
     ("R164: cut to 32 bits it is node 0",       ROW,               credit(CUT, 1),      4),
     ("R164: the largest node",                  ROW,               credit(MAX, 1),      4),
     ("R166: output 0 has no target",            ROW,               credit(0, 0),        6),
-    ("R166: an output beyond the last",         ROW,               credit(0, 9),        6),
+    ("R166: an output beyond the last",         ROW,               credit(0, 13),       6),
     ("R166: cut to 32 bits it is output 1",     ROW,               credit(0, CUT + 1),  6),
     ("R166: the largest output",                ROW,               credit(0, MAX),      6),
     ("R185: 4 before 6, output 0",              ROW,               credit(4, 0),        4),
-    ("R185: 4 before 6, output 9",              ROW,               credit(4, 9),        4),
+    ("R185: 4 before 6, output 13",             ROW,               credit(4, 13),       4),
 
     ("R164: a node beyond the last",            ROW,               look(4, 0),          4),
     ("R164: cut to 32 bits it is node 0",       ROW,               look(CUT, 0),        4),
     ("R164: the largest node",                  ROW,               look(MAX, 0),        4),
-    ("R165: a queue beyond the last",           ROW,               look(0, 9),          5),
+    ("R165: a queue beyond the last",           ROW,               look(0, 13),         5),
     ("R165: cut to 32 bits it is queue 0",      ROW,               look(0, CUT),        5),
     ("R165: the largest queue",                 ROW,               look(0, MAX),        5),
-    ("R186: 4 before 5",                        ROW,               look(4, 9),          4),
+    ("R186: 4 before 5",                        ROW,               look(4, 13),         4),
 ];
 
 /// The words are a network, so it is the arguments that are refused.
@@ -413,66 +450,102 @@ fn arguments() {
 /// clause alone is broken, and the others are made good.
 #[rustfmt::skip]
 const BROKEN: &[(&str, Store)] = &[
-    ("R72: two packets in queue 0, J 1",     ROW.but(&[(5, 2), (at(0, 0), 2)])),
-    ("R72: two packets in queue 1, A 1",     ROW.but(&[(5, 3), (at(0, 1), 2)])),
-    ("R72: three packets in queue 5, E 2",   ROW.but(&[(5, 4), (at(0, 5), 3)])),
-    ("R72: cut to 32 bits it is one",        ROW.but(&[(8, CUT + 1)])),
-    ("R72: 2^64 - 1 packets",                ROW.but(&[(8, MAX)])),
-    ("R72: 2^64 - 1, in the last queue",     ROW.but(&[(at(3, 8), MAX)])),
+    ("R72: two packets in queue 0, J 1",     ROW.but(&[(ACCEPTED, 2), (COUNT, 2)])),
+    ("R72: two packets in queue 1, A 1",     ROW.but(&[(ACCEPTED, 3), (at(0, 1), 2)])),
+    ("R72: three packets in queue 7, E 2",   ROW.but(&[(ACCEPTED, 4), (at(0, 7), 3)])),
+    ("R72: cut to 32 bits it is one",        ROW.but(&[(COUNT, CUT + 1)])),
+    ("R72: 2^64 - 1 packets",                ROW.but(&[(COUNT, MAX)])),
+    ("R72: 2^64 - 1, in the last queue",     ROW.but(&[(at(3, 12), MAX)])),
     ("R73: behind no packet, queue 0",       ROW.but(&[(at(1, 0) + 1, 1)])),
     ("R73: behind no packet, queue 1",       ROW.but(&[(at(0, 1) + 1, 1)])),
-    ("R73: behind no packet, a high bit",    ROW.but(&[(at(0, 5) + 2, 1 << 63)])),
-    ("R73: behind no packet, the last word", ROW.but(&[(95, 1)])),
-    ("R73: behind a packet",                 ROW.with(&[(0, 5, arrived(0))]).but(&[(at(0, 5) + 2, 1)])),
-    ("R73: a packet that is not counted",    ROW.but(&[(5, 0), (8, 0)])),
-    ("R74: destination 5, which is 1 + X",   ROW.but(&[(9, packet(5, 1, 0))])),
-    ("R74: destination 65535",               ROW.but(&[(9, packet(65535, 1, 0))])),
-    ("R75: one hop to node 2",               ROW.but(&[(9, packet(2, 1, 0))])),
-    ("R75: one hop to its own node",         ROW.but(&[(9, packet(0, 1, 0))])),
-    ("R75: no hop to node 1",                ROW.but(&[(9, packet(1, 0, 0))])),
-    ("R75: dy leads to another row",         SQUARE.but(&[(9, packet(1, 1, 1))])),
-    ("R76: dx 3, to where it leads",         ROW.but(&[(9, packet(3, 3, 0))])),
-    ("R76: dx -3, to where it leads",        ROW.but(&[(9, packet(1, -3, 0))])),
-    ("R76: dx 5, once round and one on",     ROW.but(&[(9, packet(1, 5, 0))])),
-    ("R76: dx 127, to where it leads",       ROW.but(&[(5, 101), (6, 100), (9, packet(3, 127, 0))])),
-    ("R76: dx -128, to where it leads",      ROW.but(&[(5, 101), (6, 100), (9, packet(0, -128, 0))])),
-    ("R75, R76: dx -128, to somewhere else", ROW.but(&[(9, packet(1, -128, 0))])),
-    ("R76: dy 1 where Y is 1",               ROW.but(&[(9, packet(1, 1, 1))])),
-    ("R76: dy -1 where Y is 1",              ROW.but(&[(9, packet(1, 1, -1))])),
-    ("R76: dy -128 where Y is 1",            ROW.but(&[(5, 101), (6, 100), (9, packet(1, 1, -128))])),
-    ("R77: queue 1, dx 2 of X 4",            ROW.with(&[(0, 1, packet(2, 2, 0))])),
-    ("R77: queue 2, dx -2 of X 4",           ROW.with(&[(0, 2, packet(2, -2, 0))])),
-    ("R77: queue 5, dx 1 of X 2",            SQUARE.with(&[(0, 5, packet(1, 1, 0))])),
-    ("R77: queue 8, dy -1 of Y 2",           SQUARE.with(&[(0, 8, packet(2, 0, -1))])),
+    ("R73: behind no packet, a high bit",    ROW.but(&[(at(0, 7) + 2, 1 << 63)])),
+    ("R73: behind no packet, bit 15",        ROW.but(&[(at(0, 7) + 2, BIT_15)])),
+    ("R73: behind no packet, the last word", ROW.but(&[(NEED - 1, 1)])),
+    ("R73: behind a packet",                 ROW.with(&[(0, 7, arrived(0))]).but(&[(at(0, 7) + 2, 1)])),
+    ("R73: a packet that is not counted",    ROW.but(&[(ACCEPTED, 0), (COUNT, 0)])),
+    ("R87: bit 15 set, one hop left",        ROW.but(&[(HEAD, ON | BIT_15)])),
+    ("R87: bit 15 set, at its destination",  ROW.but(&[(HEAD, arrived(0) | BIT_15)])),
+    ("R87: bit 15 set, in an escape queue",  ROW.with(&[(0, 7, ON | BIT_15)])),
+    ("R87: bit 15 set, to the last node",    ROW.but(&[(HEAD, packet(3, [-1, 0, 0]) | BIT_15)])),
+    ("R74: destination 5, which is 1 + X",   ROW.but(&[(HEAD, packet(5, [1, 0, 0]))])),
+    ("R74: destination 65535",               ROW.but(&[(HEAD, packet(65535, [1, 0, 0]))])),
+    ("R75: one hop to node 2",               ROW.but(&[(HEAD, packet(2, [1, 0, 0]))])),
+    ("R75: one hop to its own node",         ROW.but(&[(HEAD, packet(0, [1, 0, 0]))])),
+    ("R75: no hop to node 1",                ROW.but(&[(HEAD, packet(1, [0, 0, 0]))])),
+    ("R75: dy leads to another row",         SQUARE.but(&[(HEAD, packet(1, [1, 1, 0]))])),
+    ("R75: dz leads further",                FRONT.but(&[(HEAD, packet(1, [1, 0, 1]))])),
+    ("R75: dz, to where dy would lead",      SIDE.but(&[(HEAD, packet(1, [0, 0, 1]))])),
+    ("R75: dy, to where dz would lead",      SIDE.but(&[(HEAD, packet(2, [0, 1, 0]))])),
+    ("R76: dx 3, to where it leads",         ROW.but(&[(HEAD, packet(3, [3, 0, 0]))])),
+    ("R76: dx -3, to where it leads",        ROW.but(&[(HEAD, packet(1, [-3, 0, 0]))])),
+    ("R76: dx 5, once round and one on",     ROW.but(&[(HEAD, packet(1, [5, 0, 0]))])),
+    ("R76: dx 15, to where it leads",        ROW.but(&[(HEAD, packet(3, [15, 0, 0]))])),
+    ("R76: dx -16, to where it leads",       ROW.but(&[(HEAD, packet(0, [-16, 0, 0]))])),
+    ("R75, R76: dx -16, to somewhere else",  ROW.but(&[(HEAD, packet(1, [-16, 0, 0]))])),
+    ("R76: dy 3, to where it leads",         COLUMN.but(&[(HEAD, packet(3, [0, 3, 0]))])),
+    ("R76: dy -16, to where it leads",       COLUMN.but(&[(HEAD, packet(0, [0, -16, 0]))])),
+    ("R76: dz 3, to where it leads",         SHAFT.but(&[(HEAD, packet(3, [0, 0, 3]))])),
+    ("R76: dz 15, to where it leads",        SHAFT.but(&[(HEAD, packet(3, [0, 0, 15]))])),
+    ("R76: dz -16, to where it leads",       SHAFT.but(&[(HEAD, packet(0, [0, 0, -16]))])),
+    ("R76: dy 1 where Y is 1",               ROW.but(&[(HEAD, packet(1, [1, 1, 0]))])),
+    ("R76: dy -1 where Y is 1",              ROW.but(&[(HEAD, packet(1, [1, -1, 0]))])),
+    ("R76: dy -16 where Y is 1",             ROW.but(&[(HEAD, packet(1, [1, -16, 0]))])),
+    ("R76: dz 1 where Z is 1",               ROW.but(&[(HEAD, packet(1, [1, 0, 1]))])),
+    ("R76: dz -1 where Z is 1",              ROW.but(&[(HEAD, packet(1, [1, 0, -1]))])),
+    ("R76: dz -16 where Z is 1",             ROW.but(&[(HEAD, packet(1, [1, 0, -16]))])),
+    ("R76: dx 1 where X is 1",               SHAFT.but(&[(HEAD, packet(1, [1, 0, 1]))])),
+    ("R77: queue 1, dx 2 of X 4",            ROW.with(&[(0, 1, packet(2, [2, 0, 0]))])),
+    ("R77: queue 2, dx -2 of X 4",           ROW.with(&[(0, 2, packet(2, [-2, 0, 0]))])),
+    ("R77: queue 5, dz 2 of Z 4",            SHAFT.with(&[(0, 5, packet(2, [0, 0, 2]))])),
+    ("R77: queue 7, dx 1 of X 2",            SQUARE.with(&[(0, 7, packet(1, [1, 0, 0]))])),
+    ("R77: queue 10, dy -1 of Y 2",          SQUARE.with(&[(0, 10, packet(2, [0, -1, 0]))])),
+    ("R77: queue 12, dz -1 of Z 2",          SIDE.with(&[(0, 12, packet(2, [0, 0, -1]))])),
     ("R77: queue 3, no hop where Y is 1",    ROW.with(&[(0, 3, arrived(0))])),
-    ("R77: queue 7, no hop where Y is 1",    ROW.with(&[(0, 7, arrived(0))])),
-    ("R78: dx -1 in queue 1",                ROW.with(&[(0, 1, packet(3, -1, 0))])),
-    ("R78: dx 1 in queue 2",                 ROW.with(&[(0, 2, packet(1, 1, 0))])),
-    ("R78: dx -1 in queue 5",                ROW.with(&[(0, 5, packet(3, -1, 0))])),
-    ("R78: dx 1 in queue 6",                 ROW.with(&[(0, 6, packet(1, 1, 0))])),
-    ("R78: dy -1 in queue 3",                COLUMN.with(&[(0, 3, packet(3, 0, -1))])),
-    ("R78: dy 1 in queue 4",                 COLUMN.with(&[(0, 4, packet(1, 0, 1))])),
-    ("R78: dy -1 in queue 7",                COLUMN.with(&[(0, 7, packet(3, 0, -1))])),
-    ("R78: dy 1 in queue 8",                 COLUMN.with(&[(0, 8, packet(1, 0, 1))])),
-    ("R79: dx 1 in queue 7",                 SQUARE.with(&[(0, 7, packet(1, 1, 0))])),
-    ("R79: dx -1 in queue 8",                SQUARE.with(&[(0, 8, packet(1, -1, 0))])),
-    ("R81: x+ of row 0 full",                SQUARE.with(&ring(5, 0, 1))),
-    ("R81: x- of row 1 full",                SQUARE.with(&ring(6, 2, 3))),
-    ("R81: y+ of column 0 full",             SQUARE.with(&ring(7, 0, 2))),
-    ("R81: y- of column 1 full",             SQUARE.with(&ring(8, 1, 3))),
-    ("R82: accepted 2^32",                   ROW.but(&[(5, CUT), (6, CUT - 1)])),
-    ("R82: accepted 2^64 - 1",               ROW.but(&[(5, MAX), (6, MAX - 1)])),
-    ("R82, R83: accepted 2^32, delivered 0", ROW.but(&[(5, CUT)])),
-    ("R83: accepted one more",               ROW.but(&[(5, 2)])),
-    ("R83: accepted one less",               ROW.but(&[(5, 0)])),
-    ("R83: delivered one more",              ROW.but(&[(6, 1)])),
-    ("R83: delivered 2^64 - 1",              ROW.but(&[(6, MAX)])),
-    ("R83: right if cut to 64 bits (D1)",    ROW.but(&[(5, 0), (6, MAX)])),
-    ("R83: right if cut to 32 bits (D1)",    ROW.but(&[(6, CUT)])),
-    ("R85: 16 moves and work 2, above 17",   ROW.but(&[(7, 16)])),
-    ("R85: 2^64 - 1 moves",                  ROW.but(&[(7, MAX)])),
-    ("R85: right if cut to 64 bits (D1)",    ROW.but(&[(7, MAX - 1)])),
-    ("R85: right if cut to 32 bits (D1)",    ROW.but(&[(7, CUT)])),
+    ("R77: queue 9, no hop where Y is 1",    ROW.with(&[(0, 9, arrived(0))])),
+    ("R77: queue 5, no hop where Z is 1",    SQUARE.with(&[(0, 5, arrived(0))])),
+    ("R77: queue 11, no hop where Z is 1",   SQUARE.with(&[(0, 11, arrived(0))])),
+    ("R77: queue 1, no hop where X is 1",    SHAFT.with(&[(0, 1, arrived(0))])),
+    ("R78: dx -1 in queue 1",                ROW.with(&[(0, 1, packet(3, [-1, 0, 0]))])),
+    ("R78: dx 1 in queue 2",                 ROW.with(&[(0, 2, packet(1, [1, 0, 0]))])),
+    ("R78: dx -1 in queue 7",                ROW.with(&[(0, 7, packet(3, [-1, 0, 0]))])),
+    ("R78: dx 1 in queue 8",                 ROW.with(&[(0, 8, packet(1, [1, 0, 0]))])),
+    ("R78: dy -1 in queue 3",                COLUMN.with(&[(0, 3, packet(3, [0, -1, 0]))])),
+    ("R78: dy 1 in queue 4",                 COLUMN.with(&[(0, 4, packet(1, [0, 1, 0]))])),
+    ("R78: dy -1 in queue 9",                COLUMN.with(&[(0, 9, packet(3, [0, -1, 0]))])),
+    ("R78: dy 1 in queue 10",                COLUMN.with(&[(0, 10, packet(1, [0, 1, 0]))])),
+    ("R78: dz -1 in queue 5",                SHAFT.with(&[(0, 5, packet(3, [0, 0, -1]))])),
+    ("R78: dz 1 in queue 6",                 SHAFT.with(&[(0, 6, packet(1, [0, 0, 1]))])),
+    ("R78: dz -1 in queue 11",               SHAFT.with(&[(0, 11, packet(3, [0, 0, -1]))])),
+    ("R78: dz 1 in queue 12",                SHAFT.with(&[(0, 12, packet(1, [0, 0, 1]))])),
+    ("R79: dx 1 in queue 9",                 SQUARE.with(&[(0, 9, packet(1, [1, 0, 0]))])),
+    ("R79: dx -1 in queue 10",               SQUARE.with(&[(0, 10, packet(1, [-1, 0, 0]))])),
+    ("R79: dx 1 in queue 11",                FRONT.with(&[(0, 11, packet(1, [1, 0, 0]))])),
+    ("R79: dx -1 in queue 12",               FRONT.with(&[(0, 12, packet(1, [-1, 0, 0]))])),
+    ("R79: dy 1 in queue 11",                SIDE.with(&[(0, 11, packet(1, [0, 1, 0]))])),
+    ("R79: dy -1 in queue 12",               SIDE.with(&[(0, 12, packet(1, [0, -1, 0]))])),
+    ("R81: x+ of y 0 full",                  SQUARE.with(&ring(7, 0, 1))),
+    ("R81: x- of y 1 full",                  SQUARE.with(&ring(8, 2, 3))),
+    ("R81: y+ of x 0 full",                  SQUARE.with(&ring(9, 0, 2))),
+    ("R81: y- of x 1 full",                  SQUARE.with(&ring(10, 1, 3))),
+    ("R81: x+ of z 1 full",                  FRONT.with(&ring(7, 2, 3))),
+    ("R81: z+ of x 0 full",                  FRONT.with(&ring(11, 0, 2))),
+    ("R81: z- of x 1 full",                  FRONT.with(&ring(12, 1, 3))),
+    ("R81: y- of z 1 full",                  SIDE.with(&ring(10, 2, 3))),
+    ("R81: z+ of y 1 full",                  SIDE.with(&ring(11, 1, 3))),
+    ("R82: accepted 2^32",                   ROW.but(&[(ACCEPTED, CUT), (DELIVERED, CUT - 1)])),
+    ("R82: accepted 2^64 - 1",               ROW.but(&[(ACCEPTED, MAX), (DELIVERED, MAX - 1)])),
+    ("R82, R83: accepted 2^32, delivered 0", ROW.but(&[(ACCEPTED, CUT)])),
+    ("R83: accepted one more",               ROW.but(&[(ACCEPTED, 2)])),
+    ("R83: accepted one less",               ROW.but(&[(ACCEPTED, 0)])),
+    ("R83: delivered one more",              ROW.but(&[(DELIVERED, 1)])),
+    ("R83: delivered 2^64 - 1",              ROW.but(&[(DELIVERED, MAX)])),
+    ("R83: right if cut to 64 bits (D1)",    ROW.but(&[(ACCEPTED, 0), (DELIVERED, MAX)])),
+    ("R83: right if cut to 32 bits (D1)",    ROW.but(&[(DELIVERED, CUT)])),
+    ("R85: 24 moves and work 2, above 25",   ROW.but(&[(MOVES, 24)])),
+    ("R85: dz counts as well",               SHAFT.but(&[(MOVES, 24)])),
+    ("R85: 2^64 - 1 moves",                  ROW.but(&[(MOVES, MAX)])),
+    ("R85: right if cut to 64 bits (D1)",    ROW.but(&[(MOVES, MAX - 1)])),
+    ("R85: right if cut to 32 bits (D1)",    ROW.but(&[(MOVES, CUT)])),
 ];
 
 /// Packets that fill an escape queue at two nodes.
@@ -486,35 +559,56 @@ const fn ring(queue: usize, one: usize, other: usize) -> [(usize, usize, u64); 4
     ]
 }
 
-/// A packet for node 1 in each queue of node 1.
+/// A packet for node 1 in each queue of node 1 that may hold one: of two
+/// dimensions here, and here.
 #[rustfmt::skip]
-const EVERY_QUEUE: [(usize, usize, u64); 9] = [
+const EVERY_X_AND_Y: [(usize, usize, u64); 9] = [
     (1, 0, arrived(1)), (1, 1, arrived(1)), (1, 2, arrived(1)),
-    (1, 3, arrived(1)), (1, 4, arrived(1)), (1, 5, arrived(1)),
-    (1, 6, arrived(1)), (1, 7, arrived(1)), (1, 8, arrived(1)),
+    (1, 3, arrived(1)), (1, 4, arrived(1)), (1, 7, arrived(1)),
+    (1, 8, arrived(1)), (1, 9, arrived(1)), (1, 10, arrived(1)),
+];
+#[rustfmt::skip]
+const EVERY_X_AND_Z: [(usize, usize, u64); 9] = [
+    (1, 0, arrived(1)), (1, 1, arrived(1)), (1, 2, arrived(1)),
+    (1, 5, arrived(1)), (1, 6, arrived(1)), (1, 7, arrived(1)),
+    (1, 8, arrived(1)), (1, 11, arrived(1)), (1, 12, arrived(1)),
 ];
 
 /// Words close to those above that are a network.
 #[rustfmt::skip]
 const GOOD: &[(&str, Store)] = &[
     ("the row",                              ROW),
-    ("the square",                           SQUARE),
     ("the column",                           COLUMN),
+    ("the shaft",                            SHAFT),
+    ("the square",                           SQUARE),
+    ("the front",                            FRONT),
+    ("the side",                             SIDE),
     ("R72: a packet in queue 1, A 1",        ROW.with(&[(0, 1, arrived(0))])),
-    ("R72: two packets in queue 5, E 2",     ROW.with(&[(0, 5, arrived(0)), (0, 5, arrived(0))])),
-    ("R76: dx 2, half of X",                 ROW.but(&[(9, packet(2, 2, 0))])),
-    ("R76: dx -2, half of X",                ROW.but(&[(9, packet(2, -2, 0))])),
-    ("R77: queue 1, dx 1 of X 4",            ROW.with(&[(0, 1, packet(1, 1, 0))])),
-    ("R78: dx -1 in queue 6",                ROW.with(&[(0, 6, packet(3, -1, 0))])),
-    ("R78: dy 1 in queue 3",                 COLUMN.with(&[(0, 3, packet(1, 0, 1))])),
-    ("R78: dy -1 in queue 8",                COLUMN.with(&[(0, 8, packet(3, 0, -1))])),
-    ("R79: dx 0 in queue 7",                 SQUARE.with(&[(0, 7, arrived(0))])),
-    ("R81: x+ of row 0, one slot free",      SQUARE.with(&[(0, 5, arrived(0)), (0, 5, arrived(0)), (1, 5, arrived(1))])),
-    ("R81: y+ of column 0, one slot free",   SQUARE.with(&[(0, 7, arrived(0)), (0, 7, arrived(0)), (2, 7, arrived(2))])),
+    ("R72: two packets in queue 7, E 2",     ROW.with(&[(0, 7, arrived(0)), (0, 7, arrived(0))])),
+    ("R87: all bits around bit 15",          FRONT.but(&[(HEAD, packet_word(CUT - 1, 3, [-1, 0, -1]))])),
+    ("R76: dx 2, half of X",                 ROW.but(&[(HEAD, packet(2, [2, 0, 0]))])),
+    ("R76: dx -2, half of X",                ROW.but(&[(HEAD, packet(2, [-2, 0, 0]))])),
+    ("R76: dz 2, half of Z",                 SHAFT.but(&[(HEAD, packet(2, [0, 0, 2]))])),
+    ("R76: dz -2, half of Z",                SHAFT.but(&[(HEAD, packet(2, [0, 0, -2]))])),
+    ("R77: queue 1, dx 1 of X 4",            ROW.with(&[(0, 1, packet(1, [1, 0, 0]))])),
+    ("R77: queue 11, dz 1 of Z 4",           SHAFT.with(&[(0, 11, packet(1, [0, 0, 1]))])),
+    ("R78: dx -1 in queue 8",                ROW.with(&[(0, 8, packet(3, [-1, 0, 0]))])),
+    ("R78: dy 1 in queue 3",                 COLUMN.with(&[(0, 3, packet(1, [0, 1, 0]))])),
+    ("R78: dy -1 in queue 10",               COLUMN.with(&[(0, 10, packet(3, [0, -1, 0]))])),
+    ("R78: dz 1 in queue 5",                 SHAFT.with(&[(0, 5, packet(1, [0, 0, 1]))])),
+    ("R78: dz -1 in queue 12",               SHAFT.with(&[(0, 12, packet(3, [0, 0, -1]))])),
+    ("R79: dx 0 in queue 9",                 SQUARE.with(&[(0, 9, arrived(0))])),
+    ("R79: dz 1 in queue 7",                 FRONT.with(&[(0, 7, packet(2, [0, 0, 1]))])),
+    ("R79: dz 1 in queue 9",                 SIDE.with(&[(0, 9, packet(2, [0, 0, 1]))])),
+    ("R79: dx 1 in queue 5, adaptive",       FRONT.with(&[(0, 5, packet(1, [1, 0, 0]))])),
+    ("R81: x+ of y 0, one slot free",        SQUARE.with(&[(0, 7, arrived(0)), (0, 7, arrived(0)), (1, 7, arrived(1))])),
+    ("R81: y+ of x 0, one slot free",        SQUARE.with(&[(0, 9, arrived(0)), (0, 9, arrived(0)), (2, 9, arrived(2))])),
+    ("R81: z+ of x 0, one slot free",        FRONT.with(&[(0, 11, arrived(0)), (0, 11, arrived(0)), (2, 11, arrived(2))])),
     ("R82: accepted 2^32 - 1",               SPENT),
-    ("R85: 15 moves and work 2",             ROW.but(&[(7, 15)])),
+    ("R85: 23 moves and work 2",             ROW.but(&[(MOVES, 23)])),
     ("R86: to oneself, in queue 0",          ARRIVED),
-    ("R86: to oneself, in every queue",      SQUARE.with(&EVERY_QUEUE)),
+    ("R86: to oneself, in x and y queues",   SQUARE.with(&EVERY_X_AND_Y)),
+    ("R86: to oneself, in x and z queues",   FRONT.with(&EVERY_X_AND_Z)),
 ];
 
 /// R163: each clause of the check behind the sizes, in every call.
@@ -536,26 +630,35 @@ fn broken_words() {
 /// what a call writes. None of them changes a word behind the last node (R48).
 #[test]
 fn not_refused() {
-    let (row, empty) = (ROW.words(), ROW.but(&[(5, 0), (8, 0), (9, 0)]).words());
+    let row = ROW.words();
+    let empty = ROW.but(&[(ACCEPTED, 0), (COUNT, 0), (HEAD, 0)]).words();
     let mut rubbish = vec![MAX; NEED];
     rubbish.resize(LENT, BEHIND);
-    let (for_96, for_100) = (make(4, 1, 2, 1, 1), make(4, 1, 2, 1, 2));
-    done("R91, R92", &rubbish, LENT, for_96, [0; 4], (&empty, LEDGER));
+    let (for_137, for_141) = (make(4, 1, 1, [2, 1, 1]), make(4, 1, 1, [2, 1, 2]));
+    done(
+        "R91, R92",
+        &rubbish,
+        LENT,
+        for_137,
+        [0; 4],
+        (&empty, LEDGER),
+    );
     done("R101", &empty, LENT, offer(0, 1), [0; 4], (&row, LEDGER));
 
-    // J 2 needs all of the 100 words.
+    // J 2 needs all of the 141 words.
     let mut larger = vec![0; LENT];
-    larger[..5].copy_from_slice(&[4, 1, 2, 1, 2]);
-    done("R47", &row, LENT, for_100, [0; 4], (&larger, LEDGER));
+    larger[..6].copy_from_slice(&[4, 1, 1, 2, 1, 2]);
+    done("R47", &row, LENT, for_141, [0; 4], (&larger, LEDGER));
 
     // One slot is enough within the ring, where any other head needs two.
     let before = FROM_ESCAPE_ONE.words();
-    let after = ESCAPE_FULL.but(&[(7, 1)]).words();
-    done("R151", &before, LENT, go(0, 5, 5), [0; 4], (&after, LEDGER));
+    let after = ESCAPE_FULL.but(&[(MOVES, 1)]).words();
+    done("R151", &before, LENT, go(0, 7, 7), [0; 4], (&after, LEDGER));
 
     // A packet for its own node is handed out.
     let (before, mut book) = (ARRIVED.words(), LEDGER);
-    let after = ROW.but(&[(6, 1), (7, 1), (8, 0), (9, 0)]).words();
+    let after = ROW.but(&[(DELIVERED, 1), (MOVES, 1), (COUNT, 0), (HEAD, 0)]);
+    let after = after.words();
     let out = [1, arrived(0), 0, 0];
     done("R86", &before, LENT, go(0, 0, 0), out, (&after, book));
     book[0] = arrived(0);
@@ -563,7 +666,8 @@ fn not_refused() {
     done("R86", &before, LENT, drain(9, 2), out, (&after, book));
 
     // By queue 1 of node 1, and out.
-    let after = ROW.but(&[(6, 1), (7, 2), (8, 0), (9, 0)]).words();
+    let after = ROW.but(&[(DELIVERED, 1), (MOVES, 2), (COUNT, 0), (HEAD, 0)]);
+    let after = after.words();
     let mut book = LEDGER;
     book[0] = arrived(1);
     for len in [NEED, LENT] {

@@ -13,9 +13,10 @@ mod routes;
 mod wave;
 
 use compare::bench::Call;
-use compare::damage::{one_word, FAULTS};
-use compare::generate::{any_call, any_drain, any_move, any_sizes, hostile};
-use compare::generate::{network, packet_word, Fill, Shape, FILLS};
+use compare::damage::{one_word, Fault, FAULTS};
+use compare::generate::{any_call, any_drain, any_move, any_sizes, end_node, hostile};
+use compare::generate::{network, packet_word, Fill, Shape, BIT_15, FILLS, OFFSETS, SIDES};
+use compare::generate::{ACCEPTED, DELIVERED, DIMENSIONS, HEADER, MOVES, QUEUES};
 use compare::lab::{Lab, REFUSALS};
 use compare::random::Random;
 use std::time::Instant;
@@ -27,21 +28,25 @@ fn main() {
     let start = Instant::now();
     let mut lab = Lab::new();
     println!("compared: {}", lab.names().join("; "));
-    let parts: [Part; 19] = [
+    let parts: [Part; 23] = [
         ("kept cases and listing", kept::all),
         ("the table of routes", routes::every_case),
-        ("stores of 0 to 7 words", tiny_stores),
+        ("stores of 0 to 8 words", tiny_stores),
         ("stores too short and too long", short_and_long),
         ("every number on small networks", every_number),
-        ("every offset byte", every_offset),
+        ("every offset", every_offset),
         ("networks never reached", never_reached),
         ("one word damaged", damaged),
         ("one clause broken", broken_clauses),
+        ("the largest networks", largest),
         ("lists of calls", lists_of_calls),
         ("drains move by move", drains::move_by_move),
         ("full drains", drains::full),
+        ("drains of the largest", drains::largest),
+        ("the largest emptied", drains::largest_emptied),
         ("a dump spelt out", wave::spelt_out),
         ("dumps written and read", wave::dumps),
+        ("the largest dump", wave::largest_dump),
         ("dumps of bad words", wave::bad_words),
         ("every byte of small steps", wave::every_byte),
         ("every short text", wave::every_short_text),
@@ -80,7 +85,7 @@ fn each_call(nodes: u64) -> [Call; 8] {
     let node = nodes.saturating_sub(1);
     [
         Call::Make {
-            sizes: [1, 1, 2, 1, 1],
+            sizes: [1, 1, 1, 2, 1, 1],
         },
         Call::Check,
         Call::Offer {
@@ -93,8 +98,8 @@ fn each_call(nodes: u64) -> [Call; 8] {
             queue: 0,
             output: 0,
         },
-        Call::Credit { node, output: 5 },
-        Call::Look { node, queue: 8 },
+        Call::Credit { node, output: 7 },
+        Call::Look { node, queue: 12 },
         Call::First,
         Call::Drain {
             budget: 3,
@@ -105,14 +110,14 @@ fn each_call(nodes: u64) -> [Call; 8] {
 
 fn tiny_stores(lab: &mut Lab) {
     let mut random = Random::new(1);
-    for len in 0..8 {
+    for len in 0..HEADER {
         for fill in [0, 1, 2, u64::MAX] {
             lab.place = format!("{len} words of {fill}");
             for call in each_call(1) {
                 assert_eq!(lab.try_out(&vec![fill; len], call), 1);
             }
             // Wrong sizes come before the short store in Make only.
-            let sizes = [0, 1, 2, 1, 1];
+            let sizes = [0, 1, 1, 2, 1, 1];
             assert_eq!(lab.try_out(&vec![fill; len], Call::Make { sizes }), 2);
             for _ in 0..20 {
                 let words = vec![fill; len];
@@ -127,7 +132,7 @@ fn short_and_long(lab: &mut Lab) {
     let mut random = Random::new(2);
     for round in 0..400 {
         lab.place = format!("short and long, round {round}");
-        let shape = Shape::random(&mut random, 6);
+        let shape = Shape::in_round(round, &mut random, 5);
         let fill = random.pick(&FILLS);
         let mut words = network(&mut random, &shape, fill);
         let mut calls = each_call(shape.nodes()).to_vec();
@@ -136,16 +141,16 @@ fn short_and_long(lab: &mut Lab) {
         };
         for call in &calls {
             assert_eq!(lab.try_out(&words[..shape.need() - 1], *call), 1);
-            let len = random.between(8, shape.need() as u64 - 1) as usize;
+            let len = random.between(HEADER as u64, shape.need() as u64 - 1) as usize;
             assert_eq!(lab.try_out(&words[..len], *call), 1);
         }
         // Wrong sizes come before the need, and the need before the check.
-        words[8] = u64::MAX;
+        words[HEADER] = u64::MAX;
         assert_eq!(lab.try_out(&words[..shape.need() - 1], Call::Check), 1);
-        words[8] = network(&mut random, &shape, Fill::Empty)[8];
-        let which = random.below(5) as usize;
+        words[HEADER] = network(&mut random, &shape, Fill::Empty)[HEADER];
+        let which = random.below(6) as usize;
         let kept = std::mem::replace(&mut words[which], hostile(&mut random, 1 << 20) | 1 << 30);
-        assert_eq!(lab.try_out(&words[..9], Call::Check), 2);
+        assert_eq!(lab.try_out(&words[..=HEADER], Call::Check), 2);
         words[which] = kept;
         for _ in 0..random.below(40) {
             words.push(random.number());
@@ -165,12 +170,16 @@ fn every_number(lab: &mut Lab) {
             e: random.between(2, 3),
             a: random.between(1, 2),
             j: random.between(1, 2),
-            ..Shape::random(&mut random, 4)
+            ..Shape::in_round(round, &mut random, 3)
         };
+        // More nodes would take long, and show no more.
+        if shape.nodes() > 24 {
+            continue;
+        }
         let fill = random.pick(&[Fill::Mixed, Fill::Half, Fill::Full, Fill::Mixed]);
         let mut words = network(&mut random, &shape, fill);
         for node in 0..=shape.nodes() {
-            for queue in 0..=9 {
+            for queue in 0..=QUEUES as u64 {
                 lab.call(&mut words, Call::Look { node, queue });
                 lab.call(
                     &mut words,
@@ -179,7 +188,7 @@ fn every_number(lab: &mut Lab) {
                         output: queue,
                     },
                 );
-                for output in 0..=9 {
+                for output in 0..=QUEUES as u64 {
                     let call = Call::Move {
                         node,
                         queue,
@@ -201,36 +210,42 @@ fn every_number(lab: &mut Lab) {
     }
 }
 
-/// One packet with every pair of offset bytes, at its right destination.
+/// One packet with every offset, at its right destination, with bit 15 and
+/// without it.
 fn every_offset(lab: &mut Lab) {
     let mut random = Random::new(4);
-    for (x, y) in [(1, 1), (2, 3), (4, 5), (5, 4), (3, 2), (1, 6)] {
-        let shape = Shape::new(x, y, 2, 1, 1);
-        lab.place = format!("every offset, {x} by {y}");
-        for queue in 0..9 {
+    for sides in SIDES {
+        let shape = Shape::of(sides, [2, 1, 1]);
+        lab.place = format!("every offset, {sides:?}");
+        for queue in 0..QUEUES {
             let mut words = network(&mut random, &shape, Fill::Empty);
-            words[5] = 20;
-            words[6] = 19;
-            words[7] = 0;
+            words[ACCEPTED] = 20;
+            words[DELIVERED] = 19;
+            words[MOVES] = 0;
             let node = random.below(shape.nodes());
             let at = shape.count_word(node, queue);
             words[at] = 1;
-            for bytes in 0..=0xffff_u64 {
-                // Every pair where one byte is small, and some of the others.
-                let (dx, dy) = ((bytes >> 8) as i8 as i64, bytes as i8 as i64);
-                if dx.abs().min(dy.abs()) > 3 && bytes % 37 != 0 {
+            for bits in 0..=OFFSETS | BIT_15 {
+                let offsets = [bits >> 10, bits >> 5, bits].map(|b| (b & 31) as i64);
+                let offsets = offsets.map(|b| if b < 16 { b } else { b - 32 });
+                // Every one where the two others are small, with bit 15 those where
+                // all are, and some besides.
+                let large = offsets.iter().filter(|offset| offset.abs() > 1).count();
+                let most = if bits & BIT_15 == 0 { 1 } else { 0 };
+                if large > most && bits % 67 != 0 {
                     continue;
                 }
-                let end = compare::generate::end_node(&shape, node, dx, dy);
-                words[at + 1] = packet_word(77, end, dx, dy);
-                lab.call(&mut words, Call::Check);
+                let end = end_node(&shape, node, offsets);
+                words[at + 1] = packet_word(77, end, offsets) | bits & BIT_15;
+                let refusal = lab.call(&mut words, Call::Check).refusal;
+                assert!(bits & BIT_15 == 0 || refusal == 3, "{}: bit 15", lab.place);
             }
         }
     }
 }
 
 fn random_run(lab: &mut Lab, random: &mut Random, words: &mut Vec<u64>, calls: u64) {
-    let nodes = words[0] * words[1];
+    let nodes = words[..DIMENSIONS].iter().product();
     let mut left = random.below(calls + 1);
     lab.run(words, |now| {
         if left == 0 {
@@ -249,12 +264,12 @@ fn never_reached(lab: &mut Lab) {
     let mut random = Random::new(5);
     for round in 0..3000 {
         lab.place = format!("never reached, round {round}");
-        let most = if round % 100 == 99 {
-            16
-        } else {
-            random.pick(&[2, 3, 4, 5, 8])
+        let most = match round {
+            999 => 16,
+            _ if round % 100 == 99 => 8,
+            _ => random.pick(&[2, 3, 4]),
         };
-        let shape = Shape::random(&mut random, most);
+        let shape = Shape::in_round(round, &mut random, most);
         let fill = random.pick(&FILLS);
         let mut words = network(&mut random, &shape, fill);
         for _ in 0..random.below(6) {
@@ -275,11 +290,11 @@ fn damaged(lab: &mut Lab) {
     for round in 0..12_000 {
         lab.place = format!("one word damaged, round {round}");
         let most = if round % 400 == 399 {
-            16
+            8
         } else {
-            random.pick(&[1, 2, 3, 4])
+            random.pick(&[1, 2, 3])
         };
-        let shape = Shape::random(&mut random, most);
+        let shape = Shape::in_round(round, &mut random, most);
         let fill = random.pick(&FILLS);
         let mut words = network(&mut random, &shape, fill);
         one_word(&mut random, &shape, &mut words);
@@ -291,13 +306,47 @@ fn damaged(lab: &mut Lab) {
     }
 }
 
+/// Networks of 4,096 nodes and of nearly as many: some calls, and each clause
+/// broken once.
+fn largest(lab: &mut Lab) {
+    let mut random = Random::new(19);
+    let sides = [[16, 16, 16], [15, 16, 16], [16, 15, 16], [16, 16, 15]];
+    for (fault, sides) in FAULTS.iter().zip(sides.into_iter().cycle()) {
+        lab.place = format!("{sides:?}, {}", fault.name);
+        let shape = Shape::of(sides, [2, 1, 1]);
+        let fill = random.pick(&[Fill::Rare, Fill::Sparse, Fill::Mixed]);
+        let mut words = network(&mut random, &shape, fill);
+        lab.passes_and_can_move(&words);
+        for _ in 0..4 {
+            let call = match any_call(&mut random, &words) {
+                // Drains have a part of their own.
+                Call::Drain { .. } => any_move(&mut random, shape.nodes(), &words),
+                call => call,
+            };
+            lab.call(&mut words, call);
+        }
+        while !(fault.apply)(&mut random, &shape, &mut words) {}
+        let wanted = refusal_of(fault);
+        assert_eq!(lab.try_out(&words, Call::Check), wanted, "{}", fault.name);
+    }
+}
+
+/// What the check says of words with this fault.
+fn refusal_of(fault: &Fault) -> u64 {
+    if fault.name == "wrong sizes" {
+        2
+    } else {
+        3
+    }
+}
+
 fn broken_clauses(lab: &mut Lab) {
     let mut random = Random::new(7);
     for fault in &FAULTS {
         let mut broken = 0;
         while broken < 300 {
             lab.place = format!("{}, after {broken}", fault.name);
-            let most = random.pick(&[2, 3, 4, 5]);
+            let most = random.pick(&[2, 3, 4]);
             let shape = Shape::random(&mut random, most);
             let fill = random.pick(&FILLS[1..]);
             let mut words = network(&mut random, &shape, fill);
@@ -305,7 +354,7 @@ fn broken_clauses(lab: &mut Lab) {
                 continue;
             }
             broken += 1;
-            let wanted = if fault.name == "wrong sizes" { 2 } else { 3 };
+            let wanted = refusal_of(fault);
             assert_eq!(lab.try_out(&words, Call::Check), wanted, "{}", fault.name);
             for call in &each_call(shape.nodes())[2..] {
                 assert_eq!(lab.try_out(&words, *call), wanted);
@@ -321,11 +370,12 @@ fn lists_of_calls(lab: &mut Lab) {
     let mut random = Random::new(8);
     for round in 0..4000 {
         lab.place = format!("list of calls, round {round}");
-        let most = random.pick(&[1, 2, 3, 4, 6]);
-        let len = random.pick(&[0, 5, 30, 100, 272, 1000, 2000, 3000]);
+        let most = random.pick(&[1, 2, 3, 4]);
+        let len = random.pick(&[0, 5, 41, 100, 393, 1000, 2000, 3000]);
         let mut words: Vec<u64> = (0..len).map(|_| random.number()).collect();
         for _ in 0..random.below(80) {
-            let call = if random.chance(1, 20) || words.first().is_some_and(|x| *x > 16) {
+            let in_vain = words.iter().take(DIMENSIONS).any(|side| *side > 16);
+            let call = if random.chance(1, 20) || in_vain {
                 Call::Make {
                     sizes: any_sizes(&mut random, most),
                 }
@@ -336,9 +386,9 @@ fn lists_of_calls(lab: &mut Lab) {
             // Now and then the counters come close to their limits.
             if random.chance(1, 60) && lab.try_out(&words, Call::Check) == 0 {
                 let limit = u64::from(u32::MAX) - random.below(4);
-                let room = limit.saturating_sub(words[5]);
-                words[5] += room;
-                words[6] += room;
+                let room = limit.saturating_sub(words[ACCEPTED]);
+                words[ACCEPTED] += room;
+                words[DELIVERED] += room;
                 assert_eq!(lab.try_out(&words, Call::Check), 0);
             }
         }

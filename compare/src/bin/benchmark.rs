@@ -3,12 +3,16 @@
 //! the library is not linked (see build.rs), the model stands in its place.
 
 use compare::bench::{perform, write, Bench, Call, Plain, WaveStep, WaveWriter};
-use compare::generate::{network, Fill, Shape, QUEUES};
+use compare::generate::{network, Fill, Shape};
+use compare::generate::{ACCEPTED, DELIVERED, DIMENSIONS, MOVES, QUEUES};
 use compare::random::Random;
 use std::hint::black_box;
 use std::time::{Duration, Instant};
 
-const SIDES: [u64; 3] = [4, 8, 16];
+/// X, Y and Z of the networks. What a move costs may not grow from the first to
+/// the third; the fourth is as large as the largest of two dimensions was.
+const NETWORKS: [[u64; DIMENSIONS]; 4] = [[4, 4, 4], [8, 8, 8], [16, 16, 16], FLAT];
+const FLAT: [u64; DIMENSIONS] = [16, 16, 1];
 const FILLS: [(&str, Fill); 3] = [
     ("empty", Fill::Empty),
     ("half full", Fill::Half),
@@ -23,8 +27,9 @@ const STEPS: [(&str, WaveStep, Changed); 4] = [
     ("2 changed", WaveStep::Changes, Changed::Two),
     ("all changed", WaveStep::Changes, Changed::All),
 ];
-/// Room for every step: the largest has two lines for each of 2,304 queues.
-const PAGE: usize = 130_000;
+/// Room for every step: the largest has two lines for each of 53,248 queues,
+/// with at most 32 and 12 bytes.
+const PAGE: usize = 120 + 44 * 4096 * QUEUES;
 
 /// A move changes two fills, unless it delivers.
 #[derive(Clone, Copy)]
@@ -35,55 +40,91 @@ enum Changed {
 }
 
 /// Enough samples for a median, and then enough time for a steady one.
-const FEWEST: usize = 5;
+const FEWEST: usize = 7;
 const MOST: usize = 2001;
 const ENOUGH: Duration = Duration::from_millis(400);
-/// A call that takes longer than this in all is not sampled any further.
-const TOO_LONG: Duration = Duration::from_secs(6);
+/// What takes longer than this in all is not sampled any further.
+const TOO_LONG: Duration = Duration::from_secs(60);
+/// Moves of drains that are timed together, at least.
+const MOVES_A_SAMPLE: u64 = 200_000;
+/// Networks of more nodes are not emptied by a search from node 0 before every
+/// move: that takes minutes.
+const MOST_TO_SEARCH: u64 = 256;
 
-/// A network of that many nodes a side, with capacities of 8 slots.
-fn network_of(side: u64, fill: Fill) -> Vec<u64> {
-    let shape = Shape::new(side, side, 8, 8, 8);
-    let mut words = network(&mut Random::new(side), &shape, fill);
-    // Counters that never get in the way.
-    words[5] -= words[6];
-    words[6] = 0;
-    words[7] = 0;
-    words
+/// A network to measure calls on, with capacities of 8 slots.
+struct Case {
+    shape: Shape,
+    fill: &'static str,
+    words: Vec<u64>,
 }
 
-/// The call to time: the Move is the one that First names.
-fn call_by_name(name: &str, words: &[u64]) -> Call {
-    let (_, [_, node, queue, output]) = Plain { simple: false }.first(words);
-    match name {
-        "Check" => Call::Check,
-        "Move" => Call::Move {
-            node,
-            queue,
-            output,
-        },
-        "Offer" => Call::Offer {
-            node: 0,
-            destination: words[0] * words[1] / 2 + 1,
-            tag: 7,
-        },
-        "First" => Call::First,
-        _ => Call::Drain {
-            budget: u32::MAX,
-            ledger: words.len(),
-        },
+impl Case {
+    fn new(sides: [u64; DIMENSIONS], (name, fill): (&'static str, Fill)) -> Case {
+        let shape = Shape::of(sides, [8, 8, 8]);
+        let mut words = network(&mut Random::new(sides[0]), &shape, fill);
+        // Counters that never get in the way.
+        words[ACCEPTED] -= words[DELIVERED];
+        words[DELIVERED] = 0;
+        words[MOVES] = 0;
+        Case {
+            shape,
+            fill: name,
+            words,
+        }
+    }
+
+    /// Every network with every fill.
+    fn all() -> Vec<Case> {
+        let sides = NETWORKS.into_iter();
+        sides
+            .flat_map(|sides| FILLS.map(|fill| Case::new(sides, fill)))
+            .collect()
+    }
+
+    /// The sides as a table shows them.
+    fn nodes(&self) -> String {
+        self.shape.sides.map(|side| side.to_string()).join(" × ")
+    }
+
+    fn is_emptied_by(&self, bench: &dyn Bench) -> bool {
+        !bench.searches_from_node_0() || self.shape.nodes() <= MOST_TO_SEARCH
+    }
+
+    /// The call to time: the Move is the one that First names.
+    fn call(&self, name: &str) -> Call {
+        let (_, [_, node, queue, output]) = Plain { simple: false }.first(&self.words);
+        match name {
+            "Check" => Call::Check,
+            "Move" => Call::Move {
+                node,
+                queue,
+                output,
+            },
+            "Offer" => Call::Offer {
+                node: 0,
+                destination: self.shape.nodes() / 2 + 1,
+                tag: 7,
+            },
+            "First" => Call::First,
+            _ => Call::Drain {
+                budget: u32::MAX,
+                ledger: self.words.len(),
+            },
+        }
     }
 }
 
 /// Times one call on a fresh copy of the words.
-fn sample(bench: &dyn Bench, call: Call, words: &[u64], store: &mut [u64]) -> (Duration, u64) {
+fn sample(
+    bench: &dyn Bench,
+    call: Call,
+    words: &[u64],
+    store: &mut [u64],
+    ledger: &mut [u64],
+) -> (Duration, u64) {
     store.copy_from_slice(words);
-    let mut ledger = match call {
-        Call::Drain { ledger, .. } => vec![0; ledger],
-        _ => Vec::new(),
-    };
     let start = Instant::now();
-    let answer = perform(black_box(bench), black_box(call), store, &mut ledger);
+    let answer = perform(black_box(bench), black_box(call), store, ledger);
     let time = start.elapsed();
     (time, black_box(answer).refusal)
 }
@@ -127,8 +168,12 @@ fn in_turns(many: usize, mut sample: impl FnMut(usize) -> (Duration, u64)) -> Me
 /// Measures a call on several implementations.
 fn measure(benches: &[&dyn Bench], call: Call, words: &[u64]) -> Measured {
     let mut store = words.to_vec();
+    let mut ledger = match call {
+        Call::Drain { ledger, .. } => vec![0; ledger],
+        _ => Vec::new(),
+    };
     in_turns(benches.len(), |index| {
-        sample(benches[index], call, words, &mut store)
+        sample(benches[index], call, words, &mut store, &mut ledger)
     })
 }
 
@@ -162,6 +207,11 @@ fn shown(time: Duration) -> String {
     }
 }
 
+/// A part of a time that may be less than a nanosecond.
+fn shown_part(time: Duration, parts: u64) -> String {
+    format!("{:.1} ns", time.as_secs_f64() * 1e9 / parts as f64)
+}
+
 fn ratio(a: Duration, b: Duration) -> f64 {
     a.as_secs_f64() / b.as_secs_f64()
 }
@@ -180,40 +230,80 @@ fn main() {
     let plain = Plain { simple: false };
     let simple = Plain { simple: true };
     let other = other();
-    let name = other.name();
+    let cases = Case::all();
+    let flat = calls(&[&plain, &other], &cases);
+    times_a_node(&[&plain, &other], &flat);
+    drained_moves(&[&plain, &simple, &other], &cases);
+    steps(&[&plain, &other], &cases);
+}
+
+/// The calls. Gives the times on the flat network of those that do not go from
+/// move to move, each with what was called and with how full it was.
+fn calls(benches: &[&dyn Bench], cases: &[Case]) -> Vec<(String, Vec<Duration>)> {
+    let name = benches[1].name();
     println!("Medians of calls on networks with 8 slots in every queue. The ratio is");
     println!("{name} to plain. A number in brackets is the refusal that was the answer.\n");
     println!("| Call | Nodes | Fill | plain | {name} | ratio | samples |");
     println!("|---|---|---|---|---|---|---|");
+    let mut flat = Vec::new();
     for call_name in CALLS {
-        for side in SIDES {
-            for (fill_name, fill) in FILLS {
-                let words = network_of(side, fill);
-                let call = call_by_name(call_name, &words);
-                let measured = measure(&[&plain, &other], call, &words);
-                let refused = match measured.refusal {
-                    0 => String::new(),
-                    number => format!(" ({number})"),
-                };
-                let (a, b) = (measured.times[0], measured.times[1]);
-                println!(
-                    "| {call_name}{refused} | {side} × {side} | {fill_name} | {} | {} | {:.2} | {} |",
-                    shown(a),
-                    shown(b),
-                    ratio(b, a),
-                    measured.samples
-                );
+        for case in cases {
+            if call_name == "Drain" && !case.is_emptied_by(benches[1]) {
+                continue;
+            }
+            let measured = measure(benches, case.call(call_name), &case.words);
+            let refused = match measured.refusal {
+                0 => String::new(),
+                number => format!(" ({number})"),
+            };
+            let (a, b) = (measured.times[0], measured.times[1]);
+            println!(
+                "| {call_name}{refused} | {} | {} | {} | {} | {:.2} | {} |",
+                case.nodes(),
+                case.fill,
+                shown(a),
+                shown(b),
+                ratio(b, a),
+                measured.samples
+            );
+            if case.shape.sides == FLAT && call_name != "Drain" {
+                let what = format!("{call_name}{refused} | {}", case.fill);
+                flat.push((what, measured.times));
             }
         }
     }
-    drained_moves(&[&plain, &simple, &other]);
-    steps(&[&plain, &other]);
+    flat
+}
+
+/// The times on the flat network, node by node, to be held against those of
+/// two dimensions.
+fn times_a_node(benches: &[&dyn Bench], flat: &[(String, Vec<Duration>)]) {
+    let [plain, other] = [benches[0], benches[1]].map(|bench| bench.name());
+    let [x, y, z] = FLAT;
+    let nodes = x * y * z;
+    println!("\nThe calls on {x} × {y} × {z} again: the time for one of its {nodes} nodes, and");
+    println!("for one of the {QUEUES} queues of a node. A network of {x} × {y} in two dimensions");
+    println!("had as many nodes, with 9 queues each.\n");
+    println!(
+        "| Call | Fill | {plain}, a node | {other}, a node | {plain}, a queue | {other}, a queue |"
+    );
+    println!("|---|---|---|---|---|---|");
+    for (what, times) in flat {
+        let queues = nodes * QUEUES as u64;
+        println!(
+            "| {what} | {} | {} | {} | {} |",
+            shown_part(times[0], nodes),
+            shown_part(times[1], nodes),
+            shown_part(times[0], queues),
+            shown_part(times[1], queues),
+        );
+    }
 }
 
 /// The fills that the step before told: those of the words now, but for some.
-fn told_before(words: &[u64], changed: Changed) -> Vec<u8> {
-    let mut fills = vec![0; (words[0] * words[1]) as usize * QUEUES];
-    let (refusal, _) = Plain { simple: false }.write_header(words, &mut fills, &mut [0; PAGE]);
+fn told_before(case: &Case, changed: Changed, page: &mut [u8]) -> Vec<u8> {
+    let mut fills = vec![0; case.shape.queues()];
+    let (refusal, _) = Plain { simple: false }.write_header(&case.words, &mut fills, page);
     assert_eq!(refusal, 0);
     let middle = fills.len() / 2;
     match changed {
@@ -225,58 +315,93 @@ fn told_before(words: &[u64], changed: Changed) -> Vec<u8> {
 }
 
 /// The steps of the waveform.
-fn steps(writers: &[&dyn WaveWriter]) {
+fn steps(writers: &[&dyn WaveWriter], cases: &[Case]) {
     let [plain, other] = [writers[0], writers[1]].map(|writer| writer.name());
     println!("\nSteps of the waveform: medians of calls that write one.\n");
     println!("| Step | Nodes | Fill | Bytes | {plain} | {other} | ratio | samples |");
     println!("|---|---|---|---|---|---|---|---|");
     for (step_name, step, changed) in STEPS {
-        for side in SIDES {
-            for (fill_name, fill) in FILLS {
-                let words = network_of(side, fill);
-                let told = told_before(&words, changed);
-                let (mut fills, mut page) = (told.clone(), vec![0; PAGE]);
-                let answer = write(writers[0], step, &words, &mut fills, &mut page);
-                let measured = measure_step(writers, step, &words, &told);
-                assert_eq!((answer.refusal, measured.refusal), (0, 0));
-                let (a, b) = (measured.times[0], measured.times[1]);
-                println!(
-                    "| {step_name} | {side} × {side} | {fill_name} | {} | {} | {} | {:.2} | {} |",
-                    answer.out[0],
-                    shown(a),
-                    shown(b),
-                    ratio(b, a),
-                    measured.samples
-                );
-            }
+        for case in cases {
+            let mut page = vec![0; PAGE];
+            let told = told_before(case, changed, &mut page);
+            let answer = write(writers[0], step, &case.words, &mut told.clone(), &mut page);
+            let measured = measure_step(writers, step, &case.words, &told);
+            assert_eq!((answer.refusal, measured.refusal), (0, 0));
+            let (a, b) = (measured.times[0], measured.times[1]);
+            println!(
+                "| {step_name} | {} | {} | {} | {} | {} | {:.2} | {} |",
+                case.nodes(),
+                case.fill,
+                answer.out[0],
+                shown(a),
+                shown(b),
+                ratio(b, a),
+                measured.samples
+            );
         }
     }
 }
 
-/// The cost of one drained move in small and large networks, all full.
-fn drained_moves(benches: &[&dyn Bench]) {
-    println!("\nOne move of a drain that empties a full network.\n");
-    println!("| Drain | Nodes | Moves | Whole drain | One move | to plain | to its own 4 × 4 | samples |");
+/// A full network to be emptied by one of the implementations.
+struct Emptying<'a> {
+    bench: &'a dyn Bench,
+    case: &'a Case,
+    moves: u64,
+}
+
+impl Emptying<'_> {
+    /// The time of one drain. Where it makes few moves it is made several times.
+    fn sample(&self) -> Duration {
+        let (call, words) = (self.case.call("Drain"), &self.case.words);
+        let (mut store, mut ledger) = (words.clone(), words.clone());
+        let times = (MOVES_A_SAMPLE / self.moves).max(1) as u32;
+        let drains = (0..times).map(|_| sample(self.bench, call, words, &mut store, &mut ledger));
+        drains.map(|(time, _)| time).sum::<Duration>() / times
+    }
+}
+
+/// Every full network with every implementation that empties it.
+fn emptyings<'a>(benches: &[&'a dyn Bench], cases: &'a [Case]) -> Vec<Emptying<'a>> {
+    let mut list = Vec::new();
+    for case in cases.iter().filter(|case| case.fill == "full") {
+        let (mut store, mut ledger) = (case.words.clone(), case.words.clone());
+        let (_, [moves, ..]) = benches[0].drain(&mut store, u32::MAX, &mut ledger);
+        let able = benches.iter().filter(|bench| case.is_emptied_by(**bench));
+        list.extend(able.map(|bench| Emptying {
+            bench: *bench,
+            case,
+            moves,
+        }));
+    }
+    list
+}
+
+/// The cost of one drained move in small and large networks, all full. They are
+/// all measured in turns, so that networks too can be compared.
+fn drained_moves(benches: &[&dyn Bench], cases: &[Case]) {
+    println!("\nOne move of a drain that empties a full network, all of them in turns. Wanted");
+    println!("is at most 2 in the last column but one, for 16 × 16 × 16. A drain that");
+    println!("searches from node 0 before every move is left out of networks with more than");
+    println!("{MOST_TO_SEARCH} nodes.\n");
+    println!("| Drain | Nodes | Moves | Whole drain | One move | to plain | to its own 4 × 4 × 4 | samples |");
     println!("|---|---|---|---|---|---|---|---|");
-    let mut smallest: Vec<Duration> = Vec::new();
-    for side in SIDES {
-        let words = network_of(side, Fill::Full);
-        let call = call_by_name("Drain", &words);
-        let (_, [moves, ..]) = benches[0].drain(&mut words.clone(), u32::MAX, &mut words.clone());
-        let Measured { times, samples, .. } = measure(benches, call, &words);
-        let one_move: Vec<Duration> = times.iter().map(|t| *t / moves as u32).collect();
-        if smallest.is_empty() {
-            smallest = one_move.clone();
-        }
-        for (index, bench) in benches.iter().enumerate() {
-            println!(
-                "| {} | {side} × {side} | {moves} | {} | {} | {:.2} | {:.2} | {samples} |",
-                bench.name(),
-                shown(times[index]),
-                shown(one_move[index]),
-                ratio(times[index], times[0]),
-                ratio(one_move[index], smallest[index]),
-            );
-        }
+    let list = emptyings(benches, cases);
+    let Measured { times, samples, .. } = in_turns(list.len(), |index| (list[index].sample(), 0));
+    let one_move = |index: usize| times[index] / list[index].moves as u32;
+    for (index, Emptying { bench, case, moves }) in list.iter().enumerate() {
+        // Plain is the first in each network, and each is first in the smallest.
+        let in_plain = list.iter().position(|e| e.case.nodes() == case.nodes());
+        let in_smallest = list.iter().position(|e| e.bench.name() == bench.name());
+        let [to_plain, to_smallest] = [in_plain, in_smallest].map(|first| {
+            let first = first.expect("it is in the list itself");
+            ratio(one_move(index), one_move(first))
+        });
+        println!(
+            "| {} | {} | {moves} | {} | {} | {to_plain:.2} | {to_smallest:.2} | {samples} |",
+            bench.name(),
+            case.nodes(),
+            shown(times[index]),
+            shown(one_move(index)),
+        );
     }
 }

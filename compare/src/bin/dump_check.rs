@@ -13,7 +13,7 @@ use compare::model::network::QUEUES;
 use std::collections::{BTreeMap, BTreeSet};
 use std::{env, fs, process};
 
-const MOST_NODES: usize = 256;
+const MOST_NODES: usize = 4096;
 
 /// What a step tells: its time stamp, and the fills after it.
 #[derive(Clone, Debug, PartialEq, Eq)]

@@ -32,7 +32,7 @@ struct Replay {
     /// The number of the network that the store holds; 0 before the first T.
     network: u64,
     nodes: u64,
-    /// Counted here, not read from word 7.
+    /// Counted here, not read from the header.
     moves: u64,
     told: String,
 }
@@ -60,11 +60,11 @@ impl Replay {
         }
     }
 
-    fn make(&mut self, sizes: [u64; 5]) {
+    fn make(&mut self, sizes: [u64; 6]) {
         if self.bench.make(&mut self.store, sizes) == 0 {
-            let [x, y, ..] = sizes;
+            let [x, y, z, ..] = sizes;
             self.network += 1;
-            self.nodes = x * y;
+            self.nodes = x * y * z;
             self.moves = 0;
             self.tell();
         }

@@ -2,16 +2,22 @@
 
 use std::cmp::Ordering;
 
-/// A two-dimensional torus. Dimension 0 is x (columns), dimension 1 is y (rows).
-pub const DIMENSIONS: usize = 2;
+/// A torus in three dimensions: 0 is x, 1 is y and 2 is z.
+pub const DIMENSIONS: usize = 3;
 
 /// One direction of travel, by its place in the order of R33.
 #[derive(Clone, Copy, Debug, PartialEq, Eq)]
 pub struct Direction(u8);
 
-/// The four directions in that order: x+, x-, y+, y-.
-pub const DIRECTIONS: [Direction; 2 * DIMENSIONS] =
-    [Direction(0), Direction(1), Direction(2), Direction(3)];
+/// The directions in that order: x+, x-, y+, y-, z+, z-.
+pub const DIRECTIONS: [Direction; 2 * DIMENSIONS] = [
+    Direction(0),
+    Direction(1),
+    Direction(2),
+    Direction(3),
+    Direction(4),
+    Direction(5),
+];
 
 impl Direction {
     pub fn along(dimension: usize, plus: bool) -> Direction {
@@ -39,7 +45,7 @@ impl Direction {
     }
 }
 
-/// The number of columns and the number of rows.
+/// How many nodes there are along each dimension: X, Y and Z.
 #[derive(Clone, Copy, Debug, PartialEq, Eq)]
 pub struct Torus {
     pub sizes: [usize; DIMENSIONS],
@@ -50,13 +56,30 @@ impl Torus {
         self.sizes.iter().product()
     }
 
-    /// Column and row of a node: n = y × X + x.
+    /// The coordinates of a node: n = (z × Y + y) × X + x.
     pub fn place(&self, node: usize) -> [usize; DIMENSIONS] {
-        [node % self.sizes[0], node / self.sizes[0]]
+        let mut rest = node;
+        self.sizes.map(|size| {
+            let coordinate = rest % size;
+            rest /= size;
+            coordinate
+        })
     }
 
+    /// The node at these coordinates, by the same formula from its inside out.
     pub fn node_at(&self, place: [usize; DIMENSIONS]) -> usize {
-        place[1] * self.sizes[0] + place[0]
+        let mut node = 0;
+        for d in (0..DIMENSIONS).rev() {
+            node = node * self.sizes[d] + place[d];
+        }
+        node
+    }
+
+    /// The coordinates of every node, by rising number: x runs fastest.
+    pub fn places(&self) -> impl Iterator<Item = [usize; DIMENSIONS]> {
+        let [x, y, z] = self.sizes;
+        let rows = (0..z).flat_map(move |z| (0..y).map(move |y| (y, z)));
+        rows.flat_map(move |(y, z)| (0..x).map(move |x| [x, y, z]))
     }
 
     /// The node that is reached from `node` by these offsets, round the torus.
@@ -71,6 +94,21 @@ impl Torus {
 
     pub fn neighbour(&self, node: usize, direction: Direction) -> usize {
         self.moved(node, direction.hop())
+    }
+
+    /// The nodes of every ring along a dimension, ring by ring: those that
+    /// differ in this coordinate alone.
+    pub fn rings(&self, dimension: usize) -> impl Iterator<Item = Vec<usize>> + '_ {
+        let starts = self.places().filter(move |place| place[dimension] == 0);
+        starts.map(move |mut place| {
+            let round = 0..self.sizes[dimension];
+            round
+                .map(|coordinate| {
+                    place[dimension] = coordinate;
+                    self.node_at(place)
+                })
+                .collect()
+        })
     }
 
     /// The offsets that a packet gets at its offer: in each dimension the

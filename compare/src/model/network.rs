@@ -3,7 +3,9 @@
 
 use super::geometry::{Direction, Torus, DIMENSIONS, DIRECTIONS};
 use super::Refusal;
+use std::cell::OnceCell;
 use std::collections::VecDeque;
+use std::iter;
 
 /// A packet on its way. The offsets are the hops left, positive for plus.
 #[derive(Clone, Debug, PartialEq, Eq)]
@@ -41,7 +43,7 @@ impl Packet {
     }
 }
 
-/// What a queue is for. The numbers 0 to 8 are those of R32 to R34.
+/// What a queue is for. The numbers 0 to 12 are those of R32 to R34.
 #[derive(Clone, Copy, Debug, PartialEq, Eq)]
 pub enum Kind {
     Injection,
@@ -105,21 +107,19 @@ impl Output {
 }
 
 /// The routes of a head that stands in a queue of this kind, in the order of
-/// the paper's selection function.
-pub fn routes(kind: Kind, head: &Packet) -> impl Iterator<Item = Output> {
+/// the paper's selection function: adaptive along the incoming dimension, then
+/// along the others, and last the escape of the first dimension with hops left.
+/// A head that has none left is delivered.
+pub fn routes(kind: Kind, head: &Packet) -> impl Iterator<Item = Output> + '_ {
     // The injection queue has no incoming dimension; x counts as such.
     let incoming = kind.direction().map_or(0, Direction::dimension);
-    let other = 1 - incoming;
-    let escape = head.wants(0).or(head.wants(1));
-    let list = match escape {
-        None => [Some(Output::Delivery), None, None],
-        Some(escape) => [
-            head.wants(incoming).map(Output::Adaptive),
-            head.wants(other).map(Output::Adaptive),
-            Some(Output::Escape(escape)),
-        ],
-    };
-    list.into_iter().flatten()
+    let others = (0..DIMENSIONS).filter(move |dimension| *dimension != incoming);
+    let adaptive = iter::once(incoming)
+        .chain(others)
+        .filter_map(|dimension| head.wants(dimension))
+        .map(Output::Adaptive);
+    let escape = (0..DIMENSIONS).find_map(|dimension| head.wants(dimension));
+    adaptive.chain(iter::once(escape.map_or(Output::Delivery, Output::Escape)))
 }
 
 /// Slots of each kind of queue, the same at every node.
@@ -140,7 +140,7 @@ impl Capacities {
     }
 }
 
-/// One node: its nine queues, oldest packet at the front.
+/// One node: its queues, oldest packet at the front.
 #[derive(Clone, Debug, Default, PartialEq, Eq)]
 pub struct Node {
     pub queues: [VecDeque<Packet>; QUEUES],
@@ -163,8 +163,9 @@ pub struct Network {
     pub delivered: u64,
     pub moves: u64,
     pub nodes: Vec<Node>,
-    /// The neighbours of each node in the order of `DIRECTIONS`.
-    neighbours: Vec<[usize; DIRECTIONS.len()]>,
+    /// The neighbours of each node in the order of `DIRECTIONS`, worked out when
+    /// one is first asked for.
+    neighbours: OnceCell<Vec<[usize; DIRECTIONS.len()]>>,
 }
 
 impl Network {
@@ -175,11 +176,17 @@ impl Network {
             accepted: 0,
             delivered: 0,
             moves: 0,
-            nodes: vec![Node::default(); torus.nodes()],
-            neighbours: (0..torus.nodes())
-                .map(|node| DIRECTIONS.map(|direction| torus.neighbour(node, direction)))
+            nodes: iter::repeat_with(Node::default)
+                .take(torus.nodes())
                 .collect(),
+            neighbours: OnceCell::new(),
         }
+    }
+
+    fn neighbour(&self, node: usize, direction: Direction) -> usize {
+        let of_node = |node| DIRECTIONS.map(|direction| self.torus.neighbour(node, direction));
+        let all = || (0..self.torus.nodes()).map(of_node).collect();
+        self.neighbours.get_or_init(all)[node][direction.index()]
     }
 
     /// Every packet with its node and the kind of its queue.
@@ -198,11 +205,10 @@ impl Network {
 
     /// The queue that an output leads to: at the neighbour in its direction.
     pub fn target(&self, node: usize, output: Output) -> Option<(usize, Kind)> {
-        let neighbour = |direction: Direction| self.neighbours[node][direction.index()];
         match output {
             Output::Delivery => None,
-            Output::Adaptive(d) => Some((neighbour(d), Kind::Adaptive(d))),
-            Output::Escape(d) => Some((neighbour(d), Kind::Escape(d))),
+            Output::Adaptive(d) => Some((self.neighbour(node, d), Kind::Adaptive(d))),
+            Output::Escape(d) => Some((self.neighbour(node, d), Kind::Escape(d))),
         }
     }
 

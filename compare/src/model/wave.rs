@@ -7,8 +7,9 @@ use super::network::{Network, QUEUES};
 use super::words::decode;
 use super::Refusal;
 
-/// The variables of the largest network: a network has at most 256 nodes.
-const MOST_VARIABLES: usize = 256 * QUEUES;
+/// The variables of the largest network: a network has at most 16 nodes along
+/// each of its three dimensions.
+const MOST_VARIABLES: usize = 16 * 16 * 16 * QUEUES;
 
 /// The packets held by every queue, by node and queue.
 fn fills_of(network: &Network) -> Vec<u8> {

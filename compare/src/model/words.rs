@@ -5,14 +5,14 @@ use super::geometry::{Torus, DIMENSIONS, DIRECTIONS};
 use super::network::{Capacities, Kind, Network, Packet, QUEUES};
 use super::Refusal;
 
-/// X, Y, E, A, J, accepted, delivered, moves made.
-pub const HEADER: usize = 8;
+/// X, Y, Z, E, A, J, accepted, delivered, moves made.
+pub const HEADER: usize = 9;
 
 const MOST_NODES_A_SIDE: u64 = 16;
 const MOST_SLOTS: u64 = 8;
 const MOST_ACCEPTED: u64 = u32::MAX as u64;
-/// The longest way: eight hops in x, eight in y, and the delivery.
-const MOST_WORK: u128 = 17;
+/// The longest way: eight hops in each dimension, and the delivery.
+const MOST_WORK: u128 = 25;
 
 /// The sizes of a network, known to be in range.
 #[derive(Clone, Copy, Debug, PartialEq, Eq)]
@@ -22,10 +22,10 @@ pub struct Sizes {
 }
 
 impl Sizes {
-    pub fn new(x: u64, y: u64, e: u64, a: u64, j: u64) -> Result<Sizes, Refusal> {
-        let sides = 1..=MOST_NODES_A_SIDE;
-        let in_range = sides.contains(&x)
-            && sides.contains(&y)
+    /// From X, Y, Z, E, A, J, as the header and Make have them.
+    pub fn new([x, y, z, e, a, j]: [u64; 6]) -> Result<Sizes, Refusal> {
+        let sides = [x, y, z];
+        let in_range = sides.iter().all(|s| (1..=MOST_NODES_A_SIDE).contains(s))
             && (2..=MOST_SLOTS).contains(&e)
             && (1..=MOST_SLOTS).contains(&a)
             && (1..=MOST_SLOTS).contains(&j);
@@ -34,7 +34,7 @@ impl Sizes {
         }
         Ok(Sizes {
             torus: Torus {
-                sizes: [x as usize, y as usize],
+                sizes: sides.map(|side| side as usize),
             },
             capacities: Capacities {
                 escape: e as usize,
@@ -65,37 +65,61 @@ impl Sizes {
     }
 }
 
-fn packet_from_word(word: u64) -> Packet {
-    let signed = |byte: u64| byte as u8 as i8 as i32;
-    Packet {
+/// An offset has five bits, in two's complement.
+const OFFSET_VALUES: u64 = 32;
+
+/// What the offset of each dimension is multiplied by in a packet word.
+const OFFSET_UNITS: [u64; DIMENSIONS] = [1 << 10, 1 << 5, 1];
+
+/// Bit 15, between the destination and the offsets. No packet has it.
+const NO_PART_OF_A_PACKET: u64 = 1 << 15;
+
+fn packet_from_word(word: u64) -> Option<Packet> {
+    if word & NO_PART_OF_A_PACKET != 0 {
+        return None;
+    }
+    let offsets = OFFSET_UNITS.map(|unit| {
+        let field = (word / unit % OFFSET_VALUES) as i32;
+        let values = OFFSET_VALUES as i32;
+        // The upper half of the values stands for numbers below 0.
+        if field < values / 2 {
+            field
+        } else {
+            field - values
+        }
+    });
+    Some(Packet {
         tag: (word >> 32) as u32,
         destination: (word >> 16) as u16 as usize,
-        offsets: [signed(word >> 8), signed(word)],
-    }
+        offsets,
+    })
 }
 
 pub fn packet_to_word(packet: &Packet) -> u64 {
-    let byte = |offset: i32| offset.rem_euclid(256) as u64;
+    let field = |offset: i32| offset.rem_euclid(OFFSET_VALUES as i32) as u64;
+    let fields = packet.offsets.iter().zip(OFFSET_UNITS);
     ((packet.tag as u64) << 32)
         + ((packet.destination as u64) << 16)
-        + (byte(packet.offsets[0]) << 8)
-        + byte(packet.offsets[1])
+        + fields
+            .map(|(offset, unit)| field(*offset) * unit)
+            .sum::<u64>()
 }
 
 /// Reads any words as a network, or says what they lack: 1, 2, 1, 3.
 pub fn decode(words: &[u64]) -> Result<Network, Refusal> {
-    if words.len() < HEADER {
+    let Some((header, nodes)) = words.split_first_chunk::<HEADER>() else {
         return Err(Refusal::ShortStore);
-    }
-    let sizes = Sizes::new(words[0], words[1], words[2], words[3], words[4])?;
+    };
+    let [x, y, z, e, a, j, accepted, delivered, moves] = *header;
+    let sizes = Sizes::new([x, y, z, e, a, j])?;
     if words.len() < sizes.need() {
         return Err(Refusal::ShortStore);
     }
     let mut network = Network::empty(sizes.torus, sizes.capacities);
-    network.accepted = words[5];
-    network.delivered = words[6];
-    network.moves = words[7];
-    let mut rest = words[HEADER..].iter().copied();
+    network.accepted = accepted;
+    network.delivered = delivered;
+    network.moves = moves;
+    let mut rest = nodes.iter().copied();
     let mut next = || rest.next().expect("the store was measured");
     for node in &mut network.nodes {
         for (queue, packets) in node.queues.iter_mut().enumerate() {
@@ -107,7 +131,8 @@ pub fn decode(words: &[u64]) -> Result<Network, Refusal> {
             for slot in 0..capacity {
                 let word = next();
                 if (slot as u64) < held {
-                    packets.push_back(packet_from_word(word));
+                    let packet = packet_from_word(word).ok_or(Refusal::NoNetwork)?;
+                    packets.push_back(packet);
                 } else if word != 0 {
                     return Err(Refusal::NoNetwork);
                 }
@@ -126,16 +151,15 @@ pub fn encode(network: &Network, words: &mut [u64]) {
     let Network {
         torus, capacities, ..
     } = *network;
-    let mut list = vec![
-        torus.sizes[0] as u64,
-        torus.sizes[1] as u64,
+    let mut list: Vec<u64> = torus.sizes.iter().map(|size| *size as u64).collect();
+    list.extend([
         capacities.escape as u64,
         capacities.adaptive as u64,
         capacities.injection as u64,
         network.accepted,
         network.delivered,
         network.moves,
-    ];
+    ]);
     for node in &network.nodes {
         for (queue, packets) in node.queues.iter().enumerate() {
             let end = list.len() + 1 + capacities.of(Kind::of(queue));
@@ -170,7 +194,8 @@ fn is_well_placed(torus: &Torus, node: usize, kind: Kind, packet: &Packet) -> bo
         Some(direction) if direction.is_plus() => packet.offsets[direction.dimension()] >= 0,
         Some(direction) => packet.offsets[direction.dimension()] <= 0,
     };
-    // In a y escape queue nothing is left to do in x.
+    // In a y escape queue nothing is left to do in x, in a z one neither in x
+    // nor in y.
     let in_order = match kind {
         Kind::Escape(direction) => packet.offsets[..direction.dimension()]
             .iter()
@@ -186,14 +211,9 @@ fn is_well_placed(torus: &Torus, node: usize, kind: Kind, packet: &Packet) -> bo
 
 fn every_ring_has_a_free_slot(network: &Network) -> bool {
     DIRECTIONS.iter().all(|direction| {
-        let kind = Kind::Escape(*direction);
-        // A ring is named by the coordinate that stays the same along it.
-        let fixed = 1 - direction.dimension();
-        (0..network.torus.sizes[fixed]).all(|line| {
-            (0..network.torus.nodes())
-                .filter(|node| network.torus.place(*node)[fixed] == line)
-                .any(|node| network.free_slots(node, kind) > 0)
-        })
+        let has_room = |node: &usize| network.free_slots(*node, Kind::Escape(*direction)) > 0;
+        let mut rings = network.torus.rings(direction.dimension());
+        rings.all(|ring| ring.iter().any(has_room))
     })
 }
 

@@ -1,8 +1,10 @@
 //! Drain, twice: with a search from node 0 before every move, and with a set
 //! of the heads that may have a permitted move.
 
-use super::first::{Map, Step};
-use super::{carry_out, open, MAX_NODES, QUEUES};
+use super::check::open;
+use super::first::{permitted, search, Step};
+use super::{carry_out, direction_of, Layout, DIRECTIONS, MAX_NODES, QUEUES};
+use std::array;
 
 const EMPTIED: u64 = 0;
 const SPENT: u64 = 1;
@@ -12,6 +14,7 @@ const FULL: u64 = 2;
 pub fn drain_simple(words: &mut [u64], budget: u32, ledger: &mut [u64]) -> (u64, [u64; 3]) {
     match open(words) {
         Err(refusal) => (refusal, [0; 3]),
+        Ok((_, 0)) => (0, [0, 0, EMPTIED]),
         Ok((layout, held)) => {
             let map = Map::new(layout);
             (0, run(words, &map, held, budget, ledger, FromNodeZero))
@@ -24,11 +27,47 @@ pub fn drain_simple(words: &mut [u64], budget: u32, ledger: &mut [u64]) -> (u64,
 pub fn drain(words: &mut [u64], budget: u32, ledger: &mut [u64]) -> (u64, [u64; 3]) {
     match open(words) {
         Err(refusal) => (refusal, [0; 3]),
+        Ok((_, 0)) => (0, [0, 0, EMPTIED]),
         Ok((layout, held)) => {
             let candidates = Candidates::all(layout.nodes());
             let map = Map::new(layout);
             (0, run(words, &map, held, budget, ledger, candidates))
         }
+    }
+}
+
+/// A network's layout and the neighbours of each node, so that a drain does
+/// not divide.
+struct Map {
+    layout: Layout,
+    neighbours: [[u16; DIRECTIONS]; MAX_NODES],
+}
+
+impl Map {
+    fn new(layout: Layout) -> Map {
+        let mut neighbours = [[0; DIRECTIONS]; MAX_NODES];
+        let mut node = 0;
+        for z in 0..layout.side[2] {
+            for y in 0..layout.side[1] {
+                for x in 0..layout.side[0] {
+                    let place = [x, y, z];
+                    neighbours[node] = array::from_fn(|direction| {
+                        layout.next_to(node, place[direction / 2], direction) as u16
+                    });
+                    node += 1;
+                }
+            }
+        }
+        Map { layout, neighbours }
+    }
+
+    fn neighbour(&self, node: usize, direction: usize) -> usize {
+        self.neighbours[node][direction] as usize
+    }
+
+    /// The node that an output from 1 on leads to.
+    fn beyond(&self, node: usize, output: usize) -> usize {
+        self.neighbour(node, direction_of(output))
     }
 }
 
@@ -89,7 +128,7 @@ struct FromNodeZero;
 
 impl Search for FromNodeZero {
     fn next(&mut self, words: &[u64], map: &Map) -> Option<Step> {
-        map.search(words)
+        search(words, &map.layout, |node, output| map.beyond(node, output))
     }
 
     fn hopped(&mut self, _: &Map, _: Step, _: usize) {}
@@ -100,7 +139,9 @@ impl Search for FromNodeZero {
 /// The heads that may have a permitted move. A head outside the set has none:
 /// it was looked at without success, and no slot it waits for became free.
 struct Candidates {
-    /// One bit for each node that has a candidate.
+    /// One bit for each group of 64 nodes that has a candidate.
+    groups: u64,
+    /// For each group one bit for each node that has a candidate.
     nodes: [u64; MAX_NODES / 64],
     /// For each node one bit for each queue.
     queues: [u16; MAX_NODES],
@@ -111,6 +152,7 @@ const ALL_QUEUES: u16 = (1 << QUEUES) - 1;
 impl Candidates {
     fn all(nodes: usize) -> Candidates {
         let mut all = Candidates {
+            groups: 0,
             nodes: [0; MAX_NODES / 64],
             queues: [0; MAX_NODES],
         };
@@ -121,15 +163,31 @@ impl Candidates {
     }
 
     fn add(&mut self, node: usize, queues: u16) {
+        self.groups |= 1 << (node / 64);
         self.nodes[node / 64] |= 1 << (node % 64);
         self.queues[node] |= queues;
     }
 
     fn remove(&mut self, node: usize, queue: usize) {
         self.queues[node] &= !(1 << queue);
-        if self.queues[node] == 0 {
-            self.nodes[node / 64] &= !(1 << (node % 64));
+        if self.queues[node] != 0 {
+            return;
         }
+        self.nodes[node / 64] &= !(1 << (node % 64));
+        if self.nodes[node / 64] == 0 {
+            self.groups &= !(1 << (node / 64));
+        }
+    }
+
+    /// The first candidate by node and queue.
+    fn lowest(&self) -> Option<(usize, usize)> {
+        if self.groups == 0 {
+            return None;
+        }
+        let group = self.groups.trailing_zeros() as usize;
+        let node = 64 * group + self.nodes[group].trailing_zeros() as usize;
+        let queue = self.queues[node].trailing_zeros() as usize;
+        Some((node, queue))
     }
 
     /// The source has a new head, and one more free slot: that slot is a
@@ -137,7 +195,7 @@ impl Candidates {
     fn left(&mut self, map: &Map, node: usize, queue: usize) {
         self.add(node, 1 << queue);
         if queue != 0 {
-            let backwards = ((queue - 1) % 4) ^ 1;
+            let backwards = direction_of(queue) ^ 1;
             self.add(map.neighbour(node, backwards), ALL_QUEUES);
         }
     }
@@ -146,10 +204,9 @@ impl Candidates {
 impl Search for Candidates {
     fn next(&mut self, words: &[u64], map: &Map) -> Option<Step> {
         loop {
-            let group = self.nodes.iter().position(|bits| *bits != 0)?;
-            let node = 64 * group + self.nodes[group].trailing_zeros() as usize;
-            let queue = self.queues[node].trailing_zeros() as usize;
-            if let Some(output) = map.permitted(words, node, queue) {
+            let (node, queue) = self.lowest()?;
+            let beyond = |node, output| map.beyond(node, output);
+            if let Some(output) = permitted(words, &map.layout, beyond, node, queue) {
                 return Some((node, queue, output));
             }
             self.remove(node, queue);

@@ -2,7 +2,8 @@
 //! worked out first, so that nothing is written if there is no room for all of
 //! it; then its bytes are put onto the page.
 
-use super::{open, Layout, HEADER, MAX_NODES, NO_ROOM, QUEUES};
+use super::check::open;
+use super::{Layout, HEADER, MAX_NODES, MOVES, NO_ROOM, QUEUES};
 
 const OPENING: &[u8] = b"$timescale 1 ns $end\n$scope module network $end\n";
 const BETWEEN: &[u8] = b"$upscope $end\n$enddefinitions $end\n";
@@ -32,9 +33,10 @@ fn value_len(variable: usize, fill: u8) -> usize {
     bits(fill) + digits(variable as u64) + 3
 }
 
-/// The bytes of a variable's line; a queue has one digit.
+/// The bytes of a variable's line.
 fn var_len(variable: usize) -> usize {
-    let numbers = digits(variable as u64) + digits((variable / QUEUES) as u64) + 1;
+    let (node, queue) = ((variable / QUEUES) as u64, (variable % QUEUES) as u64);
+    let numbers = digits(variable as u64) + digits(node) + digits(queue);
     VAR.len() + NODE.len() + QUEUE.len() + END.len() + numbers
 }
 
@@ -117,7 +119,7 @@ pub fn write_header(words: &[u64], fills: &mut [u8], page: &mut [u8]) -> (u64, [
     let mut now: Fills = [0; MAX_NODES * QUEUES];
     let now = &mut now[..variables];
     read_fills(words, &layout, now);
-    let time = words[7];
+    let time = words[MOVES];
     let mut len = OPENING.len() + BETWEEN.len() + DUMPVARS.len() + CLOSING.len() + stamp_len(time);
     for (variable, fill) in now.iter().enumerate() {
         len += var_len(variable) + value_len(variable, *fill);
@@ -154,7 +156,7 @@ pub fn write_changes(words: &[u64], fills: &mut [u8], page: &mut [u8]) -> (u64, 
     let mut now: Fills = [0; MAX_NODES * QUEUES];
     let now = &mut now[..variables];
     read_fills(words, &layout, now);
-    let time = words[7];
+    let time = words[MOVES];
     let mut len = stamp_len(time);
     for (variable, (new, old)) in now.iter().zip(&*fills).enumerate() {
         if new != old {

@@ -7,13 +7,15 @@ use compare::bench::{read, readers, write, writers, Answer, WaveReader, WaveStep
 
 const STEPS: [WaveStep; 2] = [WaveStep::Header, WaveStep::Changes];
 
-/// The fills before a call, as many as a header of 256 nodes has; a call is
-/// lent the first of these.
+/// As many variables as a header of 4,096 nodes has.
+const MOST: usize = 53_248;
+
+/// The fills before a call; a call is lent the first of these.
 fn list() -> Vec<u8> {
-    (0..2304).map(|variable| variable as u8 ^ 0x5a).collect()
+    (0..MOST).map(|variable| variable as u8 ^ 0x5a).collect()
 }
 
-/// A header of one node. Its fills are 1 to 9 at 77 moves, so that no other
+/// A header of one node. Its fills are 1 to 13 at 77 moves, so that no other
 /// number of it is as these are.
 const ONE_NODE: &str = "\
 $timescale 1 ns $end
@@ -27,6 +29,10 @@ $var wire 8 5 n0q5 $end
 $var wire 8 6 n0q6 $end
 $var wire 8 7 n0q7 $end
 $var wire 8 8 n0q8 $end
+$var wire 8 9 n0q9 $end
+$var wire 8 10 n0q10 $end
+$var wire 8 11 n0q11 $end
+$var wire 8 12 n0q12 $end
 $upscope $end
 $enddefinitions $end
 #77
@@ -40,6 +46,10 @@ b110 5
 b111 6
 b1000 7
 b1001 8
+b1010 9
+b1011 10
+b1100 11
+b1101 12
 $end
 ";
 
@@ -89,8 +99,11 @@ const NO_HEADERS: &[(&str, &str, &str)] = &[
     ("a variable twice",                   "$var wire 8 3 n0q3 $end\n",
                                            "$var wire 8 3 n0q3 $end\n$var wire 8 3 n0q3 $end\n"),
     ("a variable without a name",          "$var wire 8 3 n0q3 $end\n",   ""),
-    ("the last one without a name",        "$var wire 8 8 n0q8 $end\n",   ""),
-    ("a name without a value",             "$upscope",                    "$var wire 8 9 n1q0 $end\n$upscope"),
+    ("the last one without a name",        "$var wire 8 12 n0q12 $end\n", ""),
+    ("a node of nine queues",              "$var wire 8 9 n0q9 $end",     "$var wire 8 9 n1q0 $end"),
+    ("a leading zero in queue 10",         "n0q10",                       "n0q010"),
+    ("the queue's two digits exchanged",   "n0q12",                       "n0q21"),
+    ("a name without a value",             "$upscope",                    "$var wire 8 13 n1q0 $end\n$upscope"),
     ("no upscope",                         "$upscope $end\n",             ""),
     ("a name behind the upscope",          "$upscope $end\n",             "$upscope network $end\n"),
     ("no enddefinitions",                  "$enddefinitions $end\n",      ""),
@@ -110,10 +123,10 @@ const NO_HEADERS: &[(&str, &str, &str)] = &[
     ("an end of the dumpvars line",        "$dumpvars",                   "$dumpvars $end"),
     ("a missing value",                    "b100 3\n",                    ""),
     ("the first value is missing",         "b1 0\n",                      ""),
-    ("the last value is missing",          "b1001 8\n",                   ""),
+    ("the last value is missing",          "b1101 12\n",                  ""),
     ("a value twice",                      "b100 3\n",                    "b100 3\nb100 3\n"),
     ("two values the other way round",     "b11 2\nb100 3\n",             "b100 3\nb11 2\n"),
-    ("one value too many",                 "b1001 8\n",                   "b1001 8\nb0 9\n"),
+    ("one value too many",                 "b1101 12\n",                  "b1101 12\nb0 13\n"),
     ("an empty value",                     "b100 3",                      "b 3"),
     ("a leading zero in a value",          "b100 3",                      "b0100 3"),
     ("a value of nine bits",               "b100 3",                      "b100000000 3"),
@@ -127,12 +140,12 @@ const NO_HEADERS: &[(&str, &str, &str)] = &[
     ("a blank and no variable",            "b100 3",                      "b100 "),
     ("a value of a variable by its name",  "b100 3",                      "b100 n0q3"),
     ("a leading zero in a value's code",   "b100 3",                      "b100 03"),
-    ("no end",                             "b1001 8\n$end\n",             "b1001 8\n"),
-    ("an end without its line end",        "b1001 8\n$end\n",             "b1001 8\n$end"),
-    ("two ends",                           "b1001 8\n$end\n",             "b1001 8\n$end\n$end\n"),
-    ("a blank behind it",                  "b1001 8\n$end\n",             "b1001 8\n$end\n "),
-    ("an empty line behind it",            "b1001 8\n$end\n",             "b1001 8\n$end\n\n"),
-    ("a later step behind it",             "b1001 8\n$end\n",             "b1001 8\n$end\n#78\n"),
+    ("no end",                             "b1101 12\n$end\n",            "b1101 12\n"),
+    ("an end without its line end",        "b1101 12\n$end\n",            "b1101 12\n$end"),
+    ("two ends",                           "b1101 12\n$end\n",            "b1101 12\n$end\n$end\n"),
+    ("a blank behind it",                  "b1101 12\n$end\n",            "b1101 12\n$end\n "),
+    ("an empty line behind it",            "b1101 12\n$end\n",            "b1101 12\n$end\n\n"),
+    ("a later step behind it",             "b1101 12\n$end\n",            "b1101 12\n$end\n#78\n"),
 ];
 
 /// Texts that are no later step.
@@ -177,8 +190,8 @@ const NO_STEPS: &[(&str, &str)] = &[
     ("no variable",                        "#5\nb1 \n"),
     ("a leading zero in the variable",     "#5\nb1 00\n"),
     ("a variable and a blank",             "#5\nb1 0 \n"),
-    ("variable 2304",                      "#5\nb1 2304\n"),
-    ("variable 10000",                     "#5\nb1 10000\n"),
+    ("variable 53248",                     "#5\nb1 53248\n"),
+    ("variable 100000",                    "#5\nb1 100000\n"),
     ("cut to 16 bits it is variable 0",    "#5\nb1 65536\n"),
     ("cut to 32 bits it is variable 0",    "#5\nb1 4294967296\n"),
     ("cut to 64 bits it is variable 0",    "#5\nb1 18446744073709551616\n"),
@@ -187,7 +200,7 @@ const NO_STEPS: &[(&str, &str)] = &[
     ("variables falling",                  "#5\nb1 4\nb1 3\n"),
     ("as texts they would rise",           "#5\nb1 10\nb1 9\n"),
     ("the third one falls",                "#5\nb1 3\nb1 9\nb1 8\n"),
-    ("2304 behind others",                 "#5\nb1 3\nb1 2304\n"),
+    ("53248 behind others",                "#5\nb1 3\nb1 53248\n"),
     ("an end",                             "#5\nb1 3\n$end\n"),
     ("dumpvars",                           "#5\n$dumpvars\nb1 3\n$end\n"),
     ("a comment",                          "#5\n$comment x $end\n"),
@@ -201,7 +214,8 @@ type Good = (&'static str, &'static str, u64, u64, &'static [(usize, u8)]);
 #[rustfmt::skip]
 const GOOD: &[Good] = &[
     ("a header",                   ONE_NODE,                   1, 77, &[
-        (0, 1), (1, 2), (2, 3), (3, 4), (4, 5), (5, 6), (6, 7), (7, 8), (8, 9)]),
+        (0, 1), (1, 2), (2, 3), (3, 4), (4, 5), (5, 6), (6, 7), (7, 8), (8, 9),
+        (9, 10), (10, 11), (11, 12), (12, 13)]),
     ("nothing has changed",        "#5\n",                     0, 5, &[]),
     ("time 0",                     "#0\n",                     0, 0, &[]),
     ("time 10",                    "#10\n",                    0, 10, &[]),
@@ -210,9 +224,9 @@ const GOOD: &[Good] = &[
     ("fill 0",                     "#5\nb0 3\n",               0, 5, &[(3, 0)]),
     ("fill 255",                   "#5\nb11111111 3\n",        0, 5, &[(3, 255)]),
     ("fill 128",                   "#5\nb10000000 3\n",        0, 5, &[(3, 128)]),
-    ("variable 2303",              "#5\nb1000 2303\n",         0, 5, &[(2303, 8)]),
+    ("variable 53247",             "#5\nb1000 53247\n",        0, 5, &[(53247, 8)]),
     ("variables 9 and 10",         "#5\nb1 9\nb10 10\n",       0, 5, &[(9, 1), (10, 2)]),
-    ("variables 0 and 2303",       "#5\nb1 0\nb10 2303\n",     0, 5, &[(0, 1), (2303, 2)]),
+    ("variables 0 and 53247",      "#5\nb1 0\nb10 53247\n",    0, 5, &[(0, 1), (53247, 2)]),
 ];
 
 /// Reads the bytes into the first `room` fills of the list, and gives all of it.
@@ -240,12 +254,12 @@ fn no_steps() {
     for (what, old, new) in NO_HEADERS {
         assert_eq!(ONE_NODE.matches(old).count(), 1, "{what}: not clear where");
         let text = ONE_NODE.replace(old, new);
-        for room in [0, 9, 2304] {
+        for room in [0, 13, MOST] {
             not_read(what, &text, room, 13);
         }
     }
     for (what, text) in NO_STEPS {
-        for room in [0, 9, 2304] {
+        for room in [0, 13, MOST] {
             not_read(what, text, room, 13);
         }
     }
@@ -267,7 +281,7 @@ fn read_and_short_lists() {
             after[*variable] = *fill;
         }
         for reader in readers() {
-            for room in [need, 2304] {
+            for room in [need, MOST] {
                 let (answer, fills) = read_on(reader.as_ref(), text, room);
                 let out = [*header, *time, values.len() as u64, 0];
                 let place = format!("{what}: {} into {room} fills", reader.name());
@@ -278,15 +292,25 @@ fn read_and_short_lists() {
     }
 }
 
-/// The row has 36 queues; a packet is in the first. A variable's line has 24
-/// bytes up to variable 9 and 25 from there on, a value's line 5 and 6, and the
-/// lines round them 101: 101 + 10 * 29 + 26 * 31.
-const HEADER_LEN: usize = 1197;
+/// The row has 52 queues; a packet is in the first. A variable's line has 22
+/// bytes and the digits of the variable and of the queue: 24 for variables 0 to
+/// 9, 26 for 10 to 12, and of each of the three other nodes ten times 25 and
+/// three times 26. A value's line has 5 bytes up to variable 9 and 6 from there
+/// on, and the lines round them 101. So it is 101 + 240 + 78 + 3 * 328 for the
+/// names, and 50 + 252 for the values.
+const HEADER_LEN: usize = 1705;
+/// The row's queues.
+const VARIABLES: usize = 52;
+/// One short of these.
+const SHORT: usize = VARIABLES - 1;
 /// The step `#0`, `b1 0` behind one that told 0 of every queue.
 const CHANGES: &[u8] = b"#0\nb1 0\n";
-/// The step that tells this of every queue: 3 + 10 * 5 + 26 * 6.
-const ALL_LEN: usize = 209;
+/// The step that tells this of every queue: 3 + 10 * 5 + 42 * 6.
+const ALL_LEN: usize = 305;
 const BLANK: u8 = 0x20;
+/// The bytes of a list and of a page, some of which are lent.
+const LIST: usize = VARIABLES + 8;
+const PAGE: usize = HEADER_LEN + 8;
 
 /// What the list says before the call; `OTHER` is no fill of the row.
 const ZERO: u8 = 0;
@@ -295,24 +319,24 @@ const OTHER: u8 = 9;
 /// Rooms of the list and of the page on the row, and the number that is given.
 #[rustfmt::skip]
 const ROOMS: &[(&str, WaveStep, u8, usize, usize, u64)] = &[
-    ("header: all that it needs",    WaveStep::Header,  OTHER, 36, HEADER_LEN,      0),
-    ("header: more than it needs",   WaveStep::Header,  OTHER, 40, HEADER_LEN + 4,  0),
-    ("header: a list one short",     WaveStep::Header,  OTHER, 35, HEADER_LEN,     15),
-    ("header: no list",              WaveStep::Header,  OTHER,  0, HEADER_LEN,     15),
-    ("header: a page one short",     WaveStep::Header,  OTHER, 36, HEADER_LEN - 1, 15),
-    ("header: no page",              WaveStep::Header,  OTHER, 36, 0,              15),
-    ("header: neither",              WaveStep::Header,  OTHER,  0, 0,              15),
-    ("one change: all it needs",     WaveStep::Changes, ZERO,  36, 8,               0),
-    ("one change: more",             WaveStep::Changes, ZERO,  40, 12,              0),
-    ("one change: a list one short", WaveStep::Changes, ZERO,  35, 8,              15),
-    ("one change: no list",          WaveStep::Changes, ZERO,   0, 8,              15),
-    ("one change: a page one short", WaveStep::Changes, ZERO,  36, 7,              15),
-    ("one change: the stamp alone",  WaveStep::Changes, ZERO,  36, 3,              15),
-    ("one change: no page",          WaveStep::Changes, ZERO,  36, 0,              15),
-    ("one change: neither",          WaveStep::Changes, ZERO,   0, 0,              15),
-    ("all: all that it needs",       WaveStep::Changes, OTHER, 36, ALL_LEN,         0),
-    ("all: a list one short",        WaveStep::Changes, OTHER, 35, ALL_LEN,        15),
-    ("all: a page one short",        WaveStep::Changes, OTHER, 36, ALL_LEN - 1,    15),
+    ("header: all that it needs",    WaveStep::Header,  OTHER, VARIABLES,     HEADER_LEN,      0),
+    ("header: more than it needs",   WaveStep::Header,  OTHER, VARIABLES + 4, HEADER_LEN + 4,  0),
+    ("header: a list one short",     WaveStep::Header,  OTHER, SHORT,         HEADER_LEN,     15),
+    ("header: no list",              WaveStep::Header,  OTHER, 0,             HEADER_LEN,     15),
+    ("header: a page one short",     WaveStep::Header,  OTHER, VARIABLES,     HEADER_LEN - 1, 15),
+    ("header: no page",              WaveStep::Header,  OTHER, VARIABLES,     0,              15),
+    ("header: neither",              WaveStep::Header,  OTHER, 0,             0,              15),
+    ("one change: all it needs",     WaveStep::Changes, ZERO,  VARIABLES,     8,               0),
+    ("one change: more",             WaveStep::Changes, ZERO,  VARIABLES + 4, 12,              0),
+    ("one change: a list one short", WaveStep::Changes, ZERO,  SHORT,         8,              15),
+    ("one change: no list",          WaveStep::Changes, ZERO,  0,             8,              15),
+    ("one change: a page one short", WaveStep::Changes, ZERO,  VARIABLES,     7,              15),
+    ("one change: the stamp alone",  WaveStep::Changes, ZERO,  VARIABLES,     3,              15),
+    ("one change: no page",          WaveStep::Changes, ZERO,  VARIABLES,     0,              15),
+    ("one change: neither",          WaveStep::Changes, ZERO,  0,             0,              15),
+    ("all: all that it needs",       WaveStep::Changes, OTHER, VARIABLES,     ALL_LEN,         0),
+    ("all: a list one short",        WaveStep::Changes, OTHER, SHORT,         ALL_LEN,        15),
+    ("all: a page one short",        WaveStep::Changes, OTHER, VARIABLES,     ALL_LEN - 1,    15),
 ];
 
 /// A step of the first `len` words on the first `room` bytes of a page, with
@@ -323,9 +347,9 @@ fn written(
     (words, len): (&[u64], usize),
     (fill, told): (u8, usize),
     room: usize,
-) -> Vec<(String, Answer, [u8; 44], [u8; HEADER_LEN + 8])> {
+) -> Vec<(String, Answer, [u8; LIST], [u8; PAGE])> {
     let calls = writers().into_iter().map(|writer| {
-        let (mut list, mut page) = ([fill; 44], [BLANK; HEADER_LEN + 8]);
+        let (mut list, mut page) = ([fill; LIST], [BLANK; PAGE]);
         let lent = &words[..len];
         let answer = write(
             writer.as_ref(),
@@ -351,8 +375,8 @@ fn not_written(
         let place = format!("{what}: {name}, {step:?}, {told} fills, {room} bytes");
         assert_eq!(answer.refusal, number, "{place}: the number");
         assert_eq!(answer.out, [0; 4], "{place}: out");
-        assert_eq!(list, [fill; 44], "{place}: the list");
-        assert_eq!(page, [BLANK; HEADER_LEN + 8], "{place}: the page");
+        assert_eq!(list, [fill; LIST], "{place}: the list");
+        assert_eq!(page, [BLANK; PAGE], "{place}: the page");
     }
 }
 
@@ -372,9 +396,9 @@ fn short_lists_and_pages() {
         for (name, answer, list, page) in written(*step, (&words, LENT), (*fill, *told), *room) {
             let place = format!("{what}: {name}");
             assert_eq!((answer.refusal, answer.out[0]), (0, len as u64), "{place}");
-            let mut after = [*fill; 44];
+            let mut after = [*fill; LIST];
             after[0] = 1;
-            after[1..36].fill(0);
+            after[1..VARIABLES].fill(0);
             assert_eq!(list, after, "{place}: the list");
             assert!(page[len..].iter().all(|byte| *byte == BLANK), "{place}");
             assert_eq!(page[len - 1], b'\n', "{place}");
@@ -388,18 +412,23 @@ fn short_lists_and_pages() {
 /// The words are tested first, as Check does it: whatever room there is.
 #[test]
 fn steps_of_bad_words() {
-    let rooms = [(36, HEADER_LEN), (35, HEADER_LEN), (36, 0), (0, 0)];
+    let rooms = [
+        (VARIABLES, HEADER_LEN),
+        (SHORT, HEADER_LEN),
+        (VARIABLES, 0),
+        (0, 0),
+    ];
     for step in STEPS {
         for (told, room) in rooms {
             let refused = |what: &str, words: &[u64], len: usize, number: u64| {
                 not_written(what, step, (words, len), (OTHER, told), room, number);
             };
             let (row, ones) = (ROW.words(), [MAX; LENT]);
-            for len in [0, 1, 7] {
-                refused("less than eight words", &row, len, 1);
+            for len in [0, 1, 8] {
+                refused("less than nine words", &row, len, 1);
                 refused("1 before 2", &ones, len, 1);
             }
-            for len in [8, 9, NEED - 1] {
+            for len in [9, 10, NEED - 1] {
                 refused("less than the sizes ask for", &row, len, 1);
                 refused("2 before the second 1", &ones, len, 2);
             }

@@ -2,7 +2,7 @@
 //! fullest networks.
 
 use compare::bench::Call;
-use compare::generate::{network, Fill, Shape, FILLS};
+use compare::generate::{network, Fill, Shape, ACCEPTED, DELIVERED, FILLS, SIDES};
 use compare::lab::Lab;
 use compare::random::Random;
 
@@ -11,8 +11,8 @@ pub fn move_by_move(lab: &mut Lab) {
     let mut random = Random::new(9);
     for round in 0..250 {
         lab.place = format!("drain by moves, round {round}");
-        let most = random.pick(&[1, 2, 3, 4, 5]);
-        let shape = Shape::random(&mut random, most);
+        let most = random.pick(&[2, 2, 3]);
+        let shape = Shape::in_round(round, &mut random, most);
         let fill = random.pick(&FILLS);
         let words = network(&mut random, &shape, fill);
         for _ in 0..3 {
@@ -23,28 +23,57 @@ pub fn move_by_move(lab: &mut Lab) {
     }
 }
 
+const MOST_SLOTS: [u64; 3] = [8, 8, 8];
+const FEWEST_SLOTS: [u64; 3] = [2, 1, 1];
+
 /// Networks that are as full as the check allows, emptied.
 pub fn full(lab: &mut Lab) {
     let mut random = Random::new(10);
-    let small = [(1, 1), (2, 1), (1, 2), (2, 2), (3, 5), (4, 4), (8, 8)];
-    let large = [(16, 1), (1, 16), (5, 16), (16, 16)];
-    for (x, y) in small.into_iter().chain(large) {
-        for (e, a, j) in [(8, 8, 8), (2, 1, 1)] {
-            lab.place = format!("full drain, {x} by {y}, {e} {a} {j}");
-            let shape = Shape::new(x, y, e, a, j);
+    let long = [[16, 1, 1], [1, 16, 1], [1, 1, 16]];
+    for sides in SIDES.into_iter().chain(long) {
+        for slots in [MOST_SLOTS, FEWEST_SLOTS] {
+            lab.place = format!("full drain, {sides:?}, {slots:?}");
+            let shape = Shape::of(sides, slots);
             drain_at_once(lab, network(&mut random, &shape, Fill::Full));
-            // The largest networks once only: the search from node 0 that
-            // some drains do before every move takes seconds there.
-            if shape.need() < 10_000 {
-                let words = network(&mut random, &shape, Fill::Half);
-                drain_in_pieces(lab, &mut random, words);
-            }
-            if x * y <= 64 {
-                let words = network(&mut random, &shape, Fill::Full);
-                drain_in_pieces(lab, &mut random, words);
-                drain_at_once(lab, network(&mut random, &shape, Fill::Mixed));
-            }
+            drain_at_once(lab, network(&mut random, &shape, Fill::Mixed));
+            let words = network(&mut random, &shape, Fill::Half);
+            drain_in_pieces(lab, &mut random, words);
         }
+    }
+    // Large ones: before every move some drains search from node 0, which takes
+    // long there.
+    for sides in [[4, 4, 4], [16, 16, 1], [16, 1, 5], [1, 8, 16], [8, 6, 4]] {
+        lab.place = format!("full drain, {sides:?}");
+        let shape = Shape::of(sides, FEWEST_SLOTS);
+        drain_at_once(lab, network(&mut random, &shape, Fill::Full));
+    }
+}
+
+/// Networks of 4,096 nodes: emptied if they hold little, and else drained for
+/// a while.
+pub fn largest(lab: &mut Lab) {
+    let mut random = Random::new(16);
+    let shape = Shape::of([16; 3], FEWEST_SLOTS);
+    lab.place = "the largest, nearly empty".into();
+    drain_at_once(lab, network(&mut random, &shape, Fill::Rare));
+    for fill in [Fill::Sparse, Fill::Full] {
+        lab.place = format!("the largest, {fill:?}");
+        let mut words = network(&mut random, &shape, fill);
+        let mut drains = [(700, 700), (u32::MAX, 150), (0, 0)].into_iter();
+        lab.run(&mut words, |_| {
+            let (budget, ledger) = drains.next()?;
+            Some(Call::Drain { budget, ledger })
+        });
+    }
+}
+
+/// The fullest networks of 512 and of 4,096 nodes emptied, by those who can.
+pub fn largest_emptied(lab: &mut Lab) {
+    let mut random = Random::new(17);
+    for (sides, slots) in [([8; 3], MOST_SLOTS), ([16; 3], FEWEST_SLOTS)] {
+        lab.place = format!("{sides:?} with {slots:?} slots, emptied");
+        let shape = Shape::of(sides, slots);
+        lab.empty_a_large_one(&network(&mut random, &shape, Fill::Full));
     }
 }
 
@@ -54,13 +83,13 @@ fn drain_at_once(lab: &mut Lab, mut words: Vec<u64>) {
         ledger: words.len(),
     });
     lab.run(&mut words, |_| whole.take());
-    assert_eq!(words[5], words[6]);
+    assert_eq!(words[ACCEPTED], words[DELIVERED]);
 }
 
 /// Drains with budgets and ledgers that make them stop for every reason.
 fn drain_in_pieces(lab: &mut Lab, random: &mut Random, mut words: Vec<u64>) {
     lab.run(&mut words, |now| {
-        let held = now[5] - now[6];
+        let held = now[ACCEPTED] - now[DELIVERED];
         let (budget, ledger) = match random.below(3) {
             0 => (1 + random.below(30 + 2 * held) as u32, now.len()),
             1 => (u32::MAX, 1 + random.below(10 + held / 2) as usize),
@@ -68,5 +97,5 @@ fn drain_in_pieces(lab: &mut Lab, random: &mut Random, mut words: Vec<u64>) {
         };
         (held > 0).then_some(Call::Drain { budget, ledger })
     });
-    assert_eq!(words[5], words[6]);
+    assert_eq!(words[ACCEPTED], words[DELIVERED]);
 }

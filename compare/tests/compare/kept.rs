@@ -1,16 +1,29 @@
-//! The kept cases (R281 to R298, R361 to R364), the listing (R257) and the
-//! misreadings (R301 to R305), with the numbers that RULES gives.
+//! The kept cases (R281 to R298, R361 to R380), the listing (R257) and the
+//! misreadings (R301 to R309), with the numbers that RULES gives, and others
+//! beside them. The numbers were worked out here once more.
 
 use compare::bench::Call;
-use compare::generate::{end_node, packet_word, Shape};
+use compare::equations::label;
+use compare::generate::{along, end_node, offset_range, packet_word, way, Offsets, Shape};
+use compare::generate::{ACCEPTED, BIT_15, DIMENSIONS, DIRECTIONS, FIRST_ESCAPE, HEADER, MOVES};
+use compare::generate::{OFFSET_VALUES, QUEUES};
 use compare::lab::Lab;
 
-const K1: Shape = Shape::new(4, 3, 2, 1, 1);
-const K2: Shape = Shape::new(16, 16, 8, 8, 8);
+const K1: Shape = Shape::new(4, 3, 1, 2, 1, 1);
+const K2: Shape = Shape::new(16, 16, 1, 8, 8, 8);
+const ALONE: Shape = Shape::new(1, 1, 1, 2, 1, 1);
+const LARGEST: Shape = Shape::new(16, 16, 16, 8, 8, 8);
+/// Half-way round in every dimension, with one hop left behind it.
+const CUBE: Shape = Shape::new(4, 4, 4, 2, 1, 1);
+/// No hops left.
+const THERE: Offsets = [0; DIMENSIONS];
 
 pub fn all(lab: &mut Lab) {
-    let cases: [crate::Part; 14] = [
+    let cases: [crate::Part; 24] = [
         ("K1 and K2", needs),
+        ("nine words", nine_words),
+        ("the fields of a word", fields),
+        ("nodes and neighbours", nodes_and_neighbours),
         ("K3 and K4", offered_words),
         ("K3 from every node", half_way_offers),
         ("K5 to K7", bubble_rule),
@@ -18,10 +31,17 @@ pub fn all(lab: &mut Lab) {
         ("K9", not_its_way),
         ("K10", budget_zero),
         ("K11", full_ring),
+        ("offsets do not wrap", offsets_do_not_wrap),
+        ("the most moves", most_moves),
+        ("the last queue and output", last_numbers),
         ("K12", to_oneself),
         ("K12 in every queue", to_oneself_in_every_queue),
         ("the listing", listing),
-        ("y escape with dx left", order_of_escapes),
+        ("the escape order", escape_order),
+        ("the adaptive order", adaptive_order),
+        ("from an x ring into a z ring", from_ring_to_ring),
+        ("escape queues out of order", escapes_out_of_order),
+        ("bit 15", bit_15),
         ("a half-way offset keeps its sign", half_way),
         ("held in injection queues alone", injection_alone),
     ];
@@ -35,21 +55,19 @@ pub fn make(lab: &mut Lab, shape: Shape) -> Vec<u64> {
     let mut words = vec![u64::MAX; shape.need()];
     let sizes = shape.sizes();
     assert_eq!(lab.call(&mut words, Call::Make { sizes }).refusal, 0);
-    assert_eq!(
-        words[..8],
-        [shape.x, shape.y, shape.e, shape.a, shape.j, 0, 0, 0]
-    );
-    assert!(words[8..].iter().all(|word| *word == 0));
+    let [x, y, z, e, a, j] = sizes;
+    assert_eq!(words[..HEADER], [x, y, z, e, a, j, 0, 0, 0]);
+    assert!(words[HEADER..].iter().all(|word| *word == 0));
     words
 }
 
 /// Puts a packet at the end of a queue and counts it as accepted.
-pub fn put(shape: &Shape, words: &mut [u64], node: u64, queue: usize, dx: i64, dy: i64) {
+pub fn put(shape: &Shape, words: &mut [u64], node: u64, queue: usize, offsets: Offsets) {
     let at = shape.count_word(node, queue);
     words[at] += 1;
     let slot = at + words[at] as usize;
-    words[slot] = packet_word(5, end_node(shape, node, dx, dy), dx, dy);
-    words[5] += 1;
+    words[slot] = packet_word(5, end_node(shape, node, offsets), offsets);
+    words[ACCEPTED] += 1;
 }
 
 pub fn move_call(node: u64, queue: usize, output: u64) -> Call {
@@ -72,8 +90,15 @@ fn drain(budget: u32, ledger: usize) -> Call {
     Call::Drain { budget, ledger }
 }
 
+/// A node of K1 has 13 + 1 + 6 + 12 = 32 words, one of K2 and of the largest
+/// 13 + 8 + 48 + 48 = 117.
 fn needs(lab: &mut Lab) {
-    for (shape, need) in [(K1, 272), (K2, 20_744)] {
+    for (shape, need) in [
+        (K1, 393),          // 9 + 12 * 32
+        (K2, 29_961),       // 9 + 256 * 117
+        (CUBE, 2_057),      // 9 + 64 * 32
+        (LARGEST, 479_241), // 9 + 4096 * 117
+    ] {
         let call = Call::Make {
             sizes: shape.sizes(),
         };
@@ -86,17 +111,80 @@ fn needs(lab: &mut Lab) {
     }
 }
 
+/// Nine words are asked for before the sizes, and the rest behind them.
+fn nine_words(lab: &mut Lab) {
+    for word in [0, 1, 2, u64::MAX] {
+        assert_eq!(lab.try_out(&[word; 8], Call::Check), 1);
+    }
+    let mut header = [1, 1, 1, 2, 1, 1, 0, 0, 0];
+    assert_eq!(lab.try_out(&header, Call::Check), 1);
+    header[5] = 9;
+    assert_eq!(lab.try_out(&header, Call::Check), 2);
+}
+
+/// 7 * 2^32 + 6 * 65,536 + 32,768 + 30 * 1,024 + 3 * 32 + 16: all fields of a word
+/// that no network holds. Its label has the bit above the offsets still.
+fn fields(_: &mut Lab) {
+    let word = packet_word(7, 6, [-2, 3, -16]) | BIT_15;
+    assert_eq!(word, 30_065_227_888);
+    assert_eq!(label(word), 30_065_197_056);
+}
+
+/// 2 by 3 by 5. Node 23 is (3 * 3 + 2) * 2 + 1, so it stands at (1, 2, 3); from
+/// node 0 it is half-way along x, one hop back along y and two back along z. The
+/// neighbours of node 0 are told by their credit.
+fn nodes_and_neighbours(lab: &mut Lab) {
+    let shape = Shape::new(2, 3, 5, 2, 1, 1);
+    let mut words = make(lab, shape);
+    assert_eq!(lab.call(&mut words, offer(0, 23, 0)).refusal, 0);
+    // 23 * 65,536 + 1,024 + 31 * 32 + 30.
+    assert_eq!(words[shape.count_word(0, 0) + 1], 1_509_374);
+    for (direction, neighbour) in [1, 1, 2, 4, 6, 24].into_iter().enumerate() {
+        for (queue, free) in [(1 + direction, 0), (FIRST_ESCAPE + direction, 1)] {
+            let (node, output) = (0, queue as u64);
+            put(&shape, &mut words, neighbour, queue, THERE);
+            let credit = lab.call(&mut words, Call::Credit { node, output });
+            assert_eq!((credit.refusal, credit.out[0]), (0, free), "{output}");
+        }
+    }
+}
+
+/// Tag 7 is worth 7 * 2^32 = 30,064,771,072, a destination 65,536, a hop 1,024
+/// along x, 32 along y and 1 along z; of hops below 0 what lacks to 32 stands
+/// there.
 fn offered_words(lab: &mut Lab) {
-    let six_by_two = Shape::new(6, 2, 2, 1, 1);
+    let six_by_two = Shape::new(6, 2, 1, 2, 1, 1);
+    let six_deep = Shape::new(3, 2, 6, 2, 1, 1);
+    let two = Shape::new(2, 2, 2, 2, 1, 1);
     for (shape, node, destination, tag, word) in [
-        (K1, 0, 6, 7, 30_065_164_801),
-        (K1, 0, 11, 0, 786_431),
-        // Half-way round from an odd column, from an odd row, and where column
-        // and row differ in parity.
-        (K1, 1, 7, 7, 30_065_294_849),
-        (six_by_two, 6, 0, 7, 30_064_771_327),
-        (six_by_two, 1, 10, 7, 30_065_491_201),
-        (six_by_two, 6, 3, 7, 30_064_968_703),
+        // From (0, 0) to (2, 1), 2 and 1: 6 * 65,536 + 2 * 1,024 + 32.
+        (K1, 0, 6, 7, 30_065_166_368),
+        // From (0, 0) to (3, 2), -1 and -1: 11 * 65,536 + 31 * 1,024 + 31 * 32.
+        (K1, 0, 11, 0, 753_632),
+        // Half-way round from an odd x, from an odd y, and where x and y differ
+        // in parity. From (1, 0) to (3, 1), -2 and 1: 7 * 65,536 + 30 * 1,024 + 32.
+        (K1, 1, 7, 7, 30_065_260_576),
+        // From (0, 1) to (0, 0), 0 and -1: 31 * 32.
+        (six_by_two, 6, 0, 7, 30_064_772_064),
+        // From (1, 0) to (4, 1), -3 and 1: 10 * 65,536 + 29 * 1,024 + 32.
+        (six_by_two, 1, 10, 7, 30_065_456_160),
+        // From (0, 1) to (3, 0), 3 and -1: 3 * 65,536 + 3 * 1,024 + 31 * 32.
+        (six_by_two, 6, 3, 7, 30_064_971_744),
+        // All three half-way round: from (0, 0, 1) to (1, 1, 0), 1, 1 and -1, so
+        // 3 * 65,536 + 1,024 + 32 + 31.
+        (two, 4, 3, 7, 30_064_968_767),
+        // And back: -1, -1 and 1, so 4 * 65,536 + 31 * 1,024 + 31 * 32 + 1.
+        (two, 3, 4, 7, 30_065_065_953),
+        // Half-way round along z from an odd z, where x, y, the node's number and
+        // the destination's z are even: from (0, 0, 1) to (0, 0, 4), -3, so
+        // 24 * 65,536 + 29.
+        (six_deep, 6, 24, 7, 30_066_343_965),
+        // And from an even z, where y, the number and the destination's z are
+        // odd: from (0, 1, 0) to (0, 1, 3), 3, so 21 * 65,536 + 3.
+        (six_deep, 3, 21, 7, 30_066_147_331),
+        // All three back by one: from (1, 1, 5) to (0, 0, 4), -1, -1 and -1, so
+        // 24 * 65,536 + 31 * 1,024 + 31 * 32 + 31.
+        (six_deep, 34, 24, 7, 30_066_376_703),
     ] {
         let mut words = make(lab, shape);
         assert_eq!(
@@ -107,31 +195,38 @@ fn offered_words(lab: &mut Lab) {
         let at = shape.count_word(node, 0) + 1;
         assert_eq!(look.out, [at as u64, 1, 0, 0]);
         assert_eq!(words[at], word);
-        assert_eq!(words[5..8], [1, 0, 0]);
+        assert_eq!(words[ACCEPTED..HEADER], [1, 0, 0]);
     }
 }
 
 /// From every node to the one half-way round: each offset's sign by the parity
 /// of its own coordinate, and of no other number.
 fn half_way_offers(lab: &mut Lab) {
-    for (x, y) in [
-        (2, 1),
-        (1, 2),
-        (2, 2),
-        (2, 6),
-        (6, 2),
-        (4, 3),
-        (3, 4),
-        (16, 16),
+    for sides in [
+        [2, 1, 1],
+        [1, 2, 1],
+        [1, 1, 2],
+        [2, 2, 2],
+        [2, 6, 4],
+        [6, 2, 1],
+        [3, 2, 6],
+        [4, 3, 2],
+        [3, 4, 3],
+        [16, 16, 1],
+        [2, 3, 16],
     ] {
-        let shape = Shape::new(x, y, 2, 1, 1);
+        let shape = Shape::of(sides, [2, 1, 1]);
         let mut words = make(lab, shape);
         for node in 0..shape.nodes() {
-            let (dx, dy) = (half_way_from(node % x, x), half_way_from(node / x, y));
-            let destination = end_node(&shape, node, dx, dy);
+            let place = shape.place(node);
+            let mut offsets = THERE;
+            for (d, offset) in offsets.iter_mut().enumerate() {
+                *offset = half_way_from(place[d], sides[d]);
+            }
+            let destination = end_node(&shape, node, offsets);
             assert_eq!(lab.call(&mut words, offer(node, destination, 9)).refusal, 0);
             let at = shape.count_word(node, 0);
-            assert_eq!(words[at + 1], packet_word(9, destination, dx, dy));
+            assert_eq!(words[at + 1], packet_word(9, destination, offsets));
         }
     }
 }
@@ -145,36 +240,41 @@ fn half_way_from(coordinate: u64, size: u64) -> i64 {
     }
 }
 
+/// Whether a packet with these offsets may stand in the queue (R76 to R79).
+pub fn may_stand(shape: &Shape, queue: usize, offsets: Offsets) -> bool {
+    let lawful = |d: usize| {
+        let range = offset_range(shape, queue, d);
+        range.is_some_and(|(low, high)| (low..=high).contains(&offsets[d]))
+    };
+    (0..DIMENSIONS).all(lawful)
+}
+
+/// Into the escape queue of each direction, with one hop left that way: from
+/// that ring itself, and from every other queue in which such a packet may
+/// stand. These are injection, the adaptive queues but that of the other way, and
+/// the escape queues of the dimensions before its own: with itself 7, 9 and 11.
 fn bubble_rule(lab: &mut Lab) {
-    let shape = Shape::new(4, 4, 2, 1, 1);
-    // For each direction its escape queue, and one hop left that way.
-    let ways = [(5, 1, 0), (6, -1, 0), (7, 0, 1), (8, 0, -1)];
-    for (escape, dx, dy) in ways {
+    let node = 21;
+    for (direction, ways_in) in [7, 7, 9, 9, 11, 11].into_iter().enumerate() {
+        let escape = FIRST_ESCAPE + direction;
+        let (dimension, sign) = way(escape);
+        let offsets = along(dimension, sign);
+        let target = end_node(&CUBE, node, offsets);
+        let sources = (0..QUEUES).filter(|queue| may_stand(&CUBE, *queue, offsets));
+        let sources: Vec<usize> = sources.collect();
+        assert_eq!(sources.len(), ways_in);
         for (held, own, outside) in [(0, 0, 0), (1, 0, 12), (2, 11, 11)] {
-            let mut sources = vec![(escape, own), (escape - 4, outside), (0, outside)];
-            // Packets that turn into the ring from the other dimension. Only
-            // those whose dx is used up turn from an x escape queue.
-            if dy != 0 {
-                sources.extend([(5, outside), (6, outside), (1, outside), (2, outside)]);
-            } else {
-                sources.extend([(3, outside), (4, outside)]);
-            }
-            for (queue, refusal) in sources {
-                let mut words = make(lab, shape);
-                let target = end_node(&shape, 5, dx, dy);
-                put(&shape, &mut words, 5, queue, dx, dy);
+            for queue in &sources {
+                let refusal = if *queue == escape { own } else { outside };
+                let mut words = make(lab, CUBE);
+                put(&CUBE, &mut words, node, *queue, offsets);
                 for _ in 0..held {
-                    put(&shape, &mut words, target, escape, 0, 0);
+                    put(&CUBE, &mut words, target, escape, THERE);
                 }
-                let call = move_call(5, queue, escape as u64);
+                let call = move_call(node, *queue, escape as u64);
                 assert_eq!(lab.try_out(&words, call), refusal, "{queue} to {escape}");
-                let credit = lab.call(
-                    &mut words,
-                    Call::Credit {
-                        node: 5,
-                        output: escape as u64,
-                    },
-                );
+                let output = escape as u64;
+                let credit = lab.call(&mut words, Call::Credit { node, output });
                 assert_eq!((credit.refusal, credit.out[0]), (0, 2 - held));
             }
         }
@@ -183,10 +283,18 @@ fn bubble_rule(lab: &mut Lab) {
 
 fn wrong_sizes(lab: &mut Lab) {
     let words = vec![0; K1.need()];
-    for sizes in [[4, 3, 1, 1, 1], [0, 3, 2, 1, 1], [17, 3, 2, 1, 1]] {
+    for sizes in [
+        [4, 3, 1, 1, 1, 1],
+        [0, 3, 1, 2, 1, 1],
+        [17, 3, 1, 2, 1, 1],
+        [4, 0, 1, 2, 1, 1],
+        [4, 17, 1, 2, 1, 1],
+        [4, 3, 0, 2, 1, 1],
+        [4, 3, 17, 2, 1, 1],
+    ] {
         assert_eq!(lab.try_out(&words, Call::Make { sizes }), 2);
         let mut words = make(lab, K1);
-        words[..5].copy_from_slice(&sizes);
+        words[..6].copy_from_slice(&sizes);
         assert_eq!(lab.try_out(&words, Call::Check), 2);
         assert_eq!(lab.try_out(&[], Call::Make { sizes }), 2, "2 before 1");
     }
@@ -194,135 +302,294 @@ fn wrong_sizes(lab: &mut Lab) {
 
 fn not_its_way(lab: &mut Lab) {
     let mut words = make(lab, K1);
-    put(&K1, &mut words, 0, 0, 1, 0);
-    put(&K1, &mut words, 1, 0, 0, 0);
+    put(&K1, &mut words, 0, 0, [1, 0, 0]);
+    put(&K1, &mut words, 1, 0, THERE);
     assert_eq!(lab.try_out(&words, move_call(0, 0, 0)), 10);
-    assert_eq!(lab.try_out(&words, move_call(1, 0, 5)), 10);
+    assert_eq!(lab.try_out(&words, move_call(1, 0, 7)), 10);
 }
 
 fn budget_zero(lab: &mut Lab) {
     let mut words = make(lab, K1);
     assert_eq!(lab.call(&mut words, drain(0, 0)).out, [0, 0, 0, 0]);
-    put(&K1, &mut words, 0, 0, 0, 0);
+    put(&K1, &mut words, 0, 0, THERE);
     assert_eq!(lab.call(&mut words, drain(0, 0)).out, [0, 0, 1, 0]);
     assert_eq!(lab.call(&mut words, drain(1, 0)).out, [0, 0, 2, 0]);
 }
 
+/// A ring of two nodes, along x in the kept case and then along y and z.
 fn full_ring(lab: &mut Lab) {
-    let shape = Shape::new(2, 1, 2, 1, 1);
-    let mut words = make(lab, shape);
-    for (node, refusal) in [(0, 0), (0, 0), (1, 0), (1, 3)] {
-        put(&shape, &mut words, node, 5, 0, 0);
+    for (sides, plus_ring) in [([2, 1, 1], 7), ([1, 2, 1], 9), ([1, 1, 2], 11)] {
+        let shape = Shape::of(sides, [2, 1, 1]);
+        for queue in [plus_ring, plus_ring + 1] {
+            let mut words = make(lab, shape);
+            for (node, refusal) in [(0, 0), (0, 0), (1, 0), (1, 3)] {
+                put(&shape, &mut words, node, queue, THERE);
+                assert_eq!(lab.try_out(&words, Call::Check), refusal);
+            }
+        }
+    }
+}
+
+/// Every offset that can be written, along a ring of 16 nodes: half of it and
+/// no more is lawful, for the node to which it leads.
+fn offsets_do_not_wrap(lab: &mut Lab) {
+    for dimension in 0..DIMENSIONS {
+        let mut sides = [1; DIMENSIONS];
+        sides[dimension] = 16;
+        let shape = Shape::of(sides, [2, 1, 1]);
+        for hops in OFFSET_VALUES {
+            let mut words = make(lab, shape);
+            put(&shape, &mut words, 0, 0, along(dimension, hops));
+            let refusal = if hops.abs() <= 8 { 0 } else { 3 };
+            assert_eq!(lab.try_out(&words, Call::Check), refusal, "{hops}");
+        }
+    }
+}
+
+/// One packet accepted and a delivery left: 24 moves more may have been made.
+fn most_moves(lab: &mut Lab) {
+    let mut words = make(lab, ALONE);
+    put(&ALONE, &mut words, 0, 0, THERE);
+    for (moves, refusal) in [(24, 0), (25, 3)] {
+        words[MOVES] = moves;
         assert_eq!(lab.try_out(&words, Call::Check), refusal);
     }
 }
 
+/// Queue and output 12 are the last ones.
+fn last_numbers(lab: &mut Lab) {
+    let mut words = make(lab, ALONE);
+    put(&ALONE, &mut words, 0, 0, THERE);
+    let look = |queue| Call::Look { node: 0, queue };
+    let credit = |output| Call::Credit { node: 0, output };
+    for (call, refusal) in [
+        (move_call(0, 12, 0), 9),
+        (move_call(0, 13, 0), 5),
+        (move_call(0, 0, 12), 10),
+        (move_call(0, 0, 13), 6),
+        (look(12), 0),
+        (look(13), 5),
+        (credit(0), 6),
+        (credit(12), 0),
+        (credit(13), 6),
+    ] {
+        assert_eq!(lab.try_out(&words, call), refusal, "{call:?}");
+    }
+}
+
 fn to_oneself(lab: &mut Lab) {
-    let shape = Shape::new(1, 1, 2, 1, 1);
+    let shape = ALONE;
     let mut words = make(lab, shape);
     assert_eq!(lab.try_out(&words, offer(0, 0, 3)), 14);
     assert_eq!(lab.try_out(&words, offer(1, 1, 3)), 4);
     // Written by hand such a packet passes, and one move hands it out.
-    put(&shape, &mut words, 0, 0, 0, 0);
+    put(&shape, &mut words, 0, 0, THERE);
     assert_eq!(lab.try_out(&words, Call::Check), 0);
     assert_eq!(lab.try_out(&words, offer(0, 0, 3)), 14, "14 before 7");
     assert_eq!(lab.call(&mut words, Call::First).out, [1, 0, 0, 0]);
-    for output in 1..=8 {
+    for output in 1..QUEUES as u64 {
         assert_eq!(lab.try_out(&words, move_call(0, 0, output)), 10);
     }
     let (drained, ledger) = lab.call_with_ledger(&mut words.clone(), drain(9, 1));
     assert_eq!((drained.out, ledger[0]), ([1, 1, 0, 0], 5 << 32));
     let answer = lab.call(&mut words, move_call(0, 0, 0));
     assert_eq!((answer.refusal, answer.out), (0, [1, 5 << 32, 0, 0]));
-    assert_eq!(words[5..8], [1, 1, 1]);
+    assert_eq!(words[ACCEPTED..HEADER], [1, 1, 1]);
     assert_eq!(lab.call(&mut words, Call::First).out, [0; 4]);
 }
 
 fn to_oneself_in_every_queue(lab: &mut Lab) {
-    let shape = Shape::new(2, 2, 2, 1, 1);
+    let shape = Shape::new(2, 2, 2, 2, 1, 1);
     let mut words = make(lab, shape);
-    for queue in 0..9 {
-        put(&shape, &mut words, 0, queue, 0, 0);
+    for queue in 0..QUEUES {
+        put(&shape, &mut words, 0, queue, THERE);
         assert_eq!(lab.try_out(&words, Call::Check), 0);
         assert_eq!(lab.try_out(&words, move_call(0, queue, 0)), 0);
     }
-    let (answer, ledger) = lab.call_with_ledger(&mut words, drain(9, 9));
-    assert_eq!((answer.refusal, answer.out), (0, [9, 9, 0, 0]));
-    assert_eq!(ledger, [5 << 32; 9]);
+    let (answer, ledger) = lab.call_with_ledger(&mut words, drain(13, 13));
+    assert_eq!((answer.refusal, answer.out), (0, [13, 13, 0, 0]));
+    assert_eq!(ledger, [5 << 32; 13]);
 }
 
 fn listing(lab: &mut Lab) {
     let mut words = vec![0; 8000];
-    let sizes = [4, 1, 2, 1, 1];
+    let sizes = [4, 1, 1, 2, 1, 1];
     assert_eq!(lab.call(&mut words, Call::Make { sizes }).refusal, 0);
     assert_eq!(lab.call(&mut words, offer(0, 2, 7)).refusal, 0);
     assert_eq!(lab.call(&mut words, offer(0, 1, 8)).refusal, 7);
-    assert_eq!(lab.call(&mut words, move_call(0, 0, 5)).refusal, 0);
-    assert_eq!(lab.call(&mut words, move_call(1, 5, 0)).refusal, 10);
+    assert_eq!(lab.call(&mut words, move_call(0, 0, 7)).refusal, 0);
+    assert_eq!(lab.call(&mut words, move_call(1, 7, 0)).refusal, 10);
     let (answer, ledger) = lab.call_with_ledger(&mut words, drain(10, 64));
     assert_eq!((answer.refusal, answer.out), (0, [2, 1, 0, 0]));
     assert_eq!(ledger[0], (7 << 32) + (2 << 16));
 }
 
-fn order_of_escapes(lab: &mut Lab) {
-    let shape = Shape::new(4, 4, 2, 1, 1);
-    let mut words = make(lab, shape);
-    put(&shape, &mut words, 0, 0, 1, 1);
-    for (output, refusal) in [(1, 0), (3, 0), (5, 0), (7, 10), (6, 10), (2, 10), (0, 10)] {
-        assert_eq!(lab.try_out(&words, move_call(0, 0, output)), refusal);
+/// A head with a hop left each way may go on adaptively along each dimension,
+/// and by the escape queue of x alone; where dx is used up, by that of y.
+fn escape_order(lab: &mut Lab) {
+    for shape in [Shape::new(2, 2, 2, 2, 1, 1), CUBE] {
+        for (offsets, outputs) in [
+            ([1, 1, 1], [1, 3, 5, 7].as_slice()),
+            ([0, 1, 1], &[3, 5, 9]),
+            ([0, -1, 1], &[4, 5, 10]),
+            ([-1, 0, -1], &[2, 6, 8]),
+            ([0, 0, 1], &[5, 11]),
+        ] {
+            let mut words = make(lab, shape);
+            put(&shape, &mut words, 0, 0, offsets);
+            for output in 0..QUEUES as u64 {
+                let refusal = if outputs.contains(&output) { 0 } else { 10 };
+                assert_eq!(lab.try_out(&words, move_call(0, 0, output)), refusal);
+            }
+        }
     }
-    // From a y queue the y route comes first, from injection the x route.
-    assert_eq!(lab.call(&mut words, Call::First).out, [1, 0, 0, 1]);
-    let mut words = make(lab, shape);
-    put(&shape, &mut words, 0, 3, 1, 1);
-    assert_eq!(lab.call(&mut words, Call::First).out, [1, 0, 3, 3]);
+}
+
+/// The incoming dimension comes first, then the others, x before y before z; from
+/// injection x counts as incoming. Each queue that First names is filled.
+fn adaptive_order(lab: &mut Lab) {
+    for (shape, queue, outputs) in [
+        (CUBE, 0, [1, 3, 5, 7]),
+        (CUBE, 1, [1, 3, 5, 7]),
+        (CUBE, 3, [3, 1, 5, 7]),
+        (CUBE, 5, [5, 1, 3, 7]),
+        (Shape::new(2, 2, 4, 2, 1, 1), 5, [5, 1, 3, 7]),
+    ] {
+        let mut words = make(lab, shape);
+        put(&shape, &mut words, 0, queue, [1, 1, 1]);
+        for output in outputs {
+            let first = lab.call(&mut words, Call::First).out;
+            assert_eq!(first, [1, 0, queue as u64, output as u64]);
+            let (dimension, sign) = way(output);
+            let target = end_node(&shape, 0, along(dimension, sign));
+            put(&shape, &mut words, target, output, THERE);
+        }
+    }
+}
+
+/// A packet that came along x in an escape ring and goes on along z enters
+/// another ring: two slots must be free, where one is enough for a packet that
+/// is in the z ring already. From node 0 to node 2 in 2 by 1 by 2, where none can
+/// be on its way in that ring, and from node 0 to node 4 in 4 by 1 by 4.
+fn from_ring_to_ring(lab: &mut Lab) {
+    let (x_ring, z_ring) = (7, 11);
+    let (narrow, wide) = (Shape::new(2, 1, 2, 2, 1, 1), Shape::new(4, 1, 4, 2, 1, 1));
+    for (shape, queue, held, refusal) in [
+        (narrow, x_ring, 0, 0),
+        (narrow, x_ring, 1, 12),
+        (narrow, x_ring, 2, 11),
+        (wide, x_ring, 0, 0),
+        (wide, x_ring, 1, 12),
+        (wide, x_ring, 2, 11),
+        (wide, z_ring, 1, 0),
+        (wide, z_ring, 2, 11),
+    ] {
+        let mut words = make(lab, shape);
+        put(&shape, &mut words, 0, queue, [0, 0, 1]);
+        for _ in 0..held {
+            put(&shape, &mut words, shape.sides[0], z_ring, THERE);
+        }
+        assert_eq!(lab.try_out(&words, Call::Check), 0);
+        let call = move_call(0, queue, z_ring as u64);
+        assert_eq!(lab.try_out(&words, call), refusal, "{queue}, {held} held");
+    }
+}
+
+/// dx left in an escape queue of y or z, dy in one of z. In the smallest network
+/// with these dimensions, where adaptive queues take such packets, and in others.
+fn escapes_out_of_order(lab: &mut Lab) {
+    for (sides, offsets) in [([2, 1, 2], [1, 0, 0]), ([1, 2, 2], [0, 1, 0])] {
+        let shape = Shape::of(sides, [2, 1, 1]);
+        for (queue, refusal) in [(11, 3), (5, 0)] {
+            let mut words = make(lab, shape);
+            put(&shape, &mut words, 0, queue, offsets);
+            assert_eq!(lab.try_out(&words, Call::Check), refusal);
+        }
+    }
+    for (queue, offsets, refusal) in [
+        (9, [1, 0, 0], 3),
+        (10, [-1, 0, 0], 3),
+        (11, [1, 0, 0], 3),
+        (11, [-1, 0, 1], 3),
+        (12, [1, 0, -1], 3),
+        (12, [-1, 0, 0], 3),
+        (11, [0, 1, 0], 3),
+        (12, [0, -1, -1], 3),
+        (12, [2, 2, 0], 3),
+        // The same hops where they may be left.
+        (7, [1, 2, 2], 0),
+        (8, [-1, -2, 2], 0),
+        (9, [0, 1, -2], 0),
+        (10, [0, -1, 2], 0),
+        (11, [0, 0, 1], 0),
+        (12, [0, 0, -1], 0),
+    ] {
+        let mut words = make(lab, CUBE);
+        put(&CUBE, &mut words, 21, queue, offsets);
+        let found = lab.try_out(&words, Call::Check);
+        assert_eq!(found, refusal, "{offsets:?} in queue {queue}");
+    }
+}
+
+/// The bit between the destination and the offsets is 0 in every packet, in
+/// every queue and wherever it goes; set, it is no offset and no destination.
+fn bit_15(lab: &mut Lab) {
+    let queues = (0..QUEUES).map(|queue| (CUBE, 21, queue));
+    for (shape, node, queue) in queues.chain([(ALONE, 0, 0)]) {
+        let mut words = make(lab, shape);
+        put(&shape, &mut words, node, queue, THERE);
+        assert_eq!(lab.try_out(&words, Call::Check), 0);
+        words[shape.count_word(node, queue) + 1] |= BIT_15;
+        assert_eq!(lab.try_out(&words, Call::Check), 3);
+        assert_eq!(lab.try_out(&words, move_call(node, queue, 0)), 3);
+    }
+    let mut words = make(lab, K1);
+    assert_eq!(lab.call(&mut words, offer(0, 6, 7)).refusal, 0);
+    words[K1.count_word(0, 0) + 1] += 1 << 15;
+    assert_eq!(lab.try_out(&words, Call::Check), 3);
+}
+
+/// The adaptive queue along a dimension, by the sign of the hops.
+fn adaptive(dimension: usize, hops: i64) -> usize {
+    1 + 2 * dimension + if hops > 0 { 0 } else { 1 }
 }
 
 /// Held packets may have either sign half-way round, wherever they stand, and
-/// no hop turns one round: in an odd column too, where an offer would go minus.
+/// no hop turns one round: at an odd coordinate too, where an offer would go
+/// minus.
 fn half_way(lab: &mut Lab) {
-    let shape = Shape::new(4, 4, 2, 1, 1);
-    for node in 0..shape.nodes() {
-        for (dx, dy) in [(2, 2), (2, -2), (-2, 2), (-2, -2)] {
-            let mut words = make(lab, shape);
-            put(&shape, &mut words, node, 0, dx, dy);
-            assert_eq!(lab.try_out(&words, Call::Check), 0);
-            let along_x = if dx > 0 { 1 } else { 2 };
-            let along_y = if dy > 0 { 3 } else { 4 };
-            for output in 0..9 {
-                let its_way = [along_x, along_y, along_x + 4].contains(&output);
-                let refusal = if its_way { 0 } else { 10 };
-                assert_eq!(lab.try_out(&words, move_call(node, 0, output)), refusal);
-            }
-            let (node_x, node_y) = (
-                end_node(&shape, node, dx.signum(), 0),
-                end_node(&shape, node, 0, dy.signum()),
-            );
-            let end = end_node(&shape, node, dx, dy);
-            let (dx_on, dy_on) = (dx - dx.signum(), dy - dy.signum());
-            // A hop along x leaves dy as it is.
-            let mut other = words.clone();
-            let call = move_call(node, 0, along_x);
-            assert_eq!(lab.call(&mut other, call).refusal, 0);
-            let at = shape.count_word(node_x, along_x as usize);
-            assert_eq!(other[at..at + 2], [1, packet_word(5, end, dx_on, dy)]);
-            // A hop along y leaves dx as it is, and then one along x.
-            let call = move_call(node, 0, along_y);
+    // By every sign of the three hops.
+    let signs = (0..8).map(|bits| [0, 1, 2].map(|d| if bits >> d & 1 == 0 { 2 } else { -2 }));
+    for (node, offsets) in signs.flat_map(|offsets| (0..CUBE.nodes()).map(move |n| (n, offsets))) {
+        let mut words = make(lab, CUBE);
+        put(&CUBE, &mut words, node, 0, offsets);
+        assert_eq!(lab.try_out(&words, Call::Check), 0);
+        let ways = [0, 1, 2].map(|d| adaptive(d, offsets[d]));
+        for output in 0..QUEUES {
+            let its_way = ways.contains(&output) || output == ways[0] + DIRECTIONS;
+            let refusal = if its_way { 0 } else { 10 };
+            let call = move_call(node, 0, output as u64);
+            assert_eq!(lab.try_out(&words, call), refusal);
+        }
+        // A hop along each dimension, z first: it comes one nearer to 0, and the
+        // others stay as they are.
+        let end = end_node(&CUBE, node, offsets);
+        let (mut here, mut queue, mut left) = (node, 0, offsets);
+        for d in (0..DIMENSIONS).rev() {
+            let hop = left[d].signum();
+            let call = move_call(here, queue, ways[d] as u64);
             assert_eq!(lab.call(&mut words, call).refusal, 0);
-            let at = shape.count_word(node_y, along_y as usize);
-            assert_eq!(words[at..at + 2], [1, packet_word(5, end, dx, dy_on)]);
-            let call = move_call(node_y, along_y as usize, along_x);
-            assert_eq!(lab.call(&mut words, call).refusal, 0);
-            let there = end_node(&shape, node_y, dx.signum(), 0);
-            let at = shape.count_word(there, along_x as usize);
-            assert_eq!(words[at..at + 2], [1, packet_word(5, end, dx_on, dy_on)]);
+            (here, queue) = (end_node(&CUBE, here, along(d, hop)), ways[d]);
+            left[d] -= hop;
+            let at = CUBE.count_word(here, queue);
+            assert_eq!(words[at..at + 2], [1, packet_word(5, end, left)]);
         }
     }
 }
 
 fn injection_alone(lab: &mut Lab) {
     let mut words = make(lab, K1);
-    put(&K1, &mut words, 11, 0, 0, 0);
+    put(&K1, &mut words, 11, 0, THERE);
     assert_eq!(lab.call(&mut words, drain(0, 8)).out, [0, 0, 1, 0]);
     assert_eq!(lab.call(&mut words, drain(9, 8)).out, [1, 1, 0, 0]);
 }

@@ -5,17 +5,12 @@
 use crate::kept::{make, put};
 use compare::bench::{perform, Bench, Call, Plain, WaveStep};
 use compare::damage::{one_word, FAULTS};
-use compare::generate::{any_call, any_drain, network, Shape, FILLS, QUEUES};
+use compare::generate::{any_call, any_drain, network, Fill, Shape, FILLS, MOVES, QUEUES};
 use compare::lab::Lab;
 use compare::random::Random;
 
-/// Room for any step: a line has at most 29 bytes, and there are two lines for
-/// each variable of a header of 256 nodes.
-const ROOM: usize = 130_000;
-/// The same for networks of 16 nodes.
-const SMALL: usize = 8_000;
 /// The variables of the largest header.
-const MOST: usize = 256 * QUEUES;
+const MOST: usize = 4096 * QUEUES;
 /// The bytes of the subset, and some that are none of it.
 const BYTES: &[u8] = b"0123456789b# \n$nqd\r\tBxz+-.,;\0\x7f\x80\xb0\xff";
 
@@ -24,9 +19,18 @@ const HEADER: &str = "$timescale 1 ns $end\n$scope module network $end\n\
     $var wire 8 0 n0q0 $end\n$var wire 8 1 n0q1 $end\n$var wire 8 2 n0q2 $end\n\
     $var wire 8 3 n0q3 $end\n$var wire 8 4 n0q4 $end\n$var wire 8 5 n0q5 $end\n\
     $var wire 8 6 n0q6 $end\n$var wire 8 7 n0q7 $end\n$var wire 8 8 n0q8 $end\n\
+    $var wire 8 9 n0q9 $end\n$var wire 8 10 n0q10 $end\n\
+    $var wire 8 11 n0q11 $end\n$var wire 8 12 n0q12 $end\n\
     $upscope $end\n$enddefinitions $end\n#0\n$dumpvars\n\
-    b0 0\nb0 1\nb0 2\nb0 3\nb0 4\nb0 5\nb0 6\nb0 7\nb0 8\n$end\n";
+    b0 0\nb0 1\nb0 2\nb0 3\nb0 4\nb0 5\nb0 6\nb0 7\nb0 8\nb0 9\nb0 10\n\
+    b0 11\nb0 12\n$end\n";
 const LATER: &str = "#0\nb1 0\n";
+
+/// Room for any step of a network with so many queues: a header's lines tell
+/// each of them in at most 32 bytes by its name and in at most 12 by its value.
+const fn room(queues: usize) -> usize {
+    120 + 44 * queues
+}
 
 fn random_bytes(random: &mut Random, len: usize) -> Vec<u8> {
     (0..len).map(|_| random.number() as u8).collect()
@@ -45,24 +49,25 @@ fn fills_of(shape: &Shape, words: &[u64]) -> Vec<u8> {
 /// (R86).
 pub fn spelt_out(lab: &mut Lab) {
     lab.place = "a dump spelt out".into();
-    let shape = Shape::new(1, 1, 2, 1, 1);
+    let shape = Shape::new(1, 1, 1, 2, 1, 1);
+    let room = room(QUEUES);
     let mut words = make(lab, shape);
     let mut fills = [7; QUEUES];
-    let (answer, header) = lab.write(WaveStep::Header, &words, &mut fills, ROOM);
+    let (answer, header) = lab.write(WaveStep::Header, &words, &mut fills, room);
     assert_eq!(answer.refusal, 0);
     assert_eq!(header, HEADER.as_bytes());
-    put(&shape, &mut words, 0, 0, 0, 0);
-    let (answer, later) = lab.write(WaveStep::Changes, &words, &mut fills, ROOM);
+    put(&shape, &mut words, 0, 0, [0; 3]);
+    let (answer, later) = lab.write(WaveStep::Changes, &words, &mut fills, room);
     assert_eq!((answer.refusal, answer.out[0]), (0, 8));
     assert_eq!(later, LATER.as_bytes());
     // Nothing has changed since then.
-    let (_, still) = lab.write(WaveStep::Changes, &words, &mut fills, ROOM);
+    let (_, still) = lab.write(WaveStep::Changes, &words, &mut fills, room);
     assert_eq!(still, b"#0\n");
-    let mut list = [9; 10];
-    assert_eq!(lab.read(&header, &mut list).out, [1, 0, 9, 0]);
-    assert_eq!(list, [0, 0, 0, 0, 0, 0, 0, 0, 0, 9]);
+    let mut list = [9; QUEUES + 1];
+    assert_eq!(lab.read(&header, &mut list).out, [1, 0, 13, 0]);
+    assert_eq!(list, [0, 0, 0, 0, 0, 0, 0, 0, 0, 0, 0, 0, 0, 9]);
     assert_eq!(lab.read(&later, &mut list).out, [0, 0, 1, 0]);
-    assert_eq!(list, [1, 0, 0, 0, 0, 0, 0, 0, 0, 9]);
+    assert_eq!(list, [1, 0, 0, 0, 0, 0, 0, 0, 0, 0, 0, 0, 0, 9]);
 }
 
 /// One dump under way: the list of the writer, and that of a reader.
@@ -77,7 +82,7 @@ struct Dump {
 impl Dump {
     /// Lists with anything in them, longer than needed.
     fn new(random: &mut Random, shape: Shape) -> Dump {
-        let variables = shape.nodes() as usize * QUEUES;
+        let variables = shape.queues();
         let longer = random.below(20) as usize;
         Dump {
             shape,
@@ -87,16 +92,12 @@ impl Dump {
         }
     }
 
-    fn variables(&self) -> usize {
-        self.shape.nodes() as usize * QUEUES
-    }
-
     /// Writes a step and reads it back.
     fn step(&mut self, lab: &mut Lab, step: WaveStep, words: &[u64]) {
-        let (variables, header) = (self.variables(), step == WaveStep::Header);
+        let (variables, header) = (self.shape.queues(), step == WaveStep::Header);
         let now = fills_of(&self.shape, words);
         let before = self.written.clone();
-        let (answer, bytes) = lab.write(step, words, &mut self.written, ROOM);
+        let (answer, bytes) = lab.write(step, words, &mut self.written, room(variables));
         assert_eq!(answer.refusal, 0, "{}", lab.place);
         assert_eq!(answer.out, [bytes.len() as u64, 0, 0, 0]);
         assert_eq!(self.written[..variables], now);
@@ -113,7 +114,8 @@ impl Dump {
         read_short(lab, &bytes, &self.read[..need], &wanted[..need]);
         let answer = lab.read(&bytes, &mut self.read);
         assert_eq!(answer.refusal, 0, "{}", lab.place);
-        assert_eq!(answer.out, [header as u64, words[7], named.len() as u64, 0]);
+        let told = [header as u64, words[MOVES], named.len() as u64, 0];
+        assert_eq!(answer.out, told);
         assert_eq!(self.read, wanted, "{}", lab.place);
         self.followed |= header;
         if self.followed {
@@ -126,7 +128,7 @@ impl Dump {
 /// is not. `fills` is the list before the step.
 fn write_short(lab: &mut Lab, step: WaveStep, words: &[u64], fills: &[u8], bytes: &[u8]) {
     let mut short = fills[1..].to_vec();
-    let (answer, _) = lab.write(step, words, &mut short, ROOM);
+    let (answer, _) = lab.write(step, words, &mut short, bytes.len());
     assert_eq!(answer.refusal, 15, "{}: a short list", lab.place);
     let mut exact = fills.to_vec();
     let (answer, _) = lab.write(step, words, &mut exact, bytes.len() - 1);
@@ -162,12 +164,13 @@ fn call(random: &mut Random, words: &mut [u64]) {
 /// Dumps of networks that move on, with steps at any time.
 pub fn dumps(lab: &mut Lab) {
     let mut random = Random::new(11);
-    let sides = [(1, 1), (1, 16), (16, 1), (16, 16), (2, 1), (11, 1), (12, 1)];
+    // Numbers of nodes at which a variable or a node gets one digit more.
+    let sides = [[16, 1, 1], [1, 1, 7], [8, 1, 1], [1, 11, 7], [7, 11, 10]];
     for round in 0..300 {
-        let mut shape = Shape::random(&mut random, 5);
-        if round < 2 * sides.len() {
-            (shape.x, shape.y) = sides[round % sides.len()];
-        }
+        let shape = match sides.get(round) {
+            Some(sides) => Shape::with_sides(&mut random, *sides),
+            None => Shape::in_round(round - sides.len(), &mut random, 4),
+        };
         lab.place = format!("dump {round} of {shape:?}");
         let fill = random.pick(&FILLS);
         let mut words = network(&mut random, &shape, fill);
@@ -193,7 +196,7 @@ pub fn dumps(lab: &mut Lab) {
             dump.step(lab, step, &words);
             // Any contents may be lent, also others than the step before told.
             if random.chance(1, 6) {
-                let variable = random.below(dump.variables() as u64) as usize;
+                let variable = random.below(shape.queues() as u64) as usize;
                 dump.written[variable] = random.below(9) as u8;
                 dump.followed = false;
             }
@@ -201,12 +204,29 @@ pub fn dumps(lab: &mut Lab) {
     }
 }
 
+/// A dump of 4,096 nodes, with 53,248 variables: a header, what a few moves
+/// have changed, and every fill changed.
+pub fn largest_dump(lab: &mut Lab) {
+    let mut random = Random::new(18);
+    let shape = Shape::new(16, 16, 16, 2, 1, 1);
+    lab.place = "the largest dump".into();
+    let mut words = network(&mut random, &shape, Fill::Mixed);
+    let mut dump = Dump::new(&mut random, shape);
+    dump.step(lab, WaveStep::Header, &words);
+    for _ in 0..2 {
+        call(&mut random, &mut words);
+        dump.step(lab, WaveStep::Changes, &words);
+    }
+    dump.written.iter_mut().for_each(|fill| *fill ^= 8);
+    dump.step(lab, WaveStep::Changes, &words);
+}
+
 /// Words that are no network: refused as Check does, whatever the room.
 pub fn bad_words(lab: &mut Lab) {
     let mut random = Random::new(12);
     for round in 0..1500 {
-        let most = random.pick(&[1, 2, 3, 4]);
-        let shape = Shape::random(&mut random, most);
+        let most = random.pick(&[1, 2, 3]);
+        let shape = Shape::in_round(round, &mut random, most);
         let fill = random.pick(&FILLS);
         let mut words = network(&mut random, &shape, fill);
         let mut len = words.len();
@@ -220,15 +240,16 @@ pub fn bad_words(lab: &mut Lab) {
         }
         lab.place = format!("bad words, round {round} of {shape:?}");
         let wanted = Plain { simple: false }.check(&words[..len]);
-        let variables = shape.nodes() as usize * QUEUES;
+        let variables = shape.queues();
+        let enough = room(variables);
         for step in [WaveStep::Header, WaveStep::Changes] {
-            for (list, room) in [(variables, SMALL), (variables, 0), (0, SMALL), (0, 0)] {
+            for (list, room) in [(variables, enough), (variables, 0), (0, enough), (0, 0)] {
                 let mut fills = random_bytes(&mut random, list);
                 let (answer, _) = lab.write(step, &words[..len], &mut fills, room);
                 let short = if list < variables || room == 0 { 15 } else { 0 };
                 let number = if wanted == 0 { short } else { wanted };
                 // A damaged header may have other sizes and still be good.
-                let other_sizes = words[..2] != [shape.x, shape.y];
+                let other_sizes = words[..3] != shape.sides;
                 if wanted != 0 || !other_sizes {
                     assert_eq!(answer.refusal, number, "{}", lab.place);
                 }
@@ -250,51 +271,73 @@ fn header(variables: usize, time: &str, fill: impl Fn(usize) -> String) -> Strin
     text + "$end\n"
 }
 
-/// Reads bytes into a list of any contents that is long enough for all steps.
-fn judged(lab: &mut Lab, random: &mut Random, bytes: &[u8]) -> u64 {
-    let mut fills = random_bytes(random, MOST);
-    lab.read(bytes, &mut fills).refusal
+/// Judges bytes, with a list that is long enough for all that they should tell.
+struct Judge {
+    /// Any contents.
+    list: Vec<u8>,
+    /// The list that is lent. After a refusal it is as it was.
+    fills: Vec<u8>,
+}
+
+impl Judge {
+    fn new(random: &mut Random, variables: usize) -> Judge {
+        let list = random_bytes(random, variables);
+        Judge {
+            fills: list.clone(),
+            list,
+        }
+    }
+
+    fn refusal(&mut self, lab: &mut Lab, bytes: &[u8]) -> u64 {
+        let refusal = lab.read(bytes, &mut self.fills).refusal;
+        if refusal == 0 {
+            self.fills.copy_from_slice(&self.list);
+        }
+        refusal
+    }
 }
 
 /// Small steps with every byte replaced by others, left out or doubled, with
 /// others put in before it, and cut off there.
 pub fn every_byte(lab: &mut Lab) {
     let mut random = Random::new(13);
-    let two_nodes = header(18, "18446744073709551615", |v| format!("{:b}", v * 15));
+    let two_nodes = header(26, "18446744073709551615", |v| format!("{:b}", v * 10));
+    // Each with a number of variables.
     let steps = [
-        HEADER,
-        LATER,
-        two_nodes.as_str(),
-        "#18446744073709551615\n",
-        "#1\nb11111111 0\nb0 9\nb1000 10\nb101 2303\n",
+        (HEADER, 1000),
+        (LATER, 1000),
+        (two_nodes.as_str(), 1000),
+        ("#18446744073709551615\n", 1000),
+        ("#1\nb11111111 0\nb0 9\nb1000 10\nb101 53247\n", MOST),
     ];
-    for (index, step) in steps.iter().enumerate() {
+    for (index, (step, variables)) in steps.into_iter().enumerate() {
+        let mut judge = Judge::new(&mut random, variables);
         let bytes = step.as_bytes();
         lab.place = format!("step {index}");
-        assert_eq!(judged(lab, &mut random, bytes), 0);
+        assert_eq!(judge.refusal(lab, bytes), 0);
         for place in 0..bytes.len() {
             lab.place = format!("step {index}, byte {place}");
             // The bytes that are cut off stand behind those that are lent.
-            judged(lab, &mut random, &bytes[..place]);
-            judged(lab, &mut random, &bytes[place..]);
+            judge.refusal(lab, &bytes[..place]);
+            judge.refusal(lab, &bytes[place..]);
             let (before, after) = bytes.split_at(place);
             let with = |middle: &[u8], after: &[u8]| [before, middle, after].concat();
-            judged(lab, &mut random, &with(&[], &after[1..]));
-            judged(lab, &mut random, &with(&after[..1], after));
+            judge.refusal(lab, &with(&[], &after[1..]));
+            judge.refusal(lab, &with(&after[..1], after));
             let close = [after[0] ^ 1, after[0] ^ 0x20, after[0].wrapping_add(1)];
             for byte in BYTES.iter().chain(&close) {
-                judged(lab, &mut random, &with(&[*byte], &after[1..]));
-                judged(lab, &mut random, &with(&[*byte], after));
+                judge.refusal(lab, &with(&[*byte], &after[1..]));
+                judge.refusal(lab, &with(&[*byte], after));
             }
         }
-        for other in steps {
+        for (other, _) in steps {
             lab.place = format!("step {index} and another");
             let both = [bytes, other.as_bytes()].concat();
-            assert_eq!(judged(lab, &mut random, &both), 13);
+            assert_eq!(judge.refusal(lab, &both), 13);
         }
         for byte in BYTES {
             lab.place = format!("step {index} and a byte");
-            let number = judged(lab, &mut random, &[bytes, &[*byte]].concat());
+            let number = judge.refusal(lab, &[bytes, &[*byte]].concat());
             assert_eq!(number, 13);
         }
     }
@@ -329,26 +372,28 @@ pub fn every_short_text(lab: &mut Lab) {
 /// Headers of every number of nodes near the limits, and numbers near theirs.
 pub fn limits(lab: &mut Lab) {
     let mut random = Random::new(14);
+    let mut judge = Judge::new(&mut random, MOST);
     let zero = |_| String::from("0");
     for (variables, wanted) in [
         (0, 13),
         (1, 13),
-        (8, 13),
-        (9, 0),
-        (10, 13),
-        (13, 13),
-        (18, 0),
-        (99, 0),
-        (MOST - 9, 0),
+        (9, 13),
+        (12, 13),
+        (13, 0),
+        (14, 13),
+        (18, 13),
+        (26, 0),
+        (143, 0),
+        (MOST - 13, 0),
         (MOST - 1, 13),
         (MOST, 0),
         (MOST + 1, 13),
-        (MOST + 9, 13),
+        (MOST + 13, 13),
         (2 * MOST, 13),
     ] {
         lab.place = format!("header of {variables} variables");
         let text = header(variables, "5", zero);
-        assert_eq!(judged(lab, &mut random, text.as_bytes()), wanted);
+        assert_eq!(judge.refusal(lab, text.as_bytes()), wanted);
         if wanted == 0 {
             let mut short = vec![1; variables - 1];
             assert_eq!(lab.read(text.as_bytes(), &mut short).refusal, 15);
@@ -378,16 +423,16 @@ pub fn limits(lab: &mut Lab) {
         };
         lab.place = format!("time {time}, bits {bits}");
         let value = |v| if v == odd { bits.clone() } else { "1".into() };
-        let header = header(18, &time, value);
-        judged(lab, &mut random, header.as_bytes());
+        let header = header(26, &time, value);
+        judge.refusal(lab, header.as_bytes());
         let variable = match random.below(4) {
             0 => MOST as u64 + random.below(2),
             1 => u64::MAX - random.below(2),
-            2 => (1 << random.pick(&[8, 12, 16, 31, 32, 63])) + random.below(3),
+            2 => (1 << random.pick(&[8, 12, 15, 16, 31, 32, 63])) + random.below(3),
             _ => random.below(MOST as u64),
         };
         let text = format!("#{time}\nb1 3\nb{bits} {variable}\n");
-        judged(lab, &mut random, text.as_bytes());
+        judge.refusal(lab, text.as_bytes());
     }
 }
 
@@ -395,12 +440,12 @@ pub fn limits(lab: &mut Lab) {
 /// of another kind, or another end of a line.
 pub fn lines_of_steps(lab: &mut Lab) {
     let mut random = Random::new(15);
+    let mut judge = Judge::new(&mut random, 1000);
     for round in 0..3000 {
         lab.place = format!("lines of a step, round {round}");
         let text = if random.chance(1, 2) {
-            header(9 * random.between(1, 3) as usize, "12", |v| {
-                format!("{v:b}")
-            })
+            let variables = QUEUES * random.between(1, 3) as usize;
+            header(variables, "12", |v| format!("{v:b}"))
         } else {
             let mut text = format!("#{}\n", random.below(1000));
             for v in 0..40 {
@@ -426,12 +471,12 @@ pub fn lines_of_steps(lab: &mut Lab) {
             // As it was; the end is the one that all lines have.
             _ => assert_eq!(end, "\n"),
         }
-        judged(lab, &mut random, lines.concat().as_bytes());
+        judge.refusal(lab, lines.concat().as_bytes());
     }
     // Every line with CR LF, as the answers of a sheet have.
     for text in [HEADER, LATER, "#0\n"] {
         lab.place = "lines with CR LF".into();
         let text = text.replace('\n', "\r\n");
-        assert_eq!(judged(lab, &mut random, text.as_bytes()), 13);
+        assert_eq!(judge.refusal(lab, text.as_bytes()), 13);
     }
 }

@@ -4,7 +4,7 @@
 /// A name, the input and the whole output.
 pub type Known = (&'static str, Vec<u8>, Vec<u8>);
 
-const LISTING: &str = "T,4,1,2,1,1\nO,0,2,7\nO,0,1,8\nM,0,0,5\nM,1,5,0\nD,10\n";
+const LISTING: &str = "T,4,1,1,2,1,1\nO,0,2,7\nO,0,1,8\nM,0,0,7\nM,1,7,0\nD,10\n";
 const LISTING_OUT: &str = "T,0 O,0 O,7 M,0 M,10 P,7,2 D,0,2,emptied";
 
 /// Output lines, written with blanks between them, all with CRLF.
@@ -17,7 +17,7 @@ fn printed(lines: &str) -> Vec<u8> {
 
 pub fn sheets() -> Vec<Known> {
     let bad = |count: usize| "?,13 ".repeat(count);
-    let good = "T,4,1,2,1,1";
+    let good = "T,4,1,1,2,1,1";
     let cases: Vec<(&str, String, String)> = vec![
         ("listing, LF", LISTING.into(), LISTING_OUT.into()),
         (
@@ -42,7 +42,7 @@ pub fn sheets() -> Vec<Known> {
         ),
         ("CR at the end of input", format!("{good}\r"), bad(1)),
         ("two CR before the LF", format!("{good}\r\r\n"), bad(1)),
-        ("CR in a line", "T,4,1,2\r,1,1\n".into(), bad(1)),
+        ("CR in a line", "T,4,1,1,2\r,1,1\n".into(), bad(1)),
         ("CR between lines", format!("{good}\rD,1\n"), bad(1)),
         ("LF then CR", format!("{good}\n\rD,1\n"), "T,0 ?,13".into()),
         (
@@ -67,12 +67,13 @@ pub fn sheets() -> Vec<Known> {
         ),
         (
             "blanks, signs, quotes, letters",
-            "T,4,1,2,1, 1\nT ,4,1,2,1,1\nD,+1\nD,-1\n\"D\",1\nd,1\nD,1x\nDD,1\nD, 1\nD,1 \n".into(),
+            "T,4,1,1,2,1, 1\nT ,4,1,1,2,1,1\nD,+1\nD,-1\n\"D\",1\nd,1\nD,1x\nDD,1\nD, 1\nD,1 \n"
+                .into(),
             bad(10),
         ),
         (
             "fields missing, empty or too many",
-            "T\nT,4,1,2,1\nT,4,1,2,1,1,1\nT,4,1,2,1,\nO,0,0\nM,0,0,0,0\nD\nD,\nD,1,\n,\n,1\n"
+            "T\nT,4,1,2,1,1\nT,4,1,1,2,1,1,1\nT,4,1,1,2,1,\nO,0,0\nM,0,0,0,0\nD\nD,\nD,1,\n,\n,1\n"
                 .into(),
             bad(11),
         ),
@@ -83,14 +84,14 @@ pub fn sheets() -> Vec<Known> {
         ),
         (
             "a refused T leaves the network",
-            format!("{good}\nO,1,2,3\nT,0,1,2,1,1\nT,16,16,8,8,8\nD,9\n"),
+            format!("{good}\nO,1,2,3\nT,0,1,1,2,1,1\nT,16,16,1,8,8,8\nD,9\n"),
             "T,0 O,0 T,2 T,1 P,3,2 D,0,2,emptied".into(),
         ),
         (
             "numbers that are too large for the call",
-            format!("{good}\nO,4,0,1\nO,0,4294967295,1\nM,4,9,9\nM,0,9,9\nM,0,8,9\nM,0,8,8\n")
-                + "T,4294967295,1,1,1,1\n",
-            "T,0 O,4 O,4 M,4 M,5 M,6 M,9 T,2".into(),
+            format!("{good}\nO,4,0,1\nO,0,4294967295,1\nM,4,13,13\nM,0,13,13\nM,0,12,13\n")
+                + "M,0,12,12\nT,4294967295,1,1,1,1,1\nT,4,1,17,2,1,1\nT,4,1,0,2,1,1\n",
+            "T,0 O,4 O,4 M,4 M,5 M,6 M,9 T,2 T,2 T,2".into(),
         ),
         (
             "a delivery by M, and the largest tag",
@@ -99,7 +100,7 @@ pub fn sheets() -> Vec<Known> {
         ),
         (
             "offers to oneself",
-            format!("T,1,1,2,1,1\nO,0,0,1\nO,1,1,1\n{good}\nO,3,3,1\nO,4,4,1\nO,0,1,2\n")
+            format!("T,1,1,1,2,1,1\nO,0,0,1\nO,1,1,1\n{good}\nO,3,3,1\nO,4,4,1\nO,0,1,2\n")
                 + "O,0,0,3\nD,9\n",
             "T,0 O,14 O,4 T,0 O,14 O,4 O,0 O,14 P,2,1 D,0,2,emptied".into(),
         ),
@@ -109,9 +110,35 @@ pub fn sheets() -> Vec<Known> {
             "T,0 O,0 D,0,0,spent D,0,1,spent P,5,1 D,0,1,emptied D,0,0,emptied".into(),
         ),
         (
-            "networks of exactly 8000 words, of fewer and of more",
-            "T,9,12,8,8,1\nO,107,0,1\nD,9\nT,9,12,8,8,2\nT,16,16,2,2,6\nT,16,16,2,2,7\n".into(),
-            "T,0 O,0 P,1,0 D,0,3,emptied T,1 T,0 T,1".into(),
+            // No network has 8000 words. 7995 and 8001 are next to it, then come
+            // 7849 for 245 nodes of the fewest words, and 8201 for 256.
+            "networks with room in 8000 words, and with none",
+            "T,11,11,1,2,6,5\nO,120,0,1\nD,9\nT,3,4,6,8,8,2\nT,5,7,7,2,1,1\nO,0,244,2\nD,9\n"
+                .to_string()
+                + "T,16,16,1,2,1,1\nT,8,8,4,2,1,1\nT,16,16,16,8,8,8\nT,16,15,1,2,1,1\n",
+            "T,0 O,0 P,1,0 D,0,3,emptied T,1 T,0 O,0 P,2,244 D,0,4,emptied T,1 T,1 T,1 T,0".into(),
+        ),
+        (
+            // Six numbers of ten digits take 67 bytes.
+            "T lines of 64, 65 and 67 bytes",
+            ["1000000\n", "1000000\r\n", "10000000\n", "4294967295\n"]
+                .map(|last| format!("T,{}{last}", "4294967295,".repeat(5)))
+                .concat(),
+            "T,2 T,2 ?,13 ?,13".into(),
+        ),
+        (
+            // Packet 1 goes along z by escape and stands in queue 11 of node 9,
+            // packet 2 comes along x by escape and turns there.
+            "from an x ring into a z ring",
+            "T,4,1,4,2,1,1\nO,1,9,1\nM,1,0,11\nM,5,11,11\nO,4,9,2\nM,4,0,7\nM,5,7,11\n".to_string()
+                + "M,9,11,0\nM,5,7,11\nD,9\n",
+            "T,0 O,0 M,0 M,0 O,0 M,0 M,12 P,1,9 M,0 M,0 P,2,9 D,0,1,emptied".into(),
+        ),
+        (
+            // From z 0 it goes z+, from z 1 it goes z-.
+            "half-way along z",
+            "T,3,2,4,2,1,1\nO,0,12,1\nM,0,0,6\nM,0,0,5\nO,6,18,2\nM,6,0,5\nM,6,0,12\nD,9\n".into(),
+            "T,0 O,0 M,10 M,0 O,0 M,10 M,0 P,1,12 P,2,18 D,0,4,emptied".into(),
         ),
     ];
     let known = cases.into_iter();

@@ -8,7 +8,7 @@ use compare::random::Random;
 /// Sheets made to hurt a reader of lines.
 pub fn hostile_sheets() -> Vec<(String, Vec<u8>)> {
     let mut list: Vec<(String, Vec<u8>)> = Vec::new();
-    let good = b"T,4,1,2,1,1".as_slice();
+    let good = b"T,4,1,1,2,1,1".as_slice();
     let after = b"\nO,0,2,7\nD,9\n".as_slice();
     // Each byte alone, in the middle of a good line, before and after it.
     for byte in 0..=255_u8 {
@@ -57,7 +57,7 @@ pub fn hostile_sheets() -> Vec<(String, Vec<u8>)> {
 
 /// Twice as many packets as the ledger has words, and drains that stop full.
 fn full_ledger(far: u64) -> Vec<u8> {
-    let mut sheet = String::from("T,4,4,2,1,8\n");
+    let mut sheet = String::from("T,4,2,2,2,1,8\n");
     for packet in 0..130 {
         let node = packet % 16;
         sheet += &format!("O,{node},{},{packet}\n", (node + packet / 64 + far) % 16);
@@ -74,7 +74,7 @@ struct Shadow {
 
 impl Shadow {
     fn nodes(&self) -> u64 {
-        (self.store[0] * self.store[1]).max(1)
+        self.store[..3].iter().product::<u64>().max(1)
     }
 }
 
@@ -100,14 +100,13 @@ fn sensible_line(random: &mut Random, shadow: &mut Shadow) -> String {
         0 => {
             let most = random.pick(&[2, 3, 4, 16]);
             let slots = random.pick(&[1, 1, 3, 7]);
-            let mut sizes = [most, most, slots, slots, slots];
+            let mut sizes = [most, most, most, slots, slots, slots];
             sizes = sizes.map(|limit| random.between(1, limit));
-            sizes[2] += 1;
+            sizes[3] += 1;
             if random.chance(1, 6) {
-                sizes[random.below(5) as usize] = random.pick(&[0, 1, 8, 9, 16, 17, 4294967295]);
+                sizes[random.below(6) as usize] = random.pick(&[0, 1, 8, 9, 16, 17, 4294967295]);
             }
-            let [x, y, e, a, j] = sizes;
-            let _ = model::make(&mut shadow.store, x, y, e, a, j);
+            let _ = model::make(&mut shadow.store, sizes);
             numbers("T", &sizes)
         }
         1..=15 => {
@@ -125,7 +124,7 @@ fn sensible_line(random: &mut Random, shadow: &mut Shadow) -> String {
         _ => {
             let routes = model::routes_of_heads(&shadow.store);
             let fields = if routes.is_empty() || random.chance(1, 4) {
-                [field(random, nodes), field(random, 9), field(random, 9)]
+                [field(random, nodes), field(random, 13), field(random, 13)]
             } else {
                 let step = random.pick(&routes);
                 [step.node, step.queue, step.output].map(|number| number as u64)
@@ -141,9 +140,9 @@ fn sensible_line(random: &mut Random, shadow: &mut Shadow) -> String {
 fn bad_line(random: &mut Random) -> Vec<u8> {
     let mut line = random
         .pick(&[
-            "T,4,1,2,1,1",
+            "T,4,1,1,2,1,1",
             "O,0,1,8",
-            "M,0,0,5",
+            "M,0,0,7",
             "D,10",
             "D,4294967296",
             "D,01",
@@ -175,15 +174,9 @@ pub fn random_sheet(random: &mut Random) -> Vec<u8> {
     };
     let mut sheet = Vec::new();
     if random.chance(9, 10) {
-        let sizes = [
-            random.between(1, 4),
-            random.between(1, 4),
-            2,
-            1,
-            random.between(1, 2),
-        ];
-        let [x, y, e, a, j] = sizes;
-        let _ = model::make(&mut shadow.store, x, y, e, a, j);
+        let [x, y, z] = [(); 3].map(|_| random.between(1, 3));
+        let sizes = [x, y, z, 2, 1, random.between(1, 2)];
+        let _ = model::make(&mut shadow.store, sizes);
         sheet.extend(numbers("T", &sizes).into_bytes());
         sheet.push(b'\n');
     }

@@ -15,13 +15,22 @@ ghost use Rattle.waveform.specs.Calls.{writeAnswer, writtenNumber, writePage, w
 ghost use Rattle.bench_c.specs.Outs.{movedOut, creditOut, lookOut, foundOut, drainedOut, writtenOut, readOut};
 
 #[no_mangle]
-pub extern "C" fn bench_make(words: &mut [u64], x: u64, y: u64, e: u64, a: u64, j: u64) -> u64
-    ensures answer { λ r. ⌜ r ≡ makeRefusal (shapeOf (sized x y e a j)) (now (words .entry)) ⌝ }
-    ensures words { λ _. ⌜ now (words .exit) ≡ makeWords (shapeOf (sized x y e a j)) (now (words .entry)) ⌝ }
+pub extern "C" fn bench_make(
+    words: &mut [u64],
+    x: u64,
+    y: u64,
+    z: u64,
+    e: u64,
+    a: u64,
+    j: u64,
+) -> u64
+    ensures answer { λ r. ⌜ r ≡ makeRefusal (shapeOf (sized x y z e a j)) (now (words .entry)) ⌝ }
+    ensures words { λ _. ⌜ now (words .exit) ≡ makeWords (shapeOf (sized x y z e a j)) (now (words .entry)) ⌝ }
 {
     let s = Sizes {
         x: x,
         y: y,
+        z: z,
         escape: e,
         adaptive: a,
         injection: j,

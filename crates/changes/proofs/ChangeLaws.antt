@@ -27,13 +27,13 @@ use Rattle.queue.specs.QueueLaws.{checked, checked-put, checked-fits}
 
 -- The header of an empty network ---------------------------------------------------------------------------------------------------------
 
--- the five sizes written over cleared words
+-- the six sizes written over cleared words
 pub empty-words : (s : Sizes) (n : ℕ) (w v : List ℕ) → n ≡ need (shapeOf s) → v ≡ replicate n 0 ++ drop n w
-    → set (set (set (set (set v 0 (s .x)) 1 (s .y)) 2 (s .escape)) 3 (s .adaptive)) 4 (s .injection)
+    → set (set (set (set (set (set v 0 (s .x)) 1 (s .y)) 2 (s .z)) 3 (s .escape)) 4 (s .adaptive)) 5 (s .injection)
     ≡ emptyNetwork (shapeOf s) ++ drop (need (shapeOf s)) w
 unfolding emptyNetwork need shapeOf
 empty-words s n w v en ev =
-    ap (λ (l : List ℕ). set (set (set (set (set l 0 (s .x)) 1 (s .y)) 2 (s .escape)) 3 (s .adaptive)) 4 (s .injection))
+    ap (λ (l : List ℕ). set (set (set (set (set (set l 0 (s .x)) 1 (s .y)) 2 (s .z)) 3 (s .escape)) 4 (s .adaptive)) 5 (s .injection))
     (ev
     ∙ ap (λ (k : ℕ). replicate k 0 ++ drop k w) en
     ∙ ap (λ (l : List ℕ). l ++ drop (headerWords + rest) w) (sym (replicate-append-replicate headerWords rest 0)))

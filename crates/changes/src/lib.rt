@@ -7,10 +7,12 @@ use network::MOVES_AT;
 use network::Sizes;
 ghost use mathlib.Core.Path.{_≡_};
 ghost use mathlib.Core.List.{_++_};
+ghost use mathlib.Core.Logic.{_≢_};
 ghost use Prim.Native.Nat.{_<_, _≤_};
 ghost use lib.Dec.{T};
 ghost use lib.ListN.{length, drop};
-ghost use Rattle.network.specs.Sizes.{shapeOf, sizesInRange, nodes, capacity, injectionQueue};
+ghost use Rattle.network.specs.Sizes.{shapeOf, sizesInRange, nodes, capacity, injectionQueue, directionOf};
+ghost use Rattle.network.specs.Torus.{neighbour};
 ghost use Rattle.network.specs.Layout.{need, held};
 ghost use Rattle.network.specs.CheckLaws.{Network};
 ghost use Rattle.network.specs.Refusals.{head};
@@ -39,9 +41,10 @@ pub fn write_empty(words: &mut [u64], s: Sizes)
     clear(words, n);
     words[0] = s.x;
     words[1] = s.y;
-    words[2] = s.escape;
-    words[3] = s.adaptive;
-    words[4] = s.injection;
+    words[2] = s.z;
+    words[3] = s.escape;
+    words[4] = s.adaptive;
+    words[5] = s.injection;
 }
 
 // Offer: the packet becomes the newest of the node's injection queue, which has a free slot, and accepted rises by one.
@@ -65,15 +68,28 @@ pub fn make_move(words: &mut [u64], s: Sizes, n: u64, q: u64, o: u64) -> u64
     ensures words { λ _. ⌜ now (words .exit) ≡ afterMove (shapeOf s) (now (words .entry)) n q o ⌝ }
     ensures head { λ r. ⌜ r ≡ head (held (shapeOf s) (now (words .entry)) n q) ⌝ }
 {
+    if o == 0 {
+        return move_to(words, s, n, q, o, n);
+    }
+    let there = packet::torus::neighbour(s, (o - 1) % DIRECTIONS, n);
+    move_to(words, s, n, q, o, there)
+}
+
+// The same where the node to which the output leads is at hand; a delivery asks for none.
+pub fn move_to(words: &mut [u64], s: Sizes, n: u64, q: u64, o: u64, there: u64) -> u64
+    requires { ⌜ Network (shapeOf s) (now words) ⌝ }
+    requires { ⌜ Permitted (shapeOf s) (now words) n q o ⌝ }
+    requires { ⌜ (o ≢ 0 → there ≡ neighbour (shapeOf s) (directionOf o) n) ⌝ }
+    ensures words { λ _. ⌜ now (words .exit) ≡ afterMove (shapeOf s) (now (words .entry)) n q o ⌝ }
+    ensures head { λ r. ⌜ r ≡ head (held (shapeOf s) (now (words .entry)) n q) ⌝ }
+{
     let p = queue::pop(words, s, n, q);
     if o == 0 {
         queue::raise(words, DELIVERED_AT);
         queue::raise(words, MOVES_AT);
         return p;
     }
-    let d = (o - 1) % DIRECTIONS;
-    let there = packet::torus::neighbour(s, d, n);
-    let hopped = packet::hop(d / 2, p);
+    let hopped = packet::hop((o - 1) % DIRECTIONS / 2, p);
     queue::push(words, s, there, o, hopped);
     queue::raise(words, MOVES_AT);
     p

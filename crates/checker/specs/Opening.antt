@@ -20,7 +20,7 @@ use Rattle.checker.specs.declared.Opened.{Opened}
 
 -- the sizes that the words begin with
 unfoldable pub sizesIn : List ℕ → Sizes
-sizesIn w = sized (getD w 0 0) (getD w 1 0) (getD w 2 0) (getD w 3 0) (getD w 4 0)
+sizesIn w = sized (getD w 0 0) (getD w 1 0) (getD w 2 0) (getD w 3 0) (getD w 4 0) (getD w 5 0)
 
 unfoldable pub opened : List ℕ → Opened
 opened w = cond (eqb (networkRefusal w) 0) (Opened.Network (sizesIn w)) (Opened.Refused (networkRefusal w))

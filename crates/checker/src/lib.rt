@@ -19,7 +19,8 @@ use ring_check::rings_have_room;
 ghost use mathlib.Core.Path.{_≡_};
 ghost use Prim.Native.Nat.{_≤_};
 ghost use lib.ListN.{length};
-ghost use Rattle.network.specs.Sizes.{Shape, shapeOf, within, sizesInRange};
+ghost use Rattle.base.specs.Tests.{allOf};
+ghost use Rattle.network.specs.Sizes.{Shape, shapeOf, within, largestRing, sizesInRange};
 ghost use Rattle.network.specs.Layout.{headerWords};
 ghost use Rattle.network.specs.Check.{packetsHeld, workLeft, countersFit, isNetwork};
 ghost use Rattle.network.specs.Refusals.{networkRefusal};
@@ -70,19 +71,17 @@ fn sizes_of(words: &[u64]) -> Sizes
     Sizes {
         x: words[0],
         y: words[1],
-        escape: words[2],
-        adaptive: words[3],
-        injection: words[4],
+        z: words[2],
+        escape: words[3],
+        adaptive: words[4],
+        injection: words[5],
     }
 }
 
 pub fn in_range(s: Sizes) -> bool
     ensures { λ r. ⌜ r ≡ sizesInRange (shapeOf s) ⌝ }
 {
-    if !within(1, LARGEST_RING, s.x) {
-        return false;
-    }
-    if !within(1, LARGEST_RING, s.y) {
+    if !rings_in_range(s) {
         return false;
     }
     if !within(FEWEST_ESCAPE, LARGEST_CAPACITY, s.escape) {
@@ -92,6 +91,19 @@ pub fn in_range(s: Sizes) -> bool
         return false;
     }
     within(1, LARGEST_CAPACITY, s.injection)
+}
+
+// Of the sizes of the rings, along each dimension.
+fn rings_in_range(s: Sizes) -> bool
+    ensures { λ r. ⌜ r ≡ allOf (within 1 largestRing) (shapeOf s .sizes) ⌝ }
+{
+    if !within(1, LARGEST_RING, s.x) {
+        return false;
+    }
+    if !within(1, LARGEST_RING, s.y) {
+        return false;
+    }
+    within(1, LARGEST_RING, s.z)
 }
 
 fn within(least: u64, most: u64, n: u64) -> bool

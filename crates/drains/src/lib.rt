@@ -1,14 +1,18 @@
 // A Drain of a network: turn after turn until one stops, with the set of heads and the table of neighbours that the turns use.
 use headset::SET_WORDS;
-use near::TABLE_ENTRIES;
 use network::ACCEPTED_AT;
 use network::DELIVERED_AT;
+use network::DIRECTIONS;
 use network::Drained;
+use network::FEW_NODES;
+use network::MOST_NODES;
 use network::Sizes;
 use network::Stop;
 use turns::Turn;
 use turns::take_turn;
-ghost use Rattle.network.specs.Sizes.{shapeOf};
+ghost use Prim.Native.Nat.{_*_, _≤_};
+ghost use lib.ListN.{length};
+ghost use Rattle.network.specs.Sizes.{shapeOf, nodes, directions};
 ghost use Rattle.network.specs.CheckLaws.{Network};
 ghost use Rattle.near.specs.Table.{Near};
 ghost use Rattle.ready.specs.ReadyHeads.{Covered};
@@ -53,8 +57,30 @@ fn take_turns(
     }
 }
 
-// A Drain of a network. The set of heads that may have a permitted move starts with all of them. Where nothing is held neither it nor the
-// table is needed.
+// A Drain with this table of neighbours, which is filled first. The set of heads that may have a permitted move starts with all of them.
+fn drain_with(
+    words: &mut [u64],
+    s: Sizes,
+    near: &mut [u16],
+    budget: u32,
+    ledger: &mut [u64],
+) -> Drained
+    requires { ⌜ Network (shapeOf s) (now words) ⌝ }
+    requires { ⌜ directions * nodes (shapeOf s) ≤ length (now near) ⌝ }
+    ensures { λ r. ⌜ DrainedTo (shapeOf s) (now (words .entry)) budget (now (ledger .entry)) r (now (words .exit)) (now (ledger .exit)) ⌝ }
+{
+    near::fill(near, s);
+    let mut ready = [0u64; SET_WORDS];
+    headset::fill(&mut ready, packet::torus::nodes(s));
+    take_turns(words, s, near, &mut ready, budget, ledger)
+}
+
+// The entries of the table for few nodes, and for the most.
+const FEW_ENTRIES: usize = (DIRECTIONS * FEW_NODES) as usize;
+
+const MOST_ENTRIES: usize = (DIRECTIONS * MOST_NODES) as usize;
+
+// A Drain of a network. Where nothing is held neither the set of heads nor the table is needed.
 pub fn drain_network(words: &mut [u64], s: Sizes, budget: u32, ledger: &mut [u64]) -> Drained
     requires { ⌜ Network (shapeOf s) (now words) ⌝ }
     ensures { λ r. ⌜ DrainedTo (shapeOf s) (now (words .entry)) budget (now (ledger .entry)) r (now (words .exit)) (now (ledger .exit)) ⌝ }
@@ -68,9 +94,10 @@ pub fn drain_network(words: &mut [u64], s: Sizes, budget: u32, ledger: &mut [u64
             stop: Stop::Emptied,
         };
     }
-    let mut near = [0u16; TABLE_ENTRIES];
-    near::fill(&mut near, s);
-    let mut ready = [0u64; SET_WORDS];
-    headset::fill(&mut ready, packet::torus::nodes(s));
-    take_turns(words, s, &near, &mut ready, budget, ledger)
+    if packet::torus::nodes(s) <= FEW_NODES {
+        let mut near = [0u16; FEW_ENTRIES];
+        return drain_with(words, s, &mut near, budget, ledger);
+    }
+    let mut near = [0u16; MOST_ENTRIES];
+    drain_with(words, s, &mut near, budget, ledger)
 }

@@ -8,6 +8,7 @@ use dump_text::stamp_length;
 use dump_text::value_length;
 use dump_text::variable_length;
 use fields::put_bytes;
+use network::FEW_NODES;
 use network::HEADER_WORDS;
 use network::MOVES_AT;
 use network::QUEUES;
@@ -32,6 +33,9 @@ ghost use Rattle.dump_writer.specs.Writing.{FillsAdded, countsAnswer, co
 
 // The fixed bytes of a header.
 const FIXED_BYTES: usize = 98;
+
+// The variables of few nodes.
+const FEW_VARIABLES: usize = (FEW_NODES * QUEUES) as usize;
 
 // The fills of node n, whose words begin at `start`, put at their places in the list.
 fn read_node(words: &[u64], s: Sizes, n: usize, start: usize, counts: &mut [u8])
@@ -234,7 +238,7 @@ fn write_fills(
     write_counts(first, time, counts, fills, page)
 }
 
-// The same, where the list is as long as the largest network needs it.
+// The same, where the list may be longer than the network needs it.
 fn write_network(
     first: bool,
     words: &[u64],
@@ -243,7 +247,7 @@ fn write_network(
     fills: &mut [u8],
     page: &mut [u8],
 ) -> Written
-    requires { ⌜ Network (shapeOf s) (now words) × (mostVariables ≤ length (now counts)) ⌝ }
+    requires { ⌜ Network (shapeOf s) (now words) × (variablesOf (shapeOf s) ≤ length (now counts)) ⌝ }
     ensures answer { λ r. ⌜ r ≡ countsAnswer first (movesMade (now (words .entry))) (fillsOf (shapeOf s) (now (words .entry))) (now (fills .entry)) (now (page .entry)) ⌝ }
     ensures fills { λ _. ⌜ now (fills .exit) ≡ countsList first (movesMade (now (words .entry))) (fillsOf (shapeOf s) (now (words .entry))) (now (fills .entry)) (now (page .entry)) ⌝ }
     ensures page { λ _. ⌜ now (page .exit) ≡ countsPage first (movesMade (now (words .entry))) (fillsOf (shapeOf s) (now (words .entry))) (now (fills .entry)) (now (page .entry)) ⌝ }
@@ -251,6 +255,21 @@ fn write_network(
     let nodes = packet::torus::nodes(s);
     let count = (nodes * QUEUES) as usize;
     write_fills(first, words, s, &mut counts[..count], fills, page)
+}
+
+// The same, with that list: it is cleared whole at each step, so a network of few nodes has a short one (D89).
+fn write_opened(first: bool, words: &[u64], s: Sizes, fills: &mut [u8], page: &mut [u8]) -> Written
+    requires { ⌜ Network (shapeOf s) (now words) ⌝ }
+    ensures answer { λ r. ⌜ r ≡ countsAnswer first (movesMade (now (words .entry))) (fillsOf (shapeOf s) (now (words .entry))) (now (fills .entry)) (now (page .entry)) ⌝ }
+    ensures fills { λ _. ⌜ now (fills .exit) ≡ countsList first (movesMade (now (words .entry))) (fillsOf (shapeOf s) (now (words .entry))) (now (fills .entry)) (now (page .entry)) ⌝ }
+    ensures page { λ _. ⌜ now (page .exit) ≡ countsPage first (movesMade (now (words .entry))) (fillsOf (shapeOf s) (now (words .entry))) (now (fills .entry)) (now (page .entry)) ⌝ }
+{
+    if packet::torus::nodes(s) <= FEW_NODES {
+        let mut counts = [0u8; FEW_VARIABLES];
+        return write_network(first, words, s, &mut counts, fills, page);
+    }
+    let mut counts = [0u8; MOST_VARIABLES];
+    write_network(first, words, s, &mut counts, fills, page)
 }
 
 // A step of words, a header if it is the first.
@@ -262,10 +281,7 @@ fn write_step(first: bool, words: &[u64], fills: &mut [u8], page: &mut [u8]) -> 
     let opened = checker::open(words);
     match opened {
         Opened::Refused(broken) => Written::Refused(broken),
-        Opened::Network(s) => {
-            let mut counts = [0u8; MOST_VARIABLES];
-            write_network(first, words, s, &mut counts, fills, page)
-        }
+        Opened::Network(s) => write_opened(first, words, s, fills, page),
     }
 }
 

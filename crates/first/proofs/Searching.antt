@@ -16,7 +16,7 @@ use Rattle.base.specs.Sums.{sumBelow}
 use Rattle.base.specs.Tests.{elem}
 use Rattle.network.specs.declared.Found.{Found}
 use Rattle.network.specs.Sizes.{Shape, shapeOf, nodes, queues, adaptiveQueue, escapeQueue, capacity, directions}
-use Rattle.network.specs.Layout.{nodeWords, queueStart, queueEnd, queueLength, held, total, accepted, delivered}
+use Rattle.network.specs.Layout.{headerWords, nodeWords, queueStart, queueEnd, queueLength, held, total, accepted, delivered}
 use Rattle.network.specs.LayoutLaws.{end-next, end-length, node-words, total-zero}
 use Rattle.network.specs.Check.{packetsHeld}
 use Rattle.network.specs.CheckLaws.{Network}
@@ -239,12 +239,12 @@ after-node S n =
     let one : (n + 1) * nodeWords S ≡ suc n * nodeWords S = ap (λ (m : ℕ). m * nodeWords S) (add-one n) in
     omega arith
 
-before-nodes : (S : Shape) → 8 ≡ queueStart S 0 0
+before-nodes : (S : Shape) → headerWords ≡ queueStart S 0 0
 unfolding queueStart sumBelow
 before-nodes S = let z = zero-mul (nodeWords S) in omega arith
 
 module _ {s : Sizes} {w : List ℕ} where
-  pub nodes-begin : AtNode s w false 8 0
+  pub nodes-begin : AtNode s w false headerWords 0
   unfolding firstMove
   nodes-begin = record { nothing = refl; within = omega arith; place = before-nodes (shapeOf s); left = ap (search (λ m. firstInNode (shapeOf s) w m) 0) (omega arith) }
 

@@ -1,8 +1,7 @@
 -- Laws of the bits of one word, each by induction on the place of the bit: bit 0 is the lowest digit, and bit j + 1 is bit j of the half.
--- Order: digits; or, and, not; a word with one bit, and with the lowest bits; a word shifted; one bit set or cleared as the code does it; the
--- trailing zeros. Assumes nothing.
-use mathlib.Core.Path.{_≡_, refl, ap, ap₂, sym, _∙_}
-use mathlib.Core.Bool.{Bool, true, false, not, _&&_, _||_}
+-- Order: digits; or, and, not; a word with one bit, and with the lowest bits; a word shifted; one bit set or cleared; the trailing zeros. Assumes nothing.
+use mathlib.Core.Path.{_≡_, refl, ap, ap₂, sym, subst, _∙_}
+use mathlib.Core.Bool.{Bool, true, false, cond, not, _&&_, _||_}
 use Prim.Native.Nat.{ℕ, zero, suc, _+_, _-_, _*_, _/_, _%_, _^_, _<_, _≤_, min, max}
 use native.Mathlib.Nat.{add-zero, div-one, one-mul, mul-pos, pow-suc, mod-lt, zero-lt-suc, le-of-suc-le-suc, not-suc-le-zero}
 use native.Mathlib.Numerals.{one-add}
@@ -12,7 +11,7 @@ use lib.Bits.{bitAnd, bitOr, and-step, or-step, shifted-half, shifted-even}
 use lib.Count.{trailingZeros, under, trailing-le}
 use lib.Dec.{eqb, ltb, lit<, eqb·suc-suc, eqb·zero-suc, eqb·suc-zero, leb·zero, leb·suc-zero, leb·suc-suc}
 use lib.Pow.{pow-pos, shr-shr, shl-shr, shl-exact}
-use Rattle.headset.specs.Set.{bit, LowestBit}
+use Rattle.headset.specs.Set.{bit, put, LowestBit}
 
 -- Digits ---------------------------------------------------------------------------------------------------------------------------------
 
@@ -153,24 +152,32 @@ shifted-from w k j = ap (λ (x : ℕ). eqb (x % 2) 1) (sym (shr-shr (w * 2 ^ k) 
 pub shifted-some : (a j k : ℕ) → a < 2 ^ j → 0 < a → j + k ≤ 64 → 0 < a * 2 ^ k % 2 ^ 64
 shifted-some a j k l p h = rw (shl-exact {a = a} j k 64 l h) (mul-pos p (pow-pos k))
 
--- One bit, as the code sets and clears it in a word of 64 bits ---------------------------------------------------------------------------
+-- One bit set, and cleared, in a word of 64 bits ---------------------------------------------------------------------------------------
 
+-- the word with bit k alone, as the code computes it
 abbrev pub one-bit : ℕ → ℕ
 one-bit k = 1 * 2 ^ k % 2 ^ 64
 
-abbrev pub cleared : ℕ → ℕ → ℕ
-cleared k w = bitAnd (2 ^ 64 - 1 - one-bit k) w
+pub one-exact : (k : ℕ) → k < 64 → one-bit k ≡ 2 ^ k
+one-exact k h = shl-exact {a = 1} 1 k 64 (lit< tt) (omega arith) ∙ one-mul (2 ^ k)
 
 pub bit-one : (k j : ℕ) → k < 64 → bit (one-bit k) j ≡ eqb j k
-bit-one k j h = ap (λ (x : ℕ). bit x j) (shl-exact {a = 1} 1 k 64 (lit< tt) (omega arith) ∙ one-mul (2 ^ k)) ∙ bit-pow k j
+bit-one k j h = ap (λ (x : ℕ). bit x j) (one-exact k h) ∙ bit-pow k j
 
-pub bit-set : (k w j : ℕ) → k < 64 → bit (bitOr (one-bit k) w) j ≡ (eqb j k || bit w j)
-bit-set k w j h = bit-or j (one-bit k) w ∙ ap (λ (b : Bool). b || bit w j) (bit-one k j h)
-
-pub bit-cleared : (k w j : ℕ) → k < 64 → j < 64 → bit (cleared k w) j ≡ (not (eqb j k) && bit w j)
-bit-cleared k w j h l =
-    bit-and j (2 ^ 64 - 1 - one-bit k) w
-    ∙ ap (λ (b : Bool). b && bit w j) (bit-not 64 j (one-bit k) (mod-lt (1 * 2 ^ k) (pow-pos 64)) l ∙ ap not (bit-one k j h))
+pub bit-put : (b : Bool) (k w j : ℕ) → k < 64 → j < 64 → bit (put w k b) j ≡ cond (eqb j k) b (bit w j)
+unfolding put
+bit-put true k w j h l = bit-or j (2 ^ k) w ∙ ap (λ (x : Bool). x || bit w j) (bit-pow k j) ∙ go (eqb j k)
+  where
+    go : (x : Bool) → (x || bit w j) ≡ cond x true (bit w j)
+    go true = refl
+    go false = refl
+bit-put false k w j h l =
+    let small : 2 ^ k < 2 ^ 64 = subst (λ (x : ℕ). x < 2 ^ 64) (one-exact k h) (mod-lt (1 * 2 ^ k) (pow-pos 64)) in
+    bit-and j (2 ^ 64 - 1 - 2 ^ k) w ∙ ap (λ (x : Bool). x && bit w j) (bit-not 64 j (2 ^ k) small l ∙ ap not (bit-pow k j)) ∙ go (eqb j k)
+  where
+    go : (x : Bool) → (not x && bit w j) ≡ cond x false (bit w j)
+    go true = refl
+    go false = refl
 
 -- Trailing zeros -------------------------------------------------------------------------------------------------------------------------
 

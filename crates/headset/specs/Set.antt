@@ -1,10 +1,12 @@
--- A set of heads of queues as the bits of words: head h is bit h % 64 of word 1 + h / 64. The head of queue q of node n
--- is number nodeHeads * n + q. Order: the members; what the functions of the crate leave or find. The statements are over
--- every number m: from `heads` on there is no member (SetLaws.antt). Assumes nothing.
+-- A set of heads of queues as the bits of words: bit k of the words is bit k % 64 of word k / 64. The head of queue q of node n is number
+-- nodeHeads * n + q, and head h is bit firstHead + h. Order: the members, and the words before them, which say where there are some; what the
+-- functions of the crate leave or find. The statements are over every number m: from `heads` on there is no member (SetLaws.antt). Assumes nothing.
 use mathlib.Core.Path.{_≡_}
 use mathlib.Core.Bool.{Bool, true, false, not, _&&_, _||_}
 use mathlib.Core.List.{List}
+use mathlib.Core.Logic.{_≢_}
 use Prim.Native.Nat.{ℕ, _+_, _*_, _/_, _%_, _-_, _^_, _<_, _≤_}
+use lib.Bits.{bitAnd, bitOr}
 use lib.Dec.{eqb, ltb}
 use lib.ListN.{length, getD}
 use Rattle.network.specs.Sizes.{queues, mostNodes}
@@ -16,8 +18,15 @@ nodeHeads = 16
 abbrev pub heads : ℕ
 heads = nodeHeads * mostNodes
 
+-- the words that speak of others, word 0 of the next 64 and these of the words of the heads; the first bit behind them; and all words
+abbrev pub firstWord : ℕ
+firstWord = 1 + 64
+
+abbrev pub firstHead : ℕ
+firstHead = 64 * firstWord
+
 abbrev pub setWords : ℕ
-setWords = 1 + heads / 64
+setWords = firstWord + heads / 64
 
 -- the nodes whose heads share a word, and the bits of the first one's heads
 abbrev pub wordNodes : ℕ
@@ -26,17 +35,34 @@ wordNodes = 64 / nodeHeads
 abbrev pub nodeBits : ℕ
 nodeBits = 2 ^ queues - 1
 
--- bit j of the word is set
+-- bit j of the word is set; bit k of the words is; head h is a member
 unfoldable pub bit : ℕ → ℕ → Bool
 bit word j = eqb (word / 2 ^ j % 2) 1
 
-unfoldable pub member : List ℕ → ℕ → Bool
-member set h = bit (getD set (1 + h / 64) 0) (h % 64)
+unfoldable pub bitOf : List ℕ → ℕ → Bool
+bitOf set k = bit (getD set (k / 64) 0) (k % 64)
 
--- bit i of word 0 says whether word 1 + i holds a member
+unfoldable pub member : List ℕ → ℕ → Bool
+member set h = bitOf set (firstHead + h)
+
+-- each bit before those of the heads says whether its word, word 1 + k, is not 0; beyond the last word all count as 0
 pub record IsSet (set : List ℕ) : Type 0 where
   pub words : length set ≡ setWords
-  pub top : (i : ℕ) → i < 64 → bit (getD set 0 0) i ≡ not (eqb (getD set (1 + i) 0) 0)
+  pub tells : (k : ℕ) → k < firstHead → bitOf set k ≡ not (eqb (getD set (1 + k) 0) 0)
+
+-- the words before, with w for word i
+pub record Replaced (before after : List ℕ) (i w : ℕ) : Type 0 where
+  pub words : length after ≡ length before
+  pub own : getD after i 0 ≡ w
+  pub others : (k : ℕ) → k ≢ i → getD after k 0 ≡ getD before k 0
+
+-- the word with bit j set, or cleared; and the words before, with bit k set, or cleared
+unfoldable pub put : ℕ → ℕ → Bool → ℕ
+put word j true = bitOr (2 ^ j) word
+put word j false = bitAnd (2 ^ 64 - 1 - 2 ^ j) word
+
+abbrev pub BitPut : List ℕ → List ℕ → ℕ → Bool → Type 0
+BitPut before after k b = Replaced before after (k / 64) (put (getD before (k / 64) 0) (k % 64) b)
 
 -- the set of the heads of the nodes below count
 pub record Filled (after : List ℕ) (count : ℕ) : Type 0 where
@@ -53,7 +79,7 @@ pub record NodeInserted (before after : List ℕ) (n : ℕ) : Type 0 where
   pub set : IsSet after
   pub members : (m : ℕ) → member after m ≡ ((eqb (m / nodeHeads) n && ltb (m % nodeHeads) queues) || member before m)
 
--- the set before, with the heads of word 1 + i whose bits are given
+-- the set before, with the heads of word firstWord + i whose bits are given
 pub record United (before after : List ℕ) (i bits : ℕ) : Type 0 where
   pub set : IsSet after
   pub members : (m : ℕ) → member after m ≡ ((eqb (m / 64) i && bit bits (m % 64)) || member before m)

@@ -1,23 +1,32 @@
 // A set of heads of queues as the bits of SET_WORDS lent words. The head of queue q of node n is number NODE_HEADS * n + q.
-// Head h is bit h % 64 of word 1 + h / 64, and bit i of word 0 says that word 1 + i is not 0, so the lowest head is found with two counts of
-// trailing zeros. Order: all heads of the nodes below a number; one head in, the heads of one node in, one head out; the lowest head.
+// Bit k of the words is bit k % 64 of word k / 64. The first FIRST_WORD words speak of others: bit k says that word 1 + k is not 0. So word 0
+// speaks of words 1 to 64, and these of the words behind them, which hold the heads: head h is bit FIRST_HEAD + h. The lowest head is found with
+// three counts of trailing zeros. Order: all heads of the nodes below a number; one head in, the heads of one node in, one head out; the lowest
+// head, and the lowest one out; one bit.
 use network::MOST_NODES;
 use network::QUEUES;
 ghost use mathlib.Core.Path.{_≡_};
-ghost use Prim.Native.Nat.{_<_, _≤_};
-ghost use lib.ListN.{replicate};
+ghost use mathlib.Core.Bool.{true, false};
+ghost use Prim.Native.Nat.{_<_, _≤_, _/_};
+ghost use lib.Dec.{eqb};
+ghost use lib.ListN.{length, getD, replicate};
 ghost use Rattle.network.specs.Sizes.{mostNodes};
-ghost use Rattle.headset.specs.Set.{heads, setWords, IsSet, Filled, United, Inserted, NodeInserted, Removed, LowestBit, Lowest};
+ghost use Rattle.headset.specs.Set.{heads, setWords, IsSet, BitPut, Filled, United, Inserted, NodeInserted, Removed, LowestBit, Lowest};
 
 // The numbers that a node has for the heads of its queues, and the numbers of the heads of all nodes.
 pub const NODE_HEADS: u64 = 16;
 
 pub const HEADS: u64 = NODE_HEADS * MOST_NODES;
 
-// A word for each 64 heads, and the word that says which of them are not 0.
+// The words that speak of others: word 0, and one for each of its bits. Not all of these have words to speak of and are always 0, so that one rule
+// tells, for both levels, which bit speaks of which word. The first bit behind them, and all words.
 const WORD_BITS: u64 = 64;
 
-pub const SET_WORDS: usize = (1 + HEADS / WORD_BITS) as usize;
+const FIRST_WORD: u64 = 1 + WORD_BITS;
+
+const FIRST_HEAD: u64 = WORD_BITS * FIRST_WORD;
+
+pub const SET_WORDS: usize = (FIRST_WORD + HEADS / WORD_BITS) as usize;
 
 // The nodes whose heads share a word, and the heads of the first of them.
 const WORD_NODES: u64 = WORD_BITS / NODE_HEADS;
@@ -57,41 +66,38 @@ pub fn insert_node(set: &mut [u64], n: u64)
     unite(set, n / WORD_NODES, heads);
 }
 
-// The heads whose bits are given, of which there is one at least, become members in word 1 + i.
+// The heads whose bits are given, of which there is one at least, become members in word FIRST_WORD + i. Bit WORD_BITS + i speaks of it, and bit
+// i / WORD_BITS of the word of that bit.
 fn unite(set: &mut [u64], i: u64, bits: u64)
     requires { ⌜ IsSet (now set) ⌝ }
-    requires { ⌜ i < 64 ⌝ }
+    requires { ⌜ i < heads / 64 ⌝ }
     requires { ⌜ 0 < bits ⌝ }
     ensures { λ _. ⌜ United (now (set .entry)) (now (set .exit)) i bits ⌝ }
 {
-    let at = (1 + i) as usize;
+    let at = (FIRST_WORD + i) as usize;
     let word = set[at];
     set[at] = bits | word;
-    let part: u64 = 1 << i;
-    let top = set[0];
-    set[0] = part | top;
+    set_bit(set, WORD_BITS + i);
+    set_bit(set, i / WORD_BITS);
 }
 
-// Head h is a member no longer.
-pub fn remove(set: &mut [u64], h: u64)
+// Head h is a member no longer. Where its word is 0 now, the bit that speaks of the word is cleared too, and so on upwards.
+fn remove(set: &mut [u64], h: u64)
     requires { ⌜ IsSet (now set) ⌝ }
     requires { ⌜ h < heads ⌝ }
     ensures { λ _. ⌜ Removed (now (set .entry)) (now (set .exit)) h ⌝ }
 {
     let i = h / WORD_BITS;
-    let at = (1 + i) as usize;
-    let head: u64 = 1 << (h % WORD_BITS);
-    let word = set[at];
-    let rest = !head & word;
-    set[at] = rest;
-    if rest == 0 {
-        let part: u64 = 1 << i;
-        let top = set[0];
-        set[0] = !part & top;
+    let word_empty = clear_bit(set, FIRST_HEAD + h);
+    if word_empty {
+        let part_empty = clear_bit(set, WORD_BITS + i);
+        if part_empty {
+            clear_bit(set, i / WORD_BITS);
+        }
     }
 }
 
-// The lowest member, or HEADS where there is none.
+// The lowest member, or HEADS where there is none. Word 1 + i is the lowest of words 1 to 64 that is not 0, word FIRST_WORD + j of those of the heads.
 pub fn lowest(set: &[u64]) -> u64
     requires { ⌜ IsSet (now set) ⌝ }
     ensures { λ r. ⌜ Lowest (now (set .entry)) r ⌝ }
@@ -101,7 +107,25 @@ pub fn lowest(set: &[u64]) -> u64
         return HEADS;
     }
     let i = lowest_bit(top);
-    WORD_BITS * i + lowest_bit(set[(1 + i) as usize])
+    let j = WORD_BITS * i + lowest_bit(set[(1 + i) as usize]);
+    WORD_BITS * j + lowest_bit(set[(FIRST_WORD + j) as usize])
+}
+
+// Head h, the lowest member, is a member no longer. The answer is the lowest then: mostly in the same word, which is at hand.
+pub fn remove_lowest(set: &mut [u64], h: u64) -> u64
+    requires { ⌜ IsSet (now set) ⌝ }
+    requires { ⌜ h < heads ⌝ }
+    requires { ⌜ Lowest (now set) h ⌝ }
+    ensures set { λ _. ⌜ Removed (now (set .entry)) (now (set .exit)) h ⌝ }
+    ensures lowest { λ r. ⌜ Lowest (now (set .exit)) r ⌝ }
+{
+    remove(set, h);
+    let i = h / WORD_BITS;
+    let rest = set[(FIRST_WORD + i) as usize];
+    if rest != 0 {
+        return WORD_BITS * i + lowest_bit(rest);
+    }
+    lowest(set)
 }
 
 // The lowest bit of the word that is set, or 64 where none is.
@@ -109,4 +133,29 @@ fn lowest_bit(word: u64) -> u64
     ensures { λ r. ⌜ LowestBit word r ⌝ }
 {
     u64::trailing_zeros(word) as u64
+}
+
+// Bit k of the words is set.
+fn set_bit(set: &mut [u64], k: u64)
+    requires { ⌜ k / 64 < length (now set) ⌝ }
+    ensures { λ _. ⌜ BitPut (now (set .entry)) (now (set .exit)) k true ⌝ }
+{
+    let at = (k / WORD_BITS) as usize;
+    let bit: u64 = 1 << (k % WORD_BITS);
+    let word = set[at];
+    set[at] = bit | word;
+}
+
+// Bit k of the words is cleared. The answer: whether its word is 0 now.
+fn clear_bit(set: &mut [u64], k: u64) -> bool
+    requires { ⌜ k / 64 < length (now set) ⌝ }
+    ensures answer { λ r. ⌜ r ≡ eqb (getD (now (set .exit)) (k / 64) 0) 0 ⌝ }
+    ensures words { λ _. ⌜ BitPut (now (set .entry)) (now (set .exit)) k false ⌝ }
+{
+    let at = (k / WORD_BITS) as usize;
+    let bit: u64 = 1 << (k % WORD_BITS);
+    let word = set[at];
+    let rest = !bit & word;
+    set[at] = rest;
+    rest == 0
 }

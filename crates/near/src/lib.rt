@@ -1,15 +1,14 @@
-// A table of neighbours, for a search that asks for them again and again: entry DIRECTIONS * n + d of as many as there can be is the neighbour of node n in
-// direction d. It is filled without a division.
+// A table of neighbours, for a search that asks for them again and again: entry DIRECTIONS * n + d is the neighbour of node n in direction d. The caller
+// lends it, with an entry for each direction of each node at least. It is filled without a division.
 use network::DIMENSIONS;
 use network::DIRECTIONS;
-use network::MOST_NODES;
 use network::Sizes;
 use packet::torus::Place;
 use packet::torus::next_place;
 use packet::torus::nodes;
 use packet::torus::step_from;
 ghost use mathlib.Core.Path.{_≡_};
-ghost use Prim.Native.Nat.{_+_, _*_, _<_};
+ghost use Prim.Native.Nat.{_+_, _*_, _<_, _≤_};
 ghost use lib.Dec.{T};
 ghost use lib.ListN.{length};
 ghost use Rattle.network.specs.Sizes.{Shape, shapeOf, sizesInRange, directions, dimensionOf, nodes, mostNodes};
@@ -17,13 +16,10 @@ ghost use Rattle.network.specs.Torus.{coordinate, neighbour};
 ghost use Rattle.packet.specs.Geometry.{nodeAt, OnTorus};
 ghost use Rattle.near.specs.Table.{Near, NearTo};
 
-// An entry for each direction of each node of the largest network.
-pub const TABLE_ENTRIES: usize = (DIRECTIONS * MOST_NODES) as usize;
-
 // One entry more: the neighbour of node n in direction d, where its coordinate in that dimension is c.
 fn fill_entry(near: &mut [u16], s: Sizes, d: u64, n: u64, c: u64)
     requires { ⌜ T (sizesInRange (shapeOf s)) × (d < directions) × (n < nodes (shapeOf s)) × (c ≡ coordinate (shapeOf s) (dimensionOf d) n) ⌝ }
-    requires { ⌜ (n < mostNodes) × NearTo (shapeOf s) (directions * n + d) (now near) ⌝ }
+    requires { ⌜ NearTo (shapeOf s) (directions * n + d) (now near) ⌝ }
     ensures { λ _. ⌜ NearTo (shapeOf s) (directions * n + d + 1) (now (near .exit)) ⌝ }
 {
     let there = step_from(s, d, n, c);
@@ -45,7 +41,7 @@ fn fill_node(near: &mut [u16], s: Sizes, n: u64, place: Place)
 
 // The neighbours of all nodes.
 pub fn fill(near: &mut [u16], s: Sizes)
-    requires { ⌜ T (sizesInRange (shapeOf s)) × (length (now near) ≡ directions * mostNodes) ⌝ }
+    requires { ⌜ T (sizesInRange (shapeOf s)) × (directions * nodes (shapeOf s) ≤ length (now near)) ⌝ }
     ensures { λ _. ⌜ Near (shapeOf s) (now (near .exit)) ⌝ }
 {
     let count = nodes(s);
@@ -62,7 +58,7 @@ pub fn fill(near: &mut [u16], s: Sizes)
 
 // The neighbour of node n in direction d, out of the table.
 pub fn look_up(near: &[u16], d: u64, n: u64) -> u64
-    requires { ⌜ (d < directions) × (n < mostNodes) × (length (now near) ≡ directions * mostNodes) ⌝ }
+    requires { ⌜ (d < directions) × (n < mostNodes) × (directions * n + d < length (now near)) ⌝ }
     ensures { λ r. ⌜ ((S : Shape) → Near S (now (near .entry)) → n < nodes S → r ≡ neighbour S d n) ⌝ }
 {
     near[(DIRECTIONS * n + d) as usize] as u64

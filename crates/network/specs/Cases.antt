@@ -1,20 +1,21 @@
--- The kept cases K1 to K12 as rows of one theorem about the definitions that the contracts cite, and the table of routes with them. A row like `k5` is
--- computed from them; where the case is meant of any network, a row like `k5-every` beside it says so of each one (K2 and K8 say it at once).
+-- The kept cases K1 to K12 as rows of one theorem about the definitions that the contracts cite, those of the third dimension and the table of routes with
+-- them. A row like `k5` is computed from them; where the case is meant of any network, a row like `k5-every` beside it says so of each one (K2 and K8 say
+-- it at once).
 -- Order: how the rows' networks are written down; what the rows about every network speak of; the rows; what proves them; the theorem.
 -- Assumes nothing.
-use mathlib.Core.Path.{_≡_, refl, ap, ap₂, _∙_}
+use mathlib.Core.Path.{_≡_, refl, ap, ap₂, sym, _∙_}
 use mathlib.Core.Logic.{_⊎_, inl, inr, _≢_, _↔_}
 use mathlib.Core.Bool.{Bool, true, false, not, cond, _&&_, _||_}
-use mathlib.Core.List.{List, [], _∷_, map}
+use mathlib.Core.List.{List, [], _∷_, _++_, map}
 use Prim.Native.Nat.{ℕ, zero, suc, _+_, _*_, _-_, _/_, _%_, _^_, _<_, _≤_}
-use native.Mathlib.Nat.{le-trans, le-add-right, min-le-left}
+use native.Mathlib.Nat.{le-trans, le-add-right, min-le-left, mod-add-div, mod-eq-of-lt, div-lt-iff-lt-mul, mul-comm, mul-one, add-comm}
 use native.Mathlib.Decide.{ℕ-discrete}
 use native.Mathlib.Omega.{arith}
 use borrow.Author.Tests.{eq-eqb, ne-eqb, lt-leb, lt-ltb, le-ltb, ltb-false}
-use lib.Dec.{T, leb, ltb, eqb, ltb→lt, lt→ltb, le→leb}
-use lib.IntN.{ℤ, pos, negsuc, natAbs}
-use lib.ListN.{length, take, drop, set, replicate, length-take}
-use Rattle.base.specs.Tests.{allBelow, someBelow, allOf, elem, T-true, T-false, passed?, and-i, or-l, or-r, or-e, all-by}
+use lib.Dec.{T, leb, ltb, eqb, ltb→lt, lt→ltb, le→leb, eqb→eq}
+use lib.IntN.{ℤ, pos, negsuc}
+use lib.ListN.{length, getD, take, drop, set, replicate, length-take}
+use Rattle.base.specs.Tests.{allBelow, someBelow, allOf, elem, EachBelow, each-at, T-true, T-false, passed?, and-l, and-r, and-i, or-l, or-r, or-e, all-by}
 use Rattle.base.specs.Sums.{sumBelow, sumOf}
 use Rattle.base.specs.Digits.{product, digit, putDigit, rotate}
 use Rattle.network.specs.declared.Moved.{Moved}
@@ -22,73 +23,106 @@ use Rattle.network.specs.declared.Found.{Found}
 use Rattle.network.specs.declared.Stop.{Stop}
 use Rattle.network.specs.declared.Drained.{Drained}
 use Rattle.network.specs.declared.Sizes.{Sizes}
-use Rattle.network.specs.Sizes.{Shape, shapeOf, sized, size, within, sizesInRange, nodes, queues, directions, dimensions, dimensionOf, directionOf, isPlus, injectionQueue, adaptiveQueue, escapeQueue, capacity, largestRing}
+use Rattle.network.specs.Sizes.{Shape, shapeOf, sized, size, within, sizesInRange, nodes, queues, directions, dimensions, dimensionOf, directionOf, isPlus, isEscape, injectionQueue, adaptiveQueue, escapeQueue, capacity, largestRing}
 use Rattle.network.specs.SizesLaws.{escape-capacity}
-use Rattle.network.specs.Packet.{signed, unsigned, packetWord, tag, destination, offset, withOffset, withOffsets, distance, forward, backward, hops, heading, hopsLeft, work, shrunk, hop, goesPlus, shorterWay}
+use Rattle.network.specs.Packet.{signed, unsigned, packetWord, tag, destination, spare, offset, withOffset, withOffsets, distance, forward, backward, hops, heading, hopsLeft, work, shrunk, hop, label, goesPlus, shorterWay}
 use Rattle.network.specs.Torus.{coordinate, stride, along, neighbour, movedBelow, movedBy}
-use Rattle.network.specs.Layout.{headerWords, shape, accepted, delivered, movesMade, raised, acceptedAt, queueLength, nodeWords, queueStart, queueEnd, need, queueWords, queuePart, countOf, packetsOf, unusedOf, held, load, fill, putQueue, total}
-use Rattle.network.specs.Check.{rightPlace, isQueueOf, reach, nearEnough, opposite, rightSign, lowerDone, packetFits, queueFits, queuesFit, hasRoom, ringHasRoom, ringsHaveRoom, packetsHeld, workLeft, countersFit, isNetwork}
+use Rattle.network.specs.Layout.{headerWords, shape, accepted, delivered, movesMade, raised, acceptedAt, movesAt, queueLength, nodeWords, queueStart, queueEnd, need, queueWords, queuePart, countOf, packetsOf, unusedOf, held, load, fill, putQueue, total}
+use Rattle.network.specs.Check.{spareClear, rightPlace, isQueueOf, reach, nearEnough, opposite, rightSign, lowerDone, packetFits, queueFits, queuesFit, hasRoom, ringHasRoom, ringsHaveRoom, packetsHeld, workLeft, countersFit, isNetwork}
 use Rattle.network.specs.Routes.{deliver, inOrder, without, incoming, incomingFirst, headings, routes, target, freeSlots, entersRing, slotsNeeded}
 use Rattle.network.specs.Selection.{selected}
 use Rattle.network.specs.SelectionLaws.{selection-routes}
-use Rattle.network.specs.Refusals.{refuse, noRoute, noSlot, noBubble, networkRefusal, makeRefusal, offerRules, offerRefusal, head, flowRules, moveRules, moveRefusal}
+use Rattle.network.specs.Refusals.{refuse, noRoute, noSlot, noBubble, networkRefusal, makeRefusal, offerRules, offerRefusal, head, flowRules, moveRules, moveRefusal, creditRules, creditRefusal, lookRules, lookRefusal}
 use Rattle.network.specs.Calls.{Progress, emptyNetwork, makeWords, offeredSteps, offered, afterOffer, offerWords, headLeaves, packetArrives, afterMove, moveWords, moveAnswer, firstOutput, firstInQueue, orElse, search, firstInNode, firstMove, firstAnswer, stopped, oneMore, deliverNext, moveNext, drainFrom, drained, drainLedger, drainAnswer}
-use Rattle.network.specs.PacketLaws.{hops-hop-le, arrived-distance}
-use Rattle.network.specs.TorusLaws.{Torus, along-lt, inRange-torus, inRange-size, inRange-nodes}
+use Rattle.network.specs.PacketLaws.{hops-hop-le, arrived-distance, spare-is}
+use Rattle.network.specs.TorusLaws.{Torus, size-pos, along-lt, inRange-torus, inRange-size, inRange-nodes, sizes-torus}
 use Rattle.network.specs.OfferLaws.{ShortRings, offset-nearer, offset-halfway}
-use Rattle.network.specs.CheckLaws.{Network, halfway-fits, own-fits, network-of, has-room-held}
+use Rattle.network.specs.CheckLaws.{Network, PacketFits, packet-of, reach-least, halfway-fits, own-fits, network-of, has-room-held}
 use Rattle.network.specs.RoutesLaws.{Onward, route-of, arrived-route, free-slots-held}
-use Rattle.network.specs.RefusalLaws.{elseBy-zero, network-passes, own-node-exactly, no-node-first, permitted-by}
+use Rattle.network.specs.RefusalLaws.{elseBy-zero, network-passed, network-passes, own-node-exactly, no-node-first, permitted-by}
 
--- a packet with tag 0, this destination and these offsets dx and dy
-abbrev packet : ℕ → ℤ → ℤ → ℕ
-packet to dx dy = packetWord 0 to (λ i. pick i)
-  where
-    pick : ℕ → ℤ
-    pick zero = dx
-    pick (suc i) = dy
+-- a packet with tag 0, this destination and these offsets dx, dy and dz
+abbrev packet : ℕ → ℤ → ℤ → ℤ → ℕ
+packet to dx dy dz = packetWord 0 to (λ i. getD (dx ∷ dy ∷ dz ∷ []) i (pos 0))
 
--- one that has arrived
+-- one that has arrived, one with an offset along dimension i alone, and the offset of one hop in direction d
 abbrev here : ℕ → ℕ
-here n = packet n (pos 0) (pos 0)
+here n = packet n (pos 0) (pos 0) (pos 0)
+
+abbrev straight : ℕ → ℕ → ℤ → ℕ
+straight to i z = packetWord 0 to (λ j. cond (eqb j i) z (pos 0))
+
+abbrev oneWay : ℕ → ℤ
+oneWay d = cond (isPlus d) (pos 1) (negsuc 0)
 
 -- an empty network of these sizes
-abbrev empty : ℕ → ℕ → ℕ → ℕ → ℕ → List ℕ
-empty x y e a j = makeWords (shapeOf (sized x y e a j)) (replicate (need (shapeOf (sized x y e a j))) 0)
+abbrev empty : Shape → List ℕ
+empty S = makeWords S (replicate (need S) 0)
 
 -- the words with these packets in a queue and as many packets more accepted
 abbrev holding : List ℕ → ℕ → ℕ → List ℕ → List ℕ
 holding w n q ps = set (putQueue (shape w) w n q ps) acceptedAt (accepted w + length ps)
 
--- K1, K3, K4: 4 by 3, E 2, A 1, J 1
+-- an empty network but for this packet in queue q of node 0
+abbrev only : Shape → ℕ → ℕ → List ℕ
+only S q p = holding (empty S) 0 q (p ∷ [])
+
+-- so many words are what these sizes need: enough for Make, whatever they hold, and one less is refused, by Check too
+abbrev Enough : Shape → ℕ → Type 0
+Enough S words =
+    (need S ≡ words)
+    × ((w : List ℕ) → length w ≡ words → makeRefusal S w ≡ 0)
+    × ((w : List ℕ) → length w ≡ words - 1 → makeRefusal S w ≡ 1)
+    × ((w : List ℕ) → length w ≡ words - 1 → shape w ≡ S → networkRefusal w ≡ 1)
+
+-- the word of an offer in an empty network, and that it stands in the injection queue of the node
+abbrev Offered : Shape → ℕ → ℕ → ℕ → ℕ → Type 0
+Offered S n destination tag word =
+    (offered S n destination tag ≡ word) × (held S (offerWords (empty S) n destination tag) n injectionQueue ≡ word ∷ [])
+
+-- K1, K3, K4: 4 by 3 by 1, E 2, A 1, J 1
 abbrev four-by-three : Shape
-four-by-three = shapeOf (sized 4 3 2 1 1)
+four-by-three = shapeOf (sized 4 3 1 2 1 1)
 
--- K3: 6 by 2, where half-way round leads from an even column or row to an odd one, and back
+-- K2: the largest sizes in two dimensions, and in three
+abbrev largest-plane : Shape
+largest-plane = shapeOf (sized 16 16 1 8 8 8)
+
+abbrev largest : Shape
+largest = shapeOf (sized 16 16 16 8 8 8)
+
+-- K3: 6 by 2 by 1, where half-way round leads from an even column or row to an odd one, and back
 abbrev six-by-two : Shape
-six-by-two = shapeOf (sized 6 2 2 1 1)
+six-by-two = shapeOf (sized 6 2 1 2 1 1)
 
--- 4 by 2, and by hand two packets half-way round both dimensions: plus from an odd column and an odd row, minus from an even column and an even row
+-- 2 by 2 by 2, where it does so along each dimension
+abbrev two-cubed : Shape
+two-cubed = shapeOf (sized 2 2 2 2 1 1)
+
+-- 4 by 2 by 1, and by hand two packets half-way round both dimensions: plus from an odd column and an odd row, minus from an even column and an even row
 abbrev four-by-two : Shape
-four-by-two = shapeOf (sized 4 2 2 1 1)
+four-by-two = shapeOf (sized 4 2 1 2 1 1)
 
 abbrev against-parity : List ℕ
-against-parity = holding (holding (empty 4 2 2 1 1) 5 injectionQueue (packet 3 (pos 2) (pos 1) ∷ [])) 0 injectionQueue (packet 6 (negsuc 1) (negsuc 0) ∷ [])
+against-parity =
+    holding (holding (empty four-by-two) 5 injectionQueue (packet 3 (pos 2) (pos 1) (pos 0) ∷ []))
+    0 injectionQueue (packet 6 (negsuc 1) (negsuc 0) (pos 0) ∷ [])
 
--- K2: the largest sizes
-abbrev largest : Shape
-largest = shapeOf (sized 16 16 8 8 8)
+-- one size along dimension i, another along the others; E 2, A 1, J 1
+abbrev longAlong : ℕ → ℕ → ℕ → Shape
+longAlong long others i = shapeOf (sized (cond (eqb i 0) long others) (cond (eqb i 1) long others) (cond (eqb i 2) long others) 2 1 1)
 
--- K5 to K7, K9, K10: 4 by 4, E 2, A 1, J 1; the neighbour of node 0 in direction d, which lies round the edge for the minus directions
-abbrev four-by-four : Shape
-four-by-four = shapeOf (sized 4 4 2 1 1)
+-- K5 to K7, K9, K10: 4 along the dimension of direction d, 2 along the others; the neighbour of node 0 in direction d, which lies round the edge for the
+-- minus directions
+abbrev four-along : ℕ → Shape
+four-along d = longAlong 4 2 (dimensionOf d)
 
 unfoldable pub next : ℕ → ℕ
-next d = neighbour four-by-four d 0
+next d = neighbour (four-along d) d 0
 
 -- a packet at node 0 with one hop left, in direction d
 unfoldable pub oneHop : ℕ → ℕ
-oneHop d = packetWord 0 (next d) (λ i. cond (eqb i (dimensionOf d)) (cond (isPlus d) (pos 1) (negsuc 0)) (pos 0))
+oneHop d = straight (next d) (dimensionOf d) (oneWay d)
 
 -- the queues of a list that pass a test
 unfoldable pub chosen : (ℕ → Bool) → List ℕ → List ℕ
@@ -96,9 +130,10 @@ chosen f [] = []
 chosen f (q ∷ qs) = cond (f q) (q ∷ chosen f qs) (chosen f qs)
 
 -- outside that packet's ring: every other queue of node 0 in which the check lets it stand. Its sign keeps it from the adaptive and escape queues
--- of the opposite direction, and a hop left in x from the escape queues of y; so into an x ring there is no turn from an escape queue
+-- of the opposite direction, and a hop left along one dimension from the escape queues of the later ones; so into an x ring there is no turn from an
+-- escape queue
 unfoldable pub outside : ℕ → List ℕ
-outside d = chosen (λ q. packetFits four-by-four 0 q (oneHop d) && not (eqb q (escapeQueue d))) (inOrder 0 queues)
+outside d = chosen (λ q. packetFits (four-along d) 0 q (oneHop d) && not (eqb q (escapeQueue d))) (inOrder 0 queues)
 
 -- where it may come from: its own ring first
 unfoldable pub sources : ℕ → List ℕ
@@ -111,66 +146,131 @@ inEach w p (q ∷ qs) = holding (inEach w p qs) 0 q (p ∷ [])
 
 -- the packet in each of its sources, and in the escape queue that it heads for as many that have arrived as are given
 unfoldable pub crossing : ℕ → ℕ → List ℕ
-crossing d count = holding (inEach (empty 4 4 2 1 1) (oneHop d) (sources d)) (next d) (escapeQueue d) (replicate count (here (next d)))
+crossing d count = holding (inEach (empty (four-along d)) (oneHop d) (sources d)) (next d) (escapeQueue d) (replicate count (here (next d)))
 
--- that network passes the check, and these are the refusals of the packet's moves into that escape queue, from each of its sources in turn
-abbrev Entries : ℕ → ℕ → List ℕ → Type 0
-Entries d count refusals =
+-- that network passes the check, and these are the refusals of the packet's moves into that escape queue: from the ring's own queue, and from each
+-- one outside
+abbrev Entries : ℕ → ℕ → ℕ → ℕ → Type 0
+Entries d count own others =
     (networkRefusal (crossing d count) ≡ 0)
-    × (map (λ q. moveRefusal (crossing d count) 0 q (escapeQueue d)) (sources d) ≡ refusals)
+    × (map (λ q. moveRefusal (crossing d count) 0 q (escapeQueue d)) (sources d) ≡ own ∷ replicate (length (outside d)) others)
 
--- K11: 2 by 1, E 2; the escape queues x+ of nodes 0 and 1 hold what is given
-abbrev pair : List ℕ → List ℕ → List ℕ
-pair ps qs = holding (holding (empty 2 1 2 1 1) 0 5 ps) 1 5 qs
+-- 2 by 1 by 2, and 1 by 2 by 2: rings of x and z alone, and of y and z
+abbrev along-x-and-z : Shape
+along-x-and-z = shapeOf (sized 2 1 2 2 1 1)
 
--- K12: 1 by 1, and by hand a packet for its own node in the injection queue
+abbrev along-y-and-z : Shape
+along-y-and-z = shapeOf (sized 1 2 2 2 1 1)
+
+-- a turn: by hand a packet in the escape queue x+ of node 0 with one hop left in z+, to node 2, and in the escape queue z+ there as many that have arrived
+-- as are given
+abbrev turning : ℕ → List ℕ
+turning count = holding (only along-x-and-z 7 (packet 2 (pos 0) (pos 0) (pos 1))) 2 11 (replicate count (here 2))
+
+-- 2 by 2 by 4, and by hand a packet in the adaptive queue z+ of node 0 with one hop left in x+, in y+ and in z+; the adaptive queues of these outputs are
+-- full
+unfoldable pub blocked : List ℕ → List ℕ
+blocked [] = only (longAlong 4 2 2) 5 (packet 7 (pos 1) (pos 1) (pos 1))
+blocked (o ∷ os) = holding (blocked os) (target (longAlong 4 2 2) 0 o) o (here (target (longAlong 4 2 2) 0 o) ∷ [])
+
+-- First names these outputs of that packet, each where those before it are full
+abbrev TriedInTurn : ℕ → ℕ → ℕ → ℕ → Type 0
+TriedInTurn first second third last =
+    (firstAnswer (blocked []) ≡ Found.Move 0 5 first)
+    × (firstAnswer (blocked (first ∷ [])) ≡ Found.Move 0 5 second)
+    × (firstAnswer (blocked (second ∷ first ∷ [])) ≡ Found.Move 0 5 third)
+    × (firstAnswer (blocked (third ∷ second ∷ first ∷ [])) ≡ Found.Move 0 5 last)
+
+-- of this packet in the injection queue of node 0 of 2 by 2 by 2: the refusals by each output
+abbrev leaving : ℕ → List ℕ
+leaving p = map (λ o. moveRefusal (only two-cubed injectionQueue p) 0 injectionQueue o) (inOrder 0 queues)
+
+-- in which queues of that node it may stand
+abbrev standing : ℕ → List ℕ
+standing p = chosen (λ q. packetFits two-cubed 0 q p) (inOrder 0 queues)
+
+-- K11: 2 along the dimension of direction d and 1 along the others, E 2; the escape queues of that direction at nodes 0 and 1 hold what is given
+abbrev pair : ℕ → List ℕ → List ℕ → List ℕ
+pair d ps qs = holding (holding (empty (longAlong 2 1 (dimensionOf d))) 0 (escapeQueue d) ps) 1 (escapeQueue d) qs
+
+-- K12: 1 by 1 by 1, and by hand a packet for its own node in the injection queue
+abbrev one-node : Shape
+one-node = shapeOf (sized 1 1 1 2 1 1)
+
 abbrev alone : List ℕ
-alone = holding (empty 1 1 2 1 1) 0 injectionQueue (here 0 ∷ [])
+alone = only one-node injectionQueue (here 0)
 
--- 2 by 2, and by hand such a packet in each queue of node 0
+-- 2 by 2 by 2, and by hand such a packet in each queue of node 0
 abbrev in-every-queue : List ℕ
-in-every-queue = inEach (empty 2 2 2 1 1) (here 0) (inOrder 0 queues)
+in-every-queue = inEach (empty two-cubed) (here 0) (inOrder 0 queues)
 
--- the table of R149: packets with each pair of signs, by the largest and the least number that the field of an offset holds
-abbrev heads-by-sign : List ℕ
-heads-by-sign =
-    packet 0 (pos 0) (pos 0)
-    ∷ packet 0 (pos 127) (pos 0)
-    ∷ packet 0 (negsuc 127) (pos 0)
-    ∷ packet 0 (pos 0) (pos 127)
-    ∷ packet 0 (pos 0) (negsuc 127)
-    ∷ packet 0 (pos 127) (pos 127)
-    ∷ packet 0 (pos 127) (negsuc 127)
-    ∷ packet 0 (negsuc 127) (pos 127)
-    ∷ packet 0 (negsuc 127) (negsuc 127)
+-- three sizes that all differ
+abbrev two-three-five : Shape
+two-three-five = shapeOf (sized 2 3 5 2 1 1)
+
+-- a word with all fields: tag 7, destination 6, bit 15, dx −2, dy 3 and dz −16
+abbrev a-word : ℕ
+a-word = 7 * 2 ^ 32 + 6 * 2 ^ 16 + 2 ^ 15 + 30 * 2 ^ 10 + 3 * 2 ^ 5 + 16
+
+-- the table of R149: a head by its offsets, and its routes in the queues where x is the incoming dimension, where y is, and where z is
+pub record TableRow : Type 0 where
+  pub head : ℕ
+  pub from-x : List ℕ
+  pub from-y : List ℕ
+  pub from-z : List ℕ
+
+abbrev row : ℤ → ℤ → ℤ → List ℕ → List ℕ → List ℕ → TableRow
+row dx dy dz x y z = record { head = packet 0 dx dy dz; from-x = x; from-y = y; from-z = z }
+
+-- the signs, by the largest and the least number that the field of an offset holds
+abbrev none : ℤ
+none = pos 0
+
+abbrev most : ℤ
+most = pos 15
+
+abbrev least : ℤ
+least = negsuc 15
+
+abbrev table : List TableRow
+table =
+    row none none none (0 ∷ []) (0 ∷ []) (0 ∷ [])
+    ∷ row most none none (1 ∷ 7 ∷ []) (1 ∷ 7 ∷ []) (1 ∷ 7 ∷ [])
+    ∷ row least none none (2 ∷ 8 ∷ []) (2 ∷ 8 ∷ []) (2 ∷ 8 ∷ [])
+    ∷ row none most none (3 ∷ 9 ∷ []) (3 ∷ 9 ∷ []) (3 ∷ 9 ∷ [])
+    ∷ row none least none (4 ∷ 10 ∷ []) (4 ∷ 10 ∷ []) (4 ∷ 10 ∷ [])
+    ∷ row none none most (5 ∷ 11 ∷ []) (5 ∷ 11 ∷ []) (5 ∷ 11 ∷ [])
+    ∷ row none none least (6 ∷ 12 ∷ []) (6 ∷ 12 ∷ []) (6 ∷ 12 ∷ [])
+    ∷ row most most none (1 ∷ 3 ∷ 7 ∷ []) (3 ∷ 1 ∷ 7 ∷ []) (1 ∷ 3 ∷ 7 ∷ [])
+    ∷ row most least none (1 ∷ 4 ∷ 7 ∷ []) (4 ∷ 1 ∷ 7 ∷ []) (1 ∷ 4 ∷ 7 ∷ [])
+    ∷ row least most none (2 ∷ 3 ∷ 8 ∷ []) (3 ∷ 2 ∷ 8 ∷ []) (2 ∷ 3 ∷ 8 ∷ [])
+    ∷ row least least none (2 ∷ 4 ∷ 8 ∷ []) (4 ∷ 2 ∷ 8 ∷ []) (2 ∷ 4 ∷ 8 ∷ [])
+    ∷ row most none most (1 ∷ 5 ∷ 7 ∷ []) (1 ∷ 5 ∷ 7 ∷ []) (5 ∷ 1 ∷ 7 ∷ [])
+    ∷ row most none least (1 ∷ 6 ∷ 7 ∷ []) (1 ∷ 6 ∷ 7 ∷ []) (6 ∷ 1 ∷ 7 ∷ [])
+    ∷ row least none most (2 ∷ 5 ∷ 8 ∷ []) (2 ∷ 5 ∷ 8 ∷ []) (5 ∷ 2 ∷ 8 ∷ [])
+    ∷ row least none least (2 ∷ 6 ∷ 8 ∷ []) (2 ∷ 6 ∷ 8 ∷ []) (6 ∷ 2 ∷ 8 ∷ [])
+    ∷ row none most most (3 ∷ 5 ∷ 9 ∷ []) (3 ∷ 5 ∷ 9 ∷ []) (5 ∷ 3 ∷ 9 ∷ [])
+    ∷ row none most least (3 ∷ 6 ∷ 9 ∷ []) (3 ∷ 6 ∷ 9 ∷ []) (6 ∷ 3 ∷ 9 ∷ [])
+    ∷ row none least most (4 ∷ 5 ∷ 10 ∷ []) (4 ∷ 5 ∷ 10 ∷ []) (5 ∷ 4 ∷ 10 ∷ [])
+    ∷ row none least least (4 ∷ 6 ∷ 10 ∷ []) (4 ∷ 6 ∷ 10 ∷ []) (6 ∷ 4 ∷ 10 ∷ [])
+    ∷ row most most most (1 ∷ 3 ∷ 5 ∷ 7 ∷ []) (3 ∷ 1 ∷ 5 ∷ 7 ∷ []) (5 ∷ 1 ∷ 3 ∷ 7 ∷ [])
+    ∷ row most most least (1 ∷ 3 ∷ 6 ∷ 7 ∷ []) (3 ∷ 1 ∷ 6 ∷ 7 ∷ []) (6 ∷ 1 ∷ 3 ∷ 7 ∷ [])
+    ∷ row most least most (1 ∷ 4 ∷ 5 ∷ 7 ∷ []) (4 ∷ 1 ∷ 5 ∷ 7 ∷ []) (5 ∷ 1 ∷ 4 ∷ 7 ∷ [])
+    ∷ row most least least (1 ∷ 4 ∷ 6 ∷ 7 ∷ []) (4 ∷ 1 ∷ 6 ∷ 7 ∷ []) (6 ∷ 1 ∷ 4 ∷ 7 ∷ [])
+    ∷ row least most most (2 ∷ 3 ∷ 5 ∷ 8 ∷ []) (3 ∷ 2 ∷ 5 ∷ 8 ∷ []) (5 ∷ 2 ∷ 3 ∷ 8 ∷ [])
+    ∷ row least most least (2 ∷ 3 ∷ 6 ∷ 8 ∷ []) (3 ∷ 2 ∷ 6 ∷ 8 ∷ []) (6 ∷ 2 ∷ 3 ∷ 8 ∷ [])
+    ∷ row least least most (2 ∷ 4 ∷ 5 ∷ 8 ∷ []) (4 ∷ 2 ∷ 5 ∷ 8 ∷ []) (5 ∷ 2 ∷ 4 ∷ 8 ∷ [])
+    ∷ row least least least (2 ∷ 4 ∷ 6 ∷ 8 ∷ []) (4 ∷ 2 ∷ 6 ∷ 8 ∷ []) (6 ∷ 2 ∷ 4 ∷ 8 ∷ [])
     ∷ []
 
--- its columns: the outputs of these packets, one after the other, where x is the incoming dimension, and where y is
 abbrev x-column : List (List ℕ)
-x-column =
-    (0 ∷ [])
-    ∷ (1 ∷ 5 ∷ [])
-    ∷ (2 ∷ 6 ∷ [])
-    ∷ (3 ∷ 7 ∷ [])
-    ∷ (4 ∷ 8 ∷ [])
-    ∷ (1 ∷ 3 ∷ 5 ∷ [])
-    ∷ (1 ∷ 4 ∷ 5 ∷ [])
-    ∷ (2 ∷ 3 ∷ 6 ∷ [])
-    ∷ (2 ∷ 4 ∷ 6 ∷ [])
-    ∷ []
+x-column = map (λ r. r .from-x) table
 
 abbrev y-column : List (List ℕ)
-y-column =
-    (0 ∷ [])
-    ∷ (1 ∷ 5 ∷ [])
-    ∷ (2 ∷ 6 ∷ [])
-    ∷ (3 ∷ 7 ∷ [])
-    ∷ (4 ∷ 8 ∷ [])
-    ∷ (3 ∷ 1 ∷ 5 ∷ [])
-    ∷ (4 ∷ 1 ∷ 5 ∷ [])
-    ∷ (3 ∷ 2 ∷ 6 ∷ [])
-    ∷ (4 ∷ 2 ∷ 6 ∷ [])
-    ∷ []
+y-column = map (λ r. r .from-y) table
+
+abbrev z-column : List (List ℕ)
+z-column = map (λ r. r .from-z) table
 
 -- two nodes and a dimension of any sizes in range
 pub record Between (w : List ℕ) (n destination i : ℕ) : Type 0 where
@@ -178,6 +278,10 @@ pub record Between (w : List ℕ) (n destination i : ℕ) : Type 0 where
   pub from : n < nodes (shape w)
   pub to : destination < nodes (shape w)
   pub dimension : i < dimensions
+
+-- sizes with no node along some dimension, or one more than a ring may have
+abbrev NoRing : Sizes → Type 0
+NoRing s = (i : ℕ) × (i < dimensions) × ((size (shapeOf s) i ≡ 0) ⊎ (size (shapeOf s) i ≡ 17))
 
 -- in any words: the head of queue q of node n, and that it is there to be moved
 abbrev headOf : List ℕ → ℕ → ℕ → ℕ
@@ -188,6 +292,19 @@ pub record Standing (w : List ℕ) (n q : ℕ) : Type 0 where
   pub node : n < nodes (shape w)
   pub queue : q < queues
   pub holds : length (held (shape w) w n q) ≢ 0
+
+-- in any words, of which X, Y and Z are the first three: there are X × Y × Z nodes, and node n is (z × Y + y) × X + x
+abbrev Numbered : List ℕ → ℕ → Type 0
+Numbered w n =
+    (nodes (shape w) ≡ getD w 0 0 * (getD w 1 0 * getD w 2 0))
+    × (n ≡ (coordinate (shape w) 2 n * getD w 1 0 + coordinate (shape w) 1 n) * getD w 0 0 + coordinate (shape w) 0 n)
+
+-- a packet that a network holds, in queue q of node n
+pub record Within (w : List ℕ) (n q p : ℕ) : Type 0 where
+  pub passes : networkRefusal w ≡ 0
+  pub node : n < nodes (shape w)
+  pub queue : q < queues
+  pub held-there : T (elem p (held (shape w) w n q))
 
 -- E is 2, and the escape queue of direction d at the neighbour is a route of that head
 pub record Entering (w : List ℕ) (n q d : ℕ) : Type 0 where
@@ -213,24 +330,21 @@ pub record RingsOfTwo (w : List ℕ) (d : ℕ) : Type 0 where
   pub two-slots : shape w .escape ≡ 2
 
 pub record KeptCases : Type 0 where
-  -- the words that the sizes 4 by 3, E 2, A 1, J 1 need
-  pub k1 : need four-by-three ≡ 272
-  -- the largest sizes: so many words are enough for Make, whatever they hold, and one less is refused, by Check too
-  pub k2 : (need largest ≡ 20744)
-      × ((w : List ℕ) → length w ≡ 20744 → makeRefusal largest w ≡ 0)
-      × ((w : List ℕ) → length w ≡ 20743 → makeRefusal largest w ≡ 1)
-      × ((w : List ℕ) → length w ≡ 20743 → shape w ≡ largest → networkRefusal w ≡ 1)
+  -- the words that the sizes 4 by 3 by 1, E 2, A 1, J 1 need
+  pub k1 : need four-by-three ≡ 393
+  -- the words that the largest sizes with Z 1 need, and those of the largest network
+  pub k2 : Enough largest-plane 29961
+  pub k2-largest : Enough largest 479241
   -- the word of an offer from node 0 to node 6 with tag 7, and where it stands
-  pub k3 : (offered four-by-three 0 6 7 ≡ 30065164801) × (held four-by-three (offerWords (empty 4 3 2 1 1) 0 6 7) 0 0 ≡ 30065164801 ∷ [])
+  pub k3 : Offered four-by-three 0 6 7 30065166368
   -- the same one column on: half-way round from an odd column is minus
-  pub k3-odd-column : (offered four-by-three 1 7 7 ≡ 30065294849) × (held four-by-three (offerWords (empty 4 3 2 1 1) 1 7 7) 1 0 ≡ 30065294849 ∷ [])
+  pub k3-odd-column : Offered four-by-three 1 7 7 30065260576
   -- from an odd row, of a node with an even number, to an even row
-  pub k3-odd-row : (offered six-by-two 6 0 7 ≡ 30064771327) × (held six-by-two (offerWords (empty 6 2 2 1 1) 6 0 7) 6 0 ≡ 30064771327 ∷ [])
+  pub k3-odd-row : Offered six-by-two 6 0 7 30064772064
   -- from an odd column of an even row, and from an even column of an odd row: each offset by its own coordinate
-  pub k3-parities-differ : (offered six-by-two 1 10 7 ≡ 30065491201)
-      × (held six-by-two (offerWords (empty 6 2 2 1 1) 1 10 7) 1 0 ≡ 30065491201 ∷ [])
-      × (offered six-by-two 6 3 7 ≡ 30064968703)
-      × (held six-by-two (offerWords (empty 6 2 2 1 1) 6 3 7) 6 0 ≡ 30064968703 ∷ [])
+  pub k3-parities-differ : Offered six-by-two 1 10 7 30065456160 × Offered six-by-two 6 3 7 30064971744
+  -- from (0, 0, 1) to (1, 1, 0), and back: along z half-way round goes by the parity of z, whatever that of x, of y and of the node's number
+  pub k3-parity-of-z : Offered two-cubed 4 3 7 30064968767 × Offered two-cubed 3 4 7 30065065953
   -- any sizes in range, and each dimension: where one way is shorter the offset is that way, from every coordinate; where both are equal it is plus
   -- from an even coordinate of the sending node and minus from an odd one; and no ring of an odd size has two equal ways
   pub k3-every : (w : List ℕ) (n destination tag i : ℕ) → Between w n destination i
@@ -245,66 +359,65 @@ pub record KeptCases : Type 0 where
   -- R304, packets held half-way round against the parity of their column and row: they pass the check, their moves are those of their signs and
   -- all others are refused by 10; a hop along y, in the same column, leaves dx as it was, and one along x, in the same row, dy; the next hop is along x
   pub k3-held : (networkRefusal against-parity ≡ 0)
-      × (map (λ o. moveRefusal against-parity 5 0 o) (inOrder 0 queues) ≡ 10 ∷ 0 ∷ 10 ∷ 0 ∷ 10 ∷ 0 ∷ 10 ∷ 10 ∷ 10 ∷ [])
-      × (map (λ o. moveRefusal against-parity 0 0 o) (inOrder 0 queues) ≡ 10 ∷ 10 ∷ 0 ∷ 10 ∷ 0 ∷ 10 ∷ 0 ∷ 10 ∷ 10 ∷ [])
-      × (held four-by-two (moveWords against-parity 5 0 3) 1 3 ≡ packet 3 (pos 2) (pos 0) ∷ [])
-      × (held four-by-two (moveWords against-parity 0 0 4) 4 4 ≡ packet 6 (negsuc 1) (pos 0) ∷ [])
-      × (held four-by-two (moveWords against-parity 5 0 1) 6 1 ≡ packet 3 (pos 1) (pos 1) ∷ [])
-      × (held four-by-two (moveWords against-parity 0 0 2) 3 2 ≡ packet 6 (negsuc 0) (negsuc 0) ∷ [])
-      × (held four-by-two (moveWords (moveWords against-parity 5 0 3) 1 3 1) 2 1 ≡ packet 3 (pos 1) (pos 0) ∷ [])
-      × (held four-by-two (moveWords (moveWords against-parity 0 0 4) 4 4 2) 7 2 ≡ packet 6 (negsuc 0) (pos 0) ∷ [])
+      × (map (λ o. moveRefusal against-parity 5 0 o) (inOrder 0 queues) ≡ 10 ∷ 0 ∷ 10 ∷ 0 ∷ 10 ∷ 10 ∷ 10 ∷ 0 ∷ 10 ∷ 10 ∷ 10 ∷ 10 ∷ 10 ∷ [])
+      × (map (λ o. moveRefusal against-parity 0 0 o) (inOrder 0 queues) ≡ 10 ∷ 10 ∷ 0 ∷ 10 ∷ 0 ∷ 10 ∷ 10 ∷ 10 ∷ 0 ∷ 10 ∷ 10 ∷ 10 ∷ 10 ∷ [])
+      × (held four-by-two (moveWords against-parity 5 0 3) 1 3 ≡ packet 3 (pos 2) (pos 0) (pos 0) ∷ [])
+      × (held four-by-two (moveWords against-parity 0 0 4) 4 4 ≡ packet 6 (negsuc 1) (pos 0) (pos 0) ∷ [])
+      × (held four-by-two (moveWords against-parity 5 0 1) 6 1 ≡ packet 3 (pos 1) (pos 1) (pos 0) ∷ [])
+      × (held four-by-two (moveWords against-parity 0 0 2) 3 2 ≡ packet 6 (negsuc 0) (negsuc 0) (pos 0) ∷ [])
+      × (held four-by-two (moveWords (moveWords against-parity 5 0 3) 1 3 1) 2 1 ≡ packet 3 (pos 1) (pos 0) (pos 0) ∷ [])
+      × (held four-by-two (moveWords (moveWords against-parity 0 0 4) 4 4 2) 7 2 ≡ packet 6 (negsuc 0) (pos 0) (pos 0) ∷ [])
   -- any packet: no hop adds hops left in any direction
   pub k3-held-every : (i d p : ℕ) → i < dimensions → d < directions → hops d (hop i p) ≤ hops d p
   -- any sizes, node, queue and packet: half-way round the check judges both signs alike
   pub k3-fits-every : (w : List ℕ) (n q i h p : ℕ) → T (sizesInRange (shape w)) → n < nodes (shape w) → i < dimensions
       → 2 * h ≡ size (shape w) i
       → packetFits (shape w) n q (withOffset i (pos h) p) ≡ packetFits (shape w) n q (withOffset i (negsuc (h - 1)) p)
-  -- from node 0 to node 11, both offsets negative
-  pub k4 : (offered four-by-three 0 11 0 ≡ 786431) × (held four-by-three (offerWords (empty 4 3 2 1 1) 0 11 0) 0 0 ≡ 786431 ∷ [])
-  -- the rows K5 to K7 go through these queues, for x+, x−, y+ and y− (directions 0 to 3): the ring's own, then the injection queue, the adaptive
-  -- queues but that of the opposite direction, and for y the escape queues of x, from which a packet turns
-  pub k5-sources : (sources 0 ≡ 5 ∷ 0 ∷ 1 ∷ 3 ∷ 4 ∷ [])
-      × (sources 1 ≡ 6 ∷ 0 ∷ 2 ∷ 3 ∷ 4 ∷ [])
-      × (sources 2 ≡ 7 ∷ 0 ∷ 1 ∷ 2 ∷ 3 ∷ 5 ∷ 6 ∷ [])
-      × (sources 3 ≡ 8 ∷ 0 ∷ 1 ∷ 2 ∷ 4 ∷ 5 ∷ 6 ∷ [])
-  -- one packet ahead: the ring's own queue may go on, every other one lacks the bubble
-  pub k5 : Entries 0 1 (0 ∷ 12 ∷ 12 ∷ 12 ∷ 12 ∷ [])
-      × Entries 1 1 (0 ∷ 12 ∷ 12 ∷ 12 ∷ 12 ∷ [])
-      × Entries 2 1 (0 ∷ 12 ∷ 12 ∷ 12 ∷ 12 ∷ 12 ∷ 12 ∷ [])
-      × Entries 3 1 (0 ∷ 12 ∷ 12 ∷ 12 ∷ 12 ∷ 12 ∷ 12 ∷ [])
+  -- from node 0 to node 11, dx and dy negative
+  pub k4 : Offered four-by-three 0 11 0 753632
+  -- the rows K5 to K7 go through these queues, for x+, x−, y+, y−, z+ and z− (directions 0 to 5): the ring's own, then the injection queue, the adaptive
+  -- queues but that of the opposite direction, and for y and z the escape queues of the lower dimensions, from which a packet turns
+  pub k5-sources : (sources 0 ≡ 7 ∷ 0 ∷ 1 ∷ 3 ∷ 4 ∷ 5 ∷ 6 ∷ [])
+      × (sources 1 ≡ 8 ∷ 0 ∷ 2 ∷ 3 ∷ 4 ∷ 5 ∷ 6 ∷ [])
+      × (sources 2 ≡ 9 ∷ 0 ∷ 1 ∷ 2 ∷ 3 ∷ 5 ∷ 6 ∷ 7 ∷ 8 ∷ [])
+      × (sources 3 ≡ 10 ∷ 0 ∷ 1 ∷ 2 ∷ 4 ∷ 5 ∷ 6 ∷ 7 ∷ 8 ∷ [])
+      × (sources 4 ≡ 11 ∷ 0 ∷ 1 ∷ 2 ∷ 3 ∷ 4 ∷ 5 ∷ 7 ∷ 8 ∷ 9 ∷ 10 ∷ [])
+      × (sources 5 ≡ 12 ∷ 0 ∷ 1 ∷ 2 ∷ 3 ∷ 4 ∷ 6 ∷ 7 ∷ 8 ∷ 9 ∷ 10 ∷ [])
+  -- in each direction, one packet ahead: the ring's own queue may go on, every other one lacks the bubble
+  pub k5 : (d : ℕ) → d < directions → Entries d 1 0 12
   pub k5-every : (w : List ℕ) (n q d : ℕ) → Entering w n q d → ahead w n d ≡ 1
       → moveRefusal w n q (escapeQueue d) ≡ cond (eqb q (escapeQueue d)) 0 12
+  -- a turn from an x ring into a z ring enters that ring: one packet ahead, none, two
+  pub k5-turn-into-z : (map (λ count. networkRefusal (turning count)) (0 ∷ 1 ∷ 2 ∷ []) ≡ 0 ∷ 0 ∷ 0 ∷ [])
+      × (moveRefusal (turning 1) 0 7 11 ≡ 12)
+      × (moveRefusal (turning 0) 0 7 11 ≡ 0)
+      × (moveRefusal (turning 2) 0 7 11 ≡ 11)
   -- two ahead: no slot, wherever the packet stands
-  pub k6 : Entries 0 2 (11 ∷ 11 ∷ 11 ∷ 11 ∷ 11 ∷ [])
-      × Entries 1 2 (11 ∷ 11 ∷ 11 ∷ 11 ∷ 11 ∷ [])
-      × Entries 2 2 (11 ∷ 11 ∷ 11 ∷ 11 ∷ 11 ∷ 11 ∷ 11 ∷ [])
-      × Entries 3 2 (11 ∷ 11 ∷ 11 ∷ 11 ∷ 11 ∷ 11 ∷ 11 ∷ [])
+  pub k6 : (d : ℕ) → d < directions → Entries d 2 11 11
   pub k6-every : (w : List ℕ) (n q d : ℕ) → Entering w n q d → ahead w n d ≡ 2 → moveRefusal w n q (escapeQueue d) ≡ 11
   -- none ahead: permitted, wherever it stands
-  pub k7 : Entries 0 0 (0 ∷ 0 ∷ 0 ∷ 0 ∷ 0 ∷ [])
-      × Entries 1 0 (0 ∷ 0 ∷ 0 ∷ 0 ∷ 0 ∷ [])
-      × Entries 2 0 (0 ∷ 0 ∷ 0 ∷ 0 ∷ 0 ∷ 0 ∷ 0 ∷ [])
-      × Entries 3 0 (0 ∷ 0 ∷ 0 ∷ 0 ∷ 0 ∷ 0 ∷ 0 ∷ [])
+  pub k7 : (d : ℕ) → d < directions → Entries d 0 0 0
   pub k7-every : (w : List ℕ) (n q d : ℕ) → Entering w n q d → ahead w n d ≡ 0 → moveRefusal w n q (escapeQueue d) ≡ 0
-  -- one of these three sizes is enough, whatever the others are and the words hold: for Make in a store of any length, for Check in one that has
-  -- a header
-  pub k8 : (s : Sizes) (w : List ℕ) → (s .escape ≡ 1) ⊎ ((s .x ≡ 0) ⊎ (s .x ≡ 17))
+  -- one of these sizes, E 1 or along any one dimension 0 or 17, is enough, whatever the others are and the words hold: for Make in a store of any length,
+  -- for Check in one that has a header
+  pub k8 : (s : Sizes) (w : List ℕ) → (s .escape ≡ 1) ⊎ NoRing s
       → (makeRefusal (shapeOf s) w ≡ 2) × (headerWords ≤ length w → shape w ≡ shapeOf s → networkRefusal w ≡ 2)
   -- a packet with a hop left in x+ is not delivered, and one that has arrived does not go on in the ring
-  pub k9 : (moveRefusal (crossing 0 1) 0 0 0 ≡ 10) × (moveRefusal (crossing 0 1) 1 5 5 ≡ 10)
+  pub k9 : (moveRefusal (crossing 0 1) 0 0 0 ≡ 10) × (moveRefusal (crossing 0 1) 1 7 7 ≡ 10)
   pub k9-every : (w : List ℕ) (n q : ℕ) → Standing w n q
-      → (offset 0 (headOf w n q) ≡ pos 1 → moveRefusal w n q 0 ≡ 10)
-      × (((i : ℕ) → i < dimensions → offset i (headOf w n q) ≡ pos 0) → moveRefusal w n q (escapeQueue 0) ≡ 10)
+      → ((i : ℕ) → i < dimensions → distance i (headOf w n q) ≢ 0 → moveRefusal w n q 0 ≡ 10)
+      × (((i : ℕ) → i < dimensions → distance i (headOf w n q) ≡ 0) → (d : ℕ) → d < directions → moveRefusal w n q (escapeQueue d) ≡ 10)
   -- no move is made without a budget, and nothing held goes before nothing left to spend
   pub k10 : (room : ℕ)
-      → (drainAnswer (empty 4 4 2 1 1) 0 room ≡ Drained.Stopped 0 0 Stop.Emptied)
+      → (drainAnswer (empty four-by-three) 0 room ≡ Drained.Stopped 0 0 Stop.Emptied)
       × (drainAnswer (crossing 0 0) 0 room ≡ Drained.Stopped 0 0 Stop.Spent)
   pub k10-every : (w : List ℕ) (room : ℕ) → networkRefusal w ≡ 0
       → drainAnswer w 0 room ≡ Drained.Stopped 0 0 (cond (eqb (packetsHeld (shape w) w) 0) Stop.Emptied Stop.Spent)
-  -- a ring of four slots: full it is refused, with one slot free it passes; a hop left in an x queue of two columns is refused
-  pub k11 : (networkRefusal (pair (here 0 ∷ here 0 ∷ []) (here 1 ∷ here 1 ∷ [])) ≡ 3)
-      × (networkRefusal (pair (here 0 ∷ here 0 ∷ []) (here 1 ∷ [])) ≡ 0)
-      × (networkRefusal (pair (here 0 ∷ packet 1 (pos 1) (pos 0) ∷ []) (here 1 ∷ [])) ≡ 3)
+  -- in each direction, a ring of four slots: full it is refused, with one slot free it passes; a hop left in a queue of a ring of two nodes is refused
+  pub k11 : (d : ℕ) → d < directions
+      → (networkRefusal (pair d (here 0 ∷ here 0 ∷ []) (here 1 ∷ here 1 ∷ [])) ≡ 3)
+      × (networkRefusal (pair d (here 0 ∷ here 0 ∷ []) (here 1 ∷ [])) ≡ 0)
+      × (networkRefusal (pair d (here 0 ∷ straight 1 (dimensionOf d) (oneWay d) ∷ []) (here 1 ∷ [])) ≡ 3)
   -- any words that are long enough for sizes in range, and rings of any direction: one full ring is refused; where no ring of the direction holds
   -- more than three, and the queues, the other rings and the counters are right, they pass
   pub k11-every : (w : List ℕ) (d : ℕ) → RingsOfTwo w d
@@ -315,7 +428,7 @@ pub record KeptCases : Type 0 where
       → ((n : ℕ) → n < nodes (shape w) → inRing w d n ≤ 3)
       → networkRefusal w ≡ 0)
   -- the offer of a one-node torus to itself is refused, and writes nothing
-  pub k12 : (offerRefusal (empty 1 1 2 1 1) 0 0 ≡ 14) × ((tag : ℕ) → offerWords (empty 1 1 2 1 1) 0 0 tag ≡ empty 1 1 2 1 1)
+  pub k12 : (offerRefusal (empty one-node) 0 0 ≡ 14) × ((tag : ℕ) → offerWords (empty one-node) 0 0 tag ≡ empty one-node)
   -- any network, whatever it has accepted and however full its queues are: 14 is told exactly where a node offers to itself, so in a network of one
   -- node of every offer between nodes; of one number twice that is no node 4 is told
   pub k12-every : (w : List ℕ) (n destination : ℕ) → networkRefusal w ≡ 0
@@ -326,24 +439,94 @@ pub record KeptCases : Type 0 where
   -- and puts its word into the ledger
   pub k12-held : (networkRefusal alone ≡ 0)
       × (firstAnswer alone ≡ Found.Move 0 0 0)
-      × (map (λ o. moveRefusal alone 0 0 o) (inOrder 0 queues) ≡ 0 ∷ 10 ∷ 10 ∷ 10 ∷ 10 ∷ 10 ∷ 10 ∷ 10 ∷ 10 ∷ [])
+      × (map (λ o. moveRefusal alone 0 0 o) (inOrder 0 queues) ≡ 0 ∷ replicate 12 10)
       × ((budget room : ℕ) → drainAnswer alone (suc budget) (suc room) ≡ Drained.Stopped 1 1 Stop.Emptied)
       × ((budget l : ℕ) (ledger : List ℕ) → drainLedger alone (suc budget) (l ∷ ledger) ≡ here 0 ∷ ledger)
-  -- in each of the nine queues: all pass, and a Drain hands out all nine, in nine moves
+  -- in each of the thirteen queues: all pass, and a Drain hands out all thirteen, in thirteen moves
   pub k12-in-every-queue : (networkRefusal in-every-queue ≡ 0)
-      × (drainAnswer in-every-queue 9 9 ≡ Drained.Stopped 9 9 Stop.Emptied)
-      × (drainLedger in-every-queue 9 (replicate 9 0) ≡ replicate 9 (here 0))
+      × (drainAnswer in-every-queue 13 13 ≡ Drained.Stopped 13 13 Stop.Emptied)
+      × (drainLedger in-every-queue 13 (replicate 13 0) ≡ replicate 13 (here 0))
   -- any network: a head without hops left is delivered by output 0 and goes nowhere else; and the check lets such a packet stand in the injection
-  -- queue of its destination and in the queues of a dimension of two nodes or more
+  -- queue of its destination and in the queues of a dimension of two nodes or more, if bit 15 is clear
   pub k12-held-every : (w : List ℕ) (n q : ℕ) → Standing w n q → hopsLeft (headOf w n q) ≡ 0
       → (moveAnswer w n q deliver ≡ Moved.Delivered (headOf w n q)) × ((o : ℕ) → o < queues → o ≢ deliver → moveRefusal w n q o ≡ 10)
-  pub k12-fits-every : (w : List ℕ) (n q p : ℕ) → T (sizesInRange (shape w)) → n < nodes (shape w) → hopsLeft p ≡ 0 → destination p ≡ n
+  pub k12-fits-every : (w : List ℕ) (n q p : ℕ) → T (sizesInRange (shape w)) → n < nodes (shape w) → spare p ≡ 0 → hopsLeft p ≡ 0 → destination p ≡ n
       → packetFits (shape w) n q p ≡ (eqb q injectionQueue || leb 2 (size (shape w) (dimensionOf (directionOf q))))
-  -- R149, the table of routes: for queues 0 to 8 the column that holds there
-  pub routes-table : map (λ q. map (routes q) heads-by-sign) (inOrder 0 queues)
-      ≡ x-column ∷ x-column ∷ x-column ∷ y-column ∷ y-column ∷ x-column ∷ x-column ∷ y-column ∷ y-column ∷ []
+  -- the table of routes, R149: for queues 0 to 12 the column that holds there
+  pub routes-table : map (λ q. map (λ r. routes q (r .head)) table) (inOrder 0 queues)
+      ≡ x-column ∷ x-column ∷ x-column ∷ y-column ∷ y-column ∷ z-column ∷ z-column
+      ∷ x-column ∷ x-column ∷ y-column ∷ y-column ∷ z-column ∷ z-column ∷ []
   -- any head in any queue: its routes are what Selection.antt gives case by case
   pub routes-every : (q p : ℕ) → q < queues → selected q p ≡ routes q p
+  -- the third dimension, a row for each clause that came with it, most of them with Z above 1
+  -- R142, R143, R147, a head with hops left in x+, y+ and z+: in the injection queue and the x queues x is first, then y and z; in the y queues y, then x and
+  -- z; in the z queues z, then x and y; after them in each the escape queue of x. First tries them in this order
+  pub adaptive-order : (map (λ q. routes q (packet 0 (pos 1) (pos 1) (pos 1))) (0 ∷ 1 ∷ 2 ∷ 7 ∷ 8 ∷ []) ≡ replicate 5 (1 ∷ 3 ∷ 5 ∷ 7 ∷ []))
+      × (map (λ q. routes q (packet 0 (pos 1) (pos 1) (pos 1))) (3 ∷ 4 ∷ 9 ∷ 10 ∷ []) ≡ replicate 4 (3 ∷ 1 ∷ 5 ∷ 7 ∷ []))
+      × (map (λ q. routes q (packet 0 (pos 1) (pos 1) (pos 1))) (5 ∷ 6 ∷ 11 ∷ 12 ∷ []) ≡ replicate 4 (5 ∷ 1 ∷ 3 ∷ 7 ∷ []))
+      × TriedInTurn 5 1 3 7
+  -- R144, of three heads, with hops left along x, y and z, along y and z, and along z: which outputs are permitted, and of the escape queues only that of
+  -- the first of x, y, z
+  pub escape-order : (leaving (packet 7 (pos 1) (pos 1) (pos 1)) ≡ 10 ∷ 0 ∷ 10 ∷ 0 ∷ 10 ∷ 0 ∷ 10 ∷ 0 ∷ 10 ∷ 10 ∷ 10 ∷ 10 ∷ 10 ∷ [])
+      × (leaving (packet 6 (pos 0) (pos 1) (pos 1)) ≡ 10 ∷ 10 ∷ 10 ∷ 0 ∷ 10 ∷ 0 ∷ 10 ∷ 10 ∷ 10 ∷ 0 ∷ 10 ∷ 10 ∷ 10 ∷ [])
+      × (leaving (packet 4 (pos 0) (pos 0) (pos 1)) ≡ 10 ∷ 10 ∷ 10 ∷ 10 ∷ 10 ∷ 0 ∷ 10 ∷ 10 ∷ 10 ∷ 10 ∷ 10 ∷ 0 ∷ 10 ∷ [])
+  -- R30, R36, 2 by 3 by 5: the header that Make writes, the node (1, 2, 3), the neighbours of node 0 in x+, x−, y+, y−, z+ and z−; and any sizes in range
+  pub node-number : (take headerWords (empty two-three-five) ≡ 2 ∷ 3 ∷ 5 ∷ 2 ∷ 1 ∷ 1 ∷ 0 ∷ 0 ∷ 0 ∷ [])
+      × (map (λ i. coordinate two-three-five i 23) (inOrder 0 dimensions) ≡ 1 ∷ 2 ∷ 3 ∷ [])
+      × (map (λ d. neighbour two-three-five d 0) (inOrder 0 directions) ≡ 1 ∷ 1 ∷ 2 ∷ 4 ∷ 6 ∷ 24 ∷ [])
+  pub node-number-every : (w : List ℕ) (n : ℕ) → T (sizesInRange (shape w)) → n < nodes (shape w) → Numbered w n
+  -- R60, R62, R228: the fields of a word, and its label, which keeps bit 15
+  pub fields-of-a-word : (tag a-word ≡ 7)
+      × (destination a-word ≡ 6)
+      × (spare a-word ≡ 1)
+      × (map (λ i. offset i a-word) (inOrder 0 dimensions) ≡ negsuc 1 ∷ pos 3 ∷ negsuc 15 ∷ [])
+      × (label a-word ≡ 7 * 2 ^ 32 + 6 * 2 ^ 16 + 2 ^ 15)
+  -- R87: bit 15 set, and clear; and any network: it is clear in every packet held
+  pub spare-bit : (networkRefusal (only one-node injectionQueue (here 0 + 2 ^ 15)) ≡ 3) × (networkRefusal alone ≡ 0)
+  pub spare-bit-every : (w : List ℕ) (n q p : ℕ) → Within w n q p → p / 2 ^ 15 % 2 ≡ 0
+  -- R76: offsets are judged as they stand, not as they would be round the ring. In a ring of 16 along each dimension, of the 32 numbers that the field can
+  -- have, each with the node to which it leads: 0 to 8 pass, and 24 to 31, which stand for −8 to −1. Along z what Check says of −16, −8, 8 and 15
+  pub widest-offsets : ((i : ℕ) → i < dimensions
+      → chosen (λ b. packetFits (longAlong 16 1 i) 0 injectionQueue (straight (b % 16) i (signed b))) (inOrder 0 32) ≡ inOrder 0 9 ++ inOrder 24 8)
+      × (map (λ b. networkRefusal (only (longAlong 16 1 2) injectionQueue (straight (b % 16) 2 (signed b)))) (16 ∷ 24 ∷ 8 ∷ 15 ∷ [])
+      ≡ 3 ∷ 0 ∷ 0 ∷ 3 ∷ [])
+  -- any network: no packet held has more hops left along a dimension than half of its size
+  pub widest-offsets-every : (w : List ℕ) (n q p i : ℕ) → Within w n q p → i < dimensions → distance i p ≤ size (shape w) i / 2
+  -- R79: dx not 0 in the escape queue z+, dy not 0 there, and the same packets in the adaptive queue z+
+  pub lower-offsets : (networkRefusal (only along-x-and-z 11 (packet 1 (pos 1) (pos 0) (pos 0))) ≡ 3)
+      × (networkRefusal (only along-y-and-z 11 (packet 1 (pos 0) (pos 1) (pos 0))) ≡ 3)
+      × (networkRefusal (only along-x-and-z 5 (packet 1 (pos 1) (pos 0) (pos 0))) ≡ 0)
+      × (networkRefusal (only along-y-and-z 5 (packet 1 (pos 0) (pos 1) (pos 0))) ≡ 0)
+  -- R77, R79, 2 by 2 by 2, every queue in which a packet with one hop left may stand: along x neither in the x queues nor in the escape queues of y and z,
+  -- along y neither in the y queues nor in the escape queues of z, along z not in the z queues
+  pub lower-offsets-queues : (standing (packet 1 (pos 1) (pos 0) (pos 0)) ≡ 0 ∷ 3 ∷ 4 ∷ 5 ∷ 6 ∷ [])
+      × (standing (packet 2 (pos 0) (pos 1) (pos 0)) ≡ 0 ∷ 1 ∷ 2 ∷ 5 ∷ 6 ∷ 7 ∷ 8 ∷ [])
+      × (standing (packet 4 (pos 0) (pos 0) (pos 1)) ≡ 0 ∷ 1 ∷ 2 ∷ 3 ∷ 4 ∷ 7 ∷ 8 ∷ 9 ∷ 10 ∷ [])
+  -- any network: in an escape queue no hop is left along a lower dimension than the queue's
+  pub lower-offsets-every : (w : List ℕ) (n d p i : ℕ) → Within w n (escapeQueue d) p → i < dimensionOf d → distance i p ≡ 0
+  -- R85: a packet that has arrived, with 24 moves made, and with 25
+  pub most-work : (networkRefusal (set alone movesAt 24) ≡ 0) × (networkRefusal (set alone movesAt 25) ≡ 3)
+  -- R161, R181: eight words are no header, whatever they hold, so neither those that would be one without Z; nine go on to the sizes, and where these are
+  -- in range to the need
+  pub nine-words : (networkRefusal (4 ∷ 3 ∷ 2 ∷ 1 ∷ 1 ∷ 0 ∷ 0 ∷ 0 ∷ []) ≡ 1)
+      × ((w : List ℕ) → length w ≤ 8 → networkRefusal w ≡ 1)
+      × ((w : List ℕ) → 9 ≤ length w → sizesInRange (shape w) ≡ false → networkRefusal w ≡ 2)
+      × (networkRefusal (take headerWords (empty one-node)) ≡ 1)
+  -- R165, R166: queue 12 and output 12 are the last; Credit knows no output 0
+  pub twelve-is-the-last : (moveRefusal alone 0 12 0 ≡ 9)
+      × (moveRefusal alone 0 13 0 ≡ 5)
+      × (moveRefusal alone 0 0 12 ≡ 10)
+      × (moveRefusal alone 0 0 13 ≡ 6)
+      × (lookRefusal alone 0 12 ≡ 0)
+      × (lookRefusal alone 0 13 ≡ 5)
+      × (creditRefusal alone 0 0 ≡ 6)
+      × (creditRefusal alone 0 12 ≡ 0)
+      × (creditRefusal alone 0 13 ≡ 6)
+
+-- a test that cannot pass
+untrue : (b : Bool) → (T b → ⊥) → b ≡ false
+untrue true f = absurd (f tt)
+untrue false f = refl
 
 -- in words that pass the check a move is refused as the rules of Move say: so the rows compute the check once for each network
 by-rules : (w : List ℕ) (n q o refusal : ℕ) → networkRefusal w ≡ 0 → moveRules (shape w) w n q o ≡ refusal → moveRefusal w n q o ≡ refusal
@@ -356,9 +539,10 @@ all-by-rules w n q o [] e = refl
 all-by-rules w n q o (x ∷ xs) e =
     ap₂ (λ (r : ℕ) (rs : List ℕ). r ∷ rs) (by-rules w n (q x) (o x) (moveRules (shape w) w n (q x) (o x)) e refl) (all-by-rules w n q o xs e)
 
-entries : (d count : ℕ) (refusals : List ℕ) → networkRefusal (crossing d count) ≡ 0
-    → map (λ q. moveRules (shape (crossing d count)) (crossing d count) 0 q (escapeQueue d)) (sources d) ≡ refusals → Entries d count refusals
-entries d count refusals e r = (e, all-by-rules (crossing d count) 0 (λ q. q) (λ q. escapeQueue d) (sources d) e ∙ r)
+entries : (count own others d : ℕ) → networkRefusal (crossing d count) ≡ 0
+    → map (λ q. moveRules (shape (crossing d count)) (crossing d count) 0 q (escapeQueue d)) (sources d) ≡ own ∷ replicate (length (outside d)) others
+    → Entries d count own others
+entries count own others d e r = (e, all-by-rules (crossing d count) 0 (λ q. q) (λ q. escapeQueue d) (sources d) e ∙ r)
 
 -- K3: every output of an injection queue
 outputs : (w : List ℕ) (n : ℕ) (refusals : List ℕ) → networkRefusal w ≡ 0
@@ -425,43 +609,50 @@ module _ (w : List ℕ) (n q d : ℕ) (s : Entering w n q d) where
       go false = refl
 
 -- K8: sizes out of range are found by Make first, by Check once there is a header
-out-of-range : (s : Sizes) → (s .escape ≡ 1) ⊎ ((s .x ≡ 0) ⊎ (s .x ≡ 17)) → sizesInRange (shapeOf s) ≡ false
-unfolding sizesInRange allOf within shapeOf
-out-of-range s (inl z) = rw z (neither (within 1 largestRing (s .x) && (within 1 largestRing (s .y) && true)))
+one-slot : (s : Sizes) → s .escape ≡ 1 → sizesInRange (shapeOf s) ≡ false
+unfolding sizesInRange shapeOf within
+one-slot s z = rw z (neither (allOf (within 1 largestRing) (shapeOf s .sizes)))
   where
     neither : (b : Bool) → (b && false) ≡ false
     neither true = refl
     neither false = refl
-out-of-range s (inr (inl z)) = rw z
-out-of-range s (inr (inr z)) = rw z
+
+out-of-range : (s : Sizes) → (s .escape ≡ 1) ⊎ NoRing s → sizesInRange (shapeOf s) ≡ false
+out-of-range s (inl z) = one-slot s z
+out-of-range s (inr (i, h, z)) =
+    untrue (sizesInRange (shapeOf s)) (λ t. none z (size-pos (shapeOf s) i (sizes-torus s t) h) (inRange-size (shapeOf s) i t))
+  where
+    none : (size (shapeOf s) i ≡ 0) ⊎ (size (shapeOf s) i ≡ 17) → 0 < size (shapeOf s) i → size (shapeOf s) i ≤ largestRing → ⊥
+    none (inl z) low high = omega arith
+    none (inr z) low high = omega arith
+
+past-header : (w : List ℕ) → headerWords ≤ length w → sizesInRange (shape w) ≡ false → networkRefusal w ≡ 2
+unfolding networkRefusal
+past-header w h z = rw (le-ltb (length w) headerWords h, z)
 
 wrong-size : (S : Shape) (w : List ℕ) → sizesInRange S ≡ false → (makeRefusal S w ≡ 2) × (headerWords ≤ length w → shape w ≡ S → networkRefusal w ≡ 2)
-unfolding makeRefusal networkRefusal
-wrong-size S w z = (rw z, λ h e. rw (le-ltb (length w) headerWords h, e, z))
+unfolding makeRefusal
+wrong-size S w z = (rw z, λ h e. past-header w h (ap sizesInRange e ∙ z))
+
+-- R181: no header
+no-header : (w : List ℕ) → length w < headerWords → networkRefusal w ≡ 1
+unfolding networkRefusal
+no-header w h = rw (lt-ltb (length w) headerWords h)
 
 -- K2: one word too few
 too-short : (S : Shape) (w : List ℕ) → sizesInRange S ≡ true → headerWords ≤ length w → length w < need S → shape w ≡ S → networkRefusal w ≡ 1
 unfolding networkRefusal
 too-short S w z h l e = rw (le-ltb (length w) headerWords h, e, z, lt-ltb (length w) (need S) l)
 
--- a test that cannot pass
-untrue : (b : Bool) → (T b → ⊥) → b ≡ false
-untrue true f = absurd (f tt)
-untrue false f = refl
-
 -- K9
 no-route : (w : List ℕ) (n q o : ℕ) → Standing w n q → o < queues → (T (elem o (routes q (headOf w n q))) → ⊥) → moveRefusal w n q o ≡ 10
 no-route w n q o s h none = past-holds w n q o s h ∙ rw (untrue (elem o (routes q (headOf w n q))) none)
 
-not-delivered : (q p : ℕ) → offset 0 p ≡ pos 1 → T (elem 0 (routes q p)) → ⊥
-unfolding distance
-not-delivered q p e t = go (route-of q p 0 t)
+not-delivered : (q p i : ℕ) → i < dimensions → distance i p ≢ 0 → T (elem 0 (routes q p)) → ⊥
+not-delivered q p i h far t = go (route-of q p 0 t)
   where
     go : ((0 ≡ deliver) × (hopsLeft p ≡ 0)) ⊎ Onward p 0 → ⊥
-    go (inl (z, h)) =
-        let one : distance 0 p ≡ 1 = ap natAbs e in
-        let none = arrived-distance 0 p (omega arith) h in
-        omega arith
+    go (inl (z, arrived)) = far (arrived-distance i p h arrived)
     go (inr r) = way (r .by)
       where
         way : (0 ≡ adaptiveQueue (heading (r .dimension) p))
@@ -576,6 +767,46 @@ module _ (w : List ℕ) (d : ℕ) (r : RingsOfTwo w d) where
       ring e n he hn (yes z) = rw z (ring-with-room n (l n hn))
       ring e n he hn (no ne) = others e n he hn ne
 
+-- R30: a node's number from its coordinates
+from-coordinates : (x y z n : ℕ) → 0 < x → 0 < y → n < x * (y * z) → (n / x / y % z * y + n / x % y) * x + n % x ≡ n
+from-coordinates x y z n px py h =
+    let top : n / x / y < z = div-lt-iff-lt-mul py .1 (div-lt-iff-lt-mul px .1 (rw (mul-comm (z * y) x, mul-comm z y) h)) in
+    ap (λ (a : ℕ). (a * y + n / x % y) * x + n % x) (mod-eq-of-lt top)
+    ∙ ap (λ (a : ℕ). a * x + n % x) (together (n / x) y)
+    ∙ together n x
+  where
+    together : (m k : ℕ) → m / k * k + m % k ≡ m
+    together m k = ap (λ (a : ℕ). a + m % k) (mul-comm (m / k) k) ∙ add-comm (k * (m / k)) (m % k) ∙ mod-add-div m k
+
+numbered : (w : List ℕ) (n : ℕ) → T (sizesInRange (shape w)) → n < nodes (shape w) → Numbered w n
+unfolding shape nodes product size coordinate digit
+numbered w n r h = (
+  ap (λ (a : ℕ). getD w 0 0 * (getD w 1 0 * a)) (mul-one (getD w 2 0)),
+  sym
+      (from-coordinates (getD w 0 0) (getD w 1 0) (getD w 2 0) n
+      (size-pos (shape w) 0 (tor w r) (omega arith))
+      (size-pos (shape w) 1 (tor w r) (omega arith))
+      (rw (mul-one (getD w 2 0)) at h)),
+)
+
+-- R76, R79, R87: a packet that stands in some queue passes the clauses for packets
+passes-of : (f : ℕ → Bool) (p : ℕ) (ps : List ℕ) → T (allOf f ps) → T (elem p ps) → T (f p)
+unfolding allOf elem
+passes-of f p [] a t = absurd t
+passes-of f p (x ∷ xs) a t = go (or-e (eqb p x) (elem p xs) t) (λ s. passes-of f p xs (and-r (f x) (allOf f xs) a) s)
+  where
+    go : T (eqb p x) ⊎ T (elem p xs) → (T (elem p xs) → T (f p)) → T (f p)
+    go (inl s) later = rw (eqb→eq p x s) (and-l (f x) (allOf f xs) a)
+    go (inr s) later = later s
+
+fits-within : (w : List ℕ) (n q p : ℕ) → Within w n q p → PacketFits (shape w) n q p
+fits-within w n q p s =
+    packet-of (shape w) n q p
+    (passes-of (packetFits (shape w) n q) p (held (shape w) w n q) (network-passed w (s .passes) .queue n q (s .node) (s .queue) .packets) (s .held-there))
+
+in-escape : (d i : ℕ) → escapeQueue d < queues → i < dimensionOf d → T (isEscape (escapeQueue d)) × (i < dimensionOf (directionOf (escapeQueue d)))
+in-escape d i h l = (lt→ltb directions (escapeQueue d) (omega arith), omega arith)
+
 -- K12: in words that pass the check an offer is refused as the rules of Offer say
 offer-by-rules : (w : List ℕ) (n destination : ℕ) → networkRefusal w ≡ 0 → offerRefusal w n destination ≡ offerRules (shape w) w n destination
 unfolding offerRefusal
@@ -601,43 +832,95 @@ delivered-here w n q s z =
     })) in
     rw (eq-eqb (moveRefusal w n q deliver) 0 permitted)
 
+-- the definitions with which the rows are computed, to be unfolded by one name
+computed : Unit {0}
+unfolding next oneHop chosen outside sources inEach crossing blocked allBelow someBelow allOf elem EachBelow sumBelow sumOf product digit putDigit rotate size within sizesInRange nodes capacity signed unsigned packetWord tag destination spare offset withOffset withOffsets distance forward backward hops heading hopsLeft work shrunk hop label goesPlus shorterWay coordinate stride along neighbour movedBelow movedBy shape accepted delivered movesMade raised queueLength nodeWords queueStart queueEnd need queueWords queuePart countOf packetsOf unusedOf held load fill putQueue total spareClear rightPlace isQueueOf reach nearEnough opposite rightSign lowerDone packetFits queueFits queuesFit hasRoom ringHasRoom ringsHaveRoom packetsHeld workLeft countersFit isNetwork inOrder without incoming incomingFirst headings routes target freeSlots entersRing slotsNeeded networkRefusal makeRefusal offerRules offerRefusal head flowRules moveRules moveRefusal creditRules creditRefusal lookRules lookRefusal shapeOf emptyNetwork makeWords offered afterOffer offerWords headLeaves packetArrives afterMove moveWords firstOutput firstInQueue orElse search firstInNode firstMove firstAnswer stopped oneMore deliverNext moveNext drainFrom drained drainLedger drainAnswer
+computed = tt
+
+-- K5 to K7, direction by direction
+one-ahead-each : EachBelow (λ d. Entries d 1 0 12) directions
+unfolding computed
+one-ahead-each =
+    let entry = entries 1 0 12 in
+    ((((((tt, entry 0 refl refl), entry 1 refl refl), entry 2 refl refl), entry 3 refl refl), entry 4 refl refl), entry 5 refl refl)
+
+two-ahead-each : EachBelow (λ d. Entries d 2 11 11) directions
+unfolding computed
+two-ahead-each =
+    let entry = entries 2 11 11 in
+    ((((((tt, entry 0 refl refl), entry 1 refl refl), entry 2 refl refl), entry 3 refl refl), entry 4 refl refl), entry 5 refl refl)
+
+none-ahead-each : EachBelow (λ d. Entries d 0 0 0) directions
+unfolding computed
+none-ahead-each =
+    let entry = entries 0 0 0 in
+    ((((((tt, entry 0 refl refl), entry 1 refl refl), entry 2 refl refl), entry 3 refl refl), entry 4 refl refl), entry 5 refl refl)
+
+-- parts of rows that a must-fail edit breaks alone. K3, held: a hop along y, in an odd column
+on-its-way : held four-by-two (moveWords against-parity 5 0 3) 1 3 ≡ packet 3 (pos 2) (pos 0) (pos 0) ∷ []
+unfolding computed
+on-its-way = refl
+
+-- K12, held: whatever budget is left after it; and in every queue
+one-move : (budget room : ℕ) → drainAnswer alone (suc budget) (suc room) ≡ Drained.Stopped 1 1 Stop.Emptied
+unfolding computed
+one-move zero room = refl
+one-move (suc budget) room = refl
+
+thirteen-moves : drainAnswer in-every-queue 13 13 ≡ Drained.Stopped 13 13 Stop.Emptied
+unfolding computed
+thirteen-moves = refl
+
+-- R60, R76
+offsets-of-a-word : map (λ i. offset i a-word) (inOrder 0 dimensions) ≡ negsuc 1 ∷ pos 3 ∷ negsuc 15 ∷ []
+unfolding computed
+offsets-of-a-word = refl
+
+widest-each : EachBelow
+    (λ i. chosen (λ b. packetFits (longAlong 16 1 i) 0 injectionQueue (straight (b % 16) i (signed b))) (inOrder 0 32) ≡ inOrder 0 9 ++ inOrder 24 8) dimensions
+unfolding computed
+widest-each = (((tt, refl), refl), refl)
+
 pub keptCases : KeptCases
-unfolding next oneHop chosen outside sources inEach crossing allBelow someBelow allOf elem sumBelow sumOf product digit putDigit rotate size within sizesInRange nodes capacity signed unsigned packetWord tag destination offset withOffset withOffsets distance forward backward hops heading hopsLeft work shrunk hop goesPlus shorterWay coordinate stride along neighbour movedBelow movedBy shape accepted delivered movesMade raised queueLength nodeWords queueStart queueEnd need queueWords queuePart countOf packetsOf unusedOf held load fill putQueue total rightPlace isQueueOf reach nearEnough opposite rightSign lowerDone packetFits queueFits queuesFit hasRoom ringHasRoom ringsHaveRoom packetsHeld workLeft countersFit isNetwork inOrder without incoming incomingFirst headings routes target freeSlots entersRing slotsNeeded networkRefusal makeRefusal offerRules offerRefusal head flowRules moveRules moveRefusal shapeOf emptyNetwork makeWords offered afterOffer offerWords headLeaves packetArrives afterMove moveWords firstOutput firstInQueue orElse search firstInNode firstMove firstAnswer stopped oneMore deliverNext moveNext drainFrom drained drainLedger drainAnswer
+unfolding computed
 keptCases =
     record {
       k1 = refl;
-      k2 = (refl, (λ w e. rw e), (λ w e. rw e), λ w e. too-short largest w refl (omega arith) (let l : need largest ≡ 20744 = refl in omega arith));
+      k2 = (refl, (λ w e. rw e), (λ w e. rw e), λ w e. too-short largest-plane w refl (omega arith) (let l : need largest-plane ≡ 29961 = refl in omega arith));
+      k2-largest = (refl, (λ w e. rw e), (λ w e. rw e), λ w e. too-short largest w refl (omega arith) (let l : need largest ≡ 479241 = refl in omega arith));
       k3 = (refl, refl);
       k3-odd-column = (refl, refl);
       k3-odd-row = (refl, refl);
-      k3-parities-differ = (refl, refl, refl, refl);
+      k3-parities-differ = ((refl, refl), (refl, refl));
+      k3-parity-of-z = ((refl, refl), (refl, refl));
       k3-every =
           λ w n destination tag i b. (
             offset-nearer (shape w) n destination tag (tor w (b .in-range)) (b .from) (b .to) (fits w (b .in-range)) (short w (b .in-range)) i (b .dimension),
             offset-halfway (shape w) n destination tag (tor w (b .in-range)) (b .from) (b .to) (fits w (b .in-range)) (short w (b .in-range)) i (b .dimension),
             λ odd e. odd (omega arith),
           );
-      k3-held = (refl, outputs against-parity 5 _ refl refl, outputs against-parity 0 _ refl refl, refl, refl, refl, refl, refl, refl);
+      k3-held = (refl, outputs against-parity 5 _ refl refl, outputs against-parity 0 _ refl refl, on-its-way, refl, refl, refl, refl, refl);
       k3-held-every = hops-hop-le;
       k3-fits-every = λ w n q i h p r hn hi e. halfway-fits (shape w) n q i h p (tor w r) hn hi e (short w r i hi);
       k4 = (refl, refl);
-      k5-sources = (refl, refl, refl, refl);
-      k5 = (entries 0 1 _ refl refl, entries 1 1 _ refl refl, entries 2 1 _ refl refl, entries 3 1 _ refl refl);
+      k5-sources = (refl, refl, refl, refl, refl, refl);
+      k5 = each-at _ directions one-ahead-each;
       k5-every = one-ahead;
-      k6 = (entries 0 2 _ refl refl, entries 1 2 _ refl refl, entries 2 2 _ refl refl, entries 3 2 _ refl refl);
+      k5-turn-into-z = (refl, by-rules (turning 1) 0 7 11 12 refl refl, by-rules (turning 0) 0 7 11 0 refl refl, by-rules (turning 2) 0 7 11 11 refl refl);
+      k6 = each-at _ directions two-ahead-each;
       k6-every = λ w n q d s e. entered w n q d s 2 e;
-      k7 = (entries 0 0 _ refl refl, entries 1 0 _ refl refl, entries 2 0 _ refl refl, entries 3 0 _ refl refl);
+      k7 = each-at _ directions none-ahead-each;
       k7-every = none-ahead;
       k8 = λ s w z. wrong-size (shapeOf s) w (out-of-range s z);
-      k9 = (by-rules (crossing 0 1) 0 0 0 10 refl refl, by-rules (crossing 0 1) 1 5 5 10 refl refl);
+      k9 = (by-rules (crossing 0 1) 0 0 0 10 one-passes refl, by-rules (crossing 0 1) 1 7 7 10 one-passes refl);
       k9-every =
           λ w n q s. (
-            λ e. no-route w n q 0 s (omega arith) (not-delivered q (headOf w n q) e),
-            λ e. no-route w n q (escapeQueue 0) s (omega arith) (not-onward q (headOf w n q) (escapeQueue 0) (λ i h. ap natAbs (e i h)) (λ z. omega arith)),
+            λ i h far. no-route w n q 0 s (omega arith) (not-delivered q (headOf w n q) i h far),
+            λ done d h. no-route w n q (escapeQueue d) s (omega arith) (not-onward q (headOf w n q) (escapeQueue d) done (λ z. omega arith)),
           );
-      k10 = λ room. (without-budget (empty 4 4 2 1 1) room refl, without-budget (crossing 0 0) room refl);
+      k10 = λ room. (without-budget (empty four-by-three) room refl, without-budget (crossing 0 0) room none-passes);
       k10-every = without-budget;
-      k11 = (refl, refl, refl);
+      k11 = each-at _ directions ((((((tt, (refl, refl, refl)), (refl, refl, refl)), (refl, refl, refl)), (refl, refl, refl)), (refl, refl, refl)), (refl, refl, refl));
       k11-every = λ w d r. (full-ring w d r, all-else-right w d r);
       k12 = (refl, λ tag. refl);
       k12-every =
@@ -647,21 +930,47 @@ keptCases =
             λ h. offer-by-rules w n n e ∙ no-node-first (shape w) w n h,
           );
       k12-held = (refl, refl, refl, one-move, one-word);
-      k12-in-every-queue = (refl, refl, refl);
+      k12-in-every-queue = (refl, thirteen-moves, refl);
       k12-held-every =
           λ w n q s z. (
             delivered-here w n q s z,
             λ o h ne. no-route w n q o s h (not-onward q (headOf w n q) o (λ i l. arrived-distance i (headOf w n q) l z) ne),
           );
-      k12-fits-every = λ w n q p r h z e. own-fits (shape w) n q p (tor w r) h z e;
+      k12-fits-every = λ w n q p r h c z e. own-fits (shape w) n q p (tor w r) h c z e;
       routes-table = refl;
       routes-every = selection-routes;
+      adaptive-order = (refl, refl, refl, (refl, refl, refl, refl));
+      escape-order = (
+        leaves (packet 7 (pos 1) (pos 1) (pos 1)) refl refl,
+        leaves (packet 6 (pos 0) (pos 1) (pos 1)) refl refl,
+        leaves (packet 4 (pos 0) (pos 0) (pos 1)) refl refl,
+      );
+      node-number = (refl, refl, refl);
+      node-number-every = numbered;
+      fields-of-a-word = (refl, refl, refl, offsets-of-a-word, refl);
+      spare-bit = (refl, refl);
+      spare-bit-every = λ w n q p s. sym (spare-is p) ∙ fits-within w n q p s .clear;
+      widest-offsets = (each-at _ dimensions widest-each, refl);
+      widest-offsets-every = λ w n q p i s h. le-trans (reach-least i q p) (fits-within w n q p s .near i h);
+      lower-offsets = (refl, refl, refl, refl);
+      lower-offsets-queues = (refl, refl, refl);
+      lower-offsets-every =
+          λ w n d p i s l. let (e, h) = in-escape d i (s .queue) l in fits-within w n (escapeQueue d) p s .lower e i h;
+      most-work = (refl, refl);
+      nine-words = (refl, (λ w h. no-header w (omega arith)), past-header, refl);
+      twelve-is-the-last = (refl, refl, refl, refl, refl, refl, refl, refl, refl);
     }
   where
-    -- whatever budget is left after it
-    one-move : (budget room : ℕ) → drainAnswer alone (suc budget) (suc room) ≡ Drained.Stopped 1 1 Stop.Emptied
-    one-move zero room = refl
-    one-move (suc budget) room = refl
+    leaves : (p : ℕ) {refusals : List ℕ} → networkRefusal (only two-cubed injectionQueue p) ≡ 0
+        → map (λ o. moveRules (shape (only two-cubed injectionQueue p)) (only two-cubed injectionQueue p) 0 injectionQueue o) (inOrder 0 queues) ≡ refusals
+        → leaving p ≡ refusals
+    leaves p e r = outputs (only two-cubed injectionQueue p) 0 _ e r
+
+    one-passes : networkRefusal (crossing 0 1) ≡ 0
+    one-passes = each-at (λ d. Entries d 1 0 12) directions one-ahead-each 0 (omega arith) .0
+
+    none-passes : networkRefusal (crossing 0 0) ≡ 0
+    none-passes = each-at (λ d. Entries d 0 0 0) directions none-ahead-each 0 (omega arith) .0
 
     one-word : (budget l : ℕ) (ledger : List ℕ) → drainLedger alone (suc budget) (l ∷ ledger) ≡ here 0 ∷ ledger
     one-word zero l ledger = refl

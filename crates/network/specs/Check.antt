@@ -8,7 +8,7 @@ use lib.ListN.{length}
 use Rattle.base.specs.Tests.{allBelow, someBelow, allOf}
 use Rattle.base.specs.Sums.{sumOf}
 use Rattle.network.specs.Sizes.{Shape, size, sizesInRange, nodes, queues, directions, dimensions, dimensionOf, directionOf, isEscape, isPlus, plus, minus, injectionQueue, escapeQueue, capacity}
-use Rattle.network.specs.Packet.{destination, distance, hops, work}
+use Rattle.network.specs.Packet.{destination, spare, distance, hops, work}
 use Rattle.network.specs.Torus.{along, movedBy}
 use Rattle.network.specs.Layout.{held, fill, queuePart, countOf, unusedOf, total, need, accepted, delivered, movesMade}
 
@@ -16,7 +16,7 @@ use Rattle.network.specs.Layout.{held, fill, queuePart, countOf, unusedO
 unfoldable pub rightPlace : Shape → ℕ → ℕ → Bool
 rightPlace S n p = ltb (destination p) (nodes S) && eqb (movedBy S p n) (destination p)
 
--- R37: an x queue or a y queue, a transit queue of that dimension
+-- R37: an x queue, a y queue or a z queue, a transit queue of that dimension
 unfoldable pub isQueueOf : ℕ → ℕ → Bool
 isQueueOf i q = not (eqb q injectionQueue) && eqb (dimensionOf (directionOf q)) i
 
@@ -38,12 +38,16 @@ opposite d = cond (isPlus d) (minus (dimensionOf d)) (plus (dimensionOf d))
 unfoldable pub rightSign : ℕ → ℕ → Bool
 rightSign q p = eqb q injectionQueue || eqb (hops (opposite (directionOf q)) p) 0
 
--- R79: in an escape queue the offsets of all lower dimensions are used up, so along y that of x
+-- R79: in an escape queue the offsets of all lower dimensions are used up, so along y that of x, and along z those of x and y
 unfoldable pub lowerDone : ℕ → ℕ → Bool
 lowerDone q p = not (isEscape q) || allBelow (dimensionOf (directionOf q)) (λ i. eqb (distance i p) 0)
 
+-- R87: the spare bit is 0
+unfoldable pub spareClear : ℕ → Bool
+spareClear p = eqb (spare p) 0
+
 unfoldable pub packetFits : Shape → ℕ → ℕ → ℕ → Bool
-packetFits S n q p = rightPlace S n p && (nearEnough S q p && (rightSign q p && lowerDone q p))
+packetFits S n q p = spareClear p && (rightPlace S n p && (nearEnough S q p && (rightSign q p && lowerDone q p)))
 
 -- R72, R73, and what is asked of each packet
 unfoldable pub queueFits : Shape → List ℕ → ℕ → ℕ → Bool

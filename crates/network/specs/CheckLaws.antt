@@ -15,13 +15,13 @@ use Rattle.base.specs.Tests.{allBelow, allOf, and-l, and-r, and-i, or-l, or-r, 
 use Rattle.base.specs.Bools.{same-test}
 use Rattle.base.specs.Digits.{rotate, rotate-rotate, rotate-rounds, radix-pos}
 use Rattle.network.specs.Sizes.{Shape, size, sizesInRange, nodes, queues, directions, dimensions, dimensionOf, directionOf, isPlus, plus, minus, isEscape, injectionQueue, capacity, largestRing}
-use Rattle.network.specs.Packet.{destination, offset, withOffset, distance, forward, backward, hops, hopsLeft}
-use Rattle.network.specs.PacketLaws.{OffsetRange, destination-with, offset-with-same, offset-with-other, one-way, distance-is, arrived-distance, arrived-hops, landing, landing-plus, landing-minus}
+use Rattle.network.specs.Packet.{destination, spare, offset, withOffset, distance, forward, backward, hops, hopsLeft}
+use Rattle.network.specs.PacketLaws.{OffsetRange, destination-with, spare-with, offset-with-same, offset-with-other, one-way, distance-is, arrived-distance, arrived-hops, landing, landing-plus, landing-minus}
 use Rattle.network.specs.Torus.{coordinate, stride, along, neighbour, movedBy}
 use Rattle.network.specs.TorusLaws.{Torus, size-pos, coordinates-eq, movedBy-lt, movedBy-here, coordinate-landing}
 use Rattle.network.specs.Layout.{held, fill, queuePart, countOf, unusedOf, need, accepted, delivered, movesMade}
 use Rattle.network.specs.LayoutLaws.{fill-length}
-use Rattle.network.specs.Check.{longest, rightPlace, isQueueOf, reach, nearEnough, opposite, rightSign, lowerDone, packetFits, queueFits, queuesFit, hasRoom, ringHasRoom, ringsHaveRoom, packetsHeld, workLeft, mostAccepted, mostWork, countersFit, isNetwork}
+use Rattle.network.specs.Check.{longest, spareClear, rightPlace, isQueueOf, reach, nearEnough, opposite, rightSign, lowerDone, packetFits, queueFits, queuesFit, hasRoom, ringHasRoom, ringsHaveRoom, packetsHeld, workLeft, mostAccepted, mostWork, countersFit, isNetwork}
 
 -- the test of an equation, as a fact and back
 pub eq-T : (a b : ℕ) → a ≡ b → T (eqb a b)
@@ -154,6 +154,7 @@ both-zero d p a b = go (ℕ-discrete (d % 2) 0) b
 
 -- the clauses for a packet p in queue q of node n
 pub record PacketFits (S : Shape) (n q p : ℕ) : Type 0 where
+  pub clear : spare p ≡ 0
   pub addressed : destination p < nodes S
   pub arrives : movedBy S p n ≡ destination p
   pub near : (i : ℕ) → i < dimensions → reach i q p ≤ longest S i
@@ -161,9 +162,10 @@ pub record PacketFits (S : Shape) (n q p : ℕ) : Type 0 where
   pub lower : T (isEscape q) → (i : ℕ) → i < dimensionOf (directionOf q) → distance i p ≡ 0
 
 pub packet-of : (S : Shape) (n q p : ℕ) → T (packetFits S n q p) → PacketFits S n q p
-unfolding packetFits rightPlace nearEnough rightSign lowerDone
+unfolding packetFits spareClear rightPlace nearEnough rightSign lowerDone
 packet-of S n q p t =
     record {
+      clear = eqb→eq (spare p) 0 (and-l (spareClear p) (rightPlace S n p && (nearEnough S q p && (rightSign q p && lowerDone q p))) t);
       addressed = ltb→lt (destination p) (nodes S) (and-l (ltb (destination p) (nodes S)) (eqb (movedBy S p n) (destination p)) place);
       arrives = eqb→eq (movedBy S p n) (destination p) (and-r (ltb (destination p) (nodes S)) (eqb (movedBy S p n) (destination p)) place);
       near =
@@ -176,11 +178,14 @@ packet-of S n q p t =
           low e i h (or-e (not (isEscape q)) (allBelow (dimensionOf (directionOf q)) (λ j. eqb (distance j p) 0)) (and-r (rightSign q p) (lowerDone q p) last));
     }
   where
+    behind : T (rightPlace S n p && (nearEnough S q p && (rightSign q p && lowerDone q p)))
+    behind = and-r (spareClear p) (rightPlace S n p && (nearEnough S q p && (rightSign q p && lowerDone q p))) t
+
     place : T (rightPlace S n p)
-    place = and-l (rightPlace S n p) (nearEnough S q p && (rightSign q p && lowerDone q p)) t
+    place = and-l (rightPlace S n p) (nearEnough S q p && (rightSign q p && lowerDone q p)) behind
 
     rest : T (nearEnough S q p && (rightSign q p && lowerDone q p))
-    rest = and-r (rightPlace S n p) (nearEnough S q p && (rightSign q p && lowerDone q p)) t
+    rest = and-r (rightPlace S n p) (nearEnough S q p && (rightSign q p && lowerDone q p)) behind
 
     last : T (rightSign q p && lowerDone q p)
     last = and-r (nearEnough S q p) (rightSign q p && lowerDone q p) rest
@@ -195,16 +200,18 @@ packet-of S n q p t =
     low e i h (inr all) = eqb→eq (distance i p) 0 (all-at (dimensionOf (directionOf q)) (λ j. eqb (distance j p) 0) all i h)
 
 pub packet-by : (S : Shape) (n q p : ℕ) → PacketFits S n q p → T (packetFits S n q p)
-unfolding packetFits rightPlace nearEnough rightSign lowerDone
+unfolding packetFits spareClear rightPlace nearEnough rightSign lowerDone
 packet-by S n q p f =
-    and-i (rightPlace S n p) (nearEnough S q p && (rightSign q p && lowerDone q p))
+    and-i (spareClear p) (rightPlace S n p && (nearEnough S q p && (rightSign q p && lowerDone q p)))
+    (eq-T (spare p) 0 (f .clear))
+    (and-i (rightPlace S n p) (nearEnough S q p && (rightSign q p && lowerDone q p))
     (and-i (ltb (destination p) (nodes S)) (eqb (movedBy S p n) (destination p))
     (lt→ltb (destination p) (nodes S) (f .addressed))
     (eq-T (movedBy S p n) (destination p) (f .arrives)))
     (and-i (nearEnough S q p) (rightSign q p && lowerDone q p)
     (all-by dimensions (λ j. leb (reach j q p) (longest S j))
     (λ i h. le→leb (reach i q p) (longest S i) (f .near i h)))
-    (and-i (rightSign q p) (lowerDone q p) (signed (passed? (eqb q injectionQueue))) (low (passed? (isEscape q)))))
+    (and-i (rightSign q p) (lowerDone q p) (signed (passed? (eqb q injectionQueue))) (low (passed? (isEscape q))))))
   where
     signed : T (eqb q injectionQueue) ⊎ T (not (eqb q injectionQueue)) → T (rightSign q p)
     signed (inl e) = or-l (eqb q injectionQueue) (eqb (hops (opposite (directionOf q)) p) 0) e
@@ -271,6 +278,7 @@ module _ (S : Shape) (n q i h p : ℕ) (tor : Torus S) (node : n < nodes S) (k :
     unfolding hops
     either-sign f =
         record {
+          clear = spare-with i z p k rz ∙ sym (spare-with i y p k ry) ∙ f .clear;
           addressed = let e = destination-same in let l = f .addressed in omega arith;
           arrives = movedBy-same ∙ f .arrives ∙ sym destination-same;
           near = λ j l. let e = reach-same j l in let m = f .near j l in omega arith;
@@ -314,7 +322,7 @@ module _ (S : Shape) (n q i h p : ℕ) (tor : Torus S) (node : n < nodes S) (k :
 
 -- R86: a packet for the very node where it stands passes in the injection queue and in the queues of a dimension along which a hop can have been
 -- made, and in no other
-module _ (S : Shape) (n q p : ℕ) (tor : Torus S) (node : n < nodes S) (arrived : hopsLeft p ≡ 0) (own : destination p ≡ n) where
+module _ (S : Shape) (n q p : ℕ) (tor : Torus S) (node : n < nodes S) (spared : spare p ≡ 0) (arrived : hopsLeft p ≡ 0) (own : destination p ≡ n) where
   MayStand : Type 0
   MayStand = (q ≡ injectionQueue) ⊎ (2 ≤ size S (dimensionOf (directionOf q)))
 
@@ -322,6 +330,7 @@ module _ (S : Shape) (n q p : ℕ) (tor : Torus S) (node : n < nodes S) (arrived
   unfolding MayStand
   own-clauses may =
       record {
+        clear = spared;
         addressed = let e = own in let h = node in omega arith;
         arrives = movedBy-here S n p tor node arrived ∙ sym own;
         near = λ i h. near i h may (ℕ-discrete (dimensionOf (directionOf q)) i);

@@ -7,21 +7,21 @@ use Rattle.base.specs.Sums.{sumBelow, sumOf}
 use Rattle.base.specs.Parts.{span, splice}
 use Rattle.network.specs.Sizes.{Shape, nodes, queues, directions, capacity}
 
--- R42, the header: the five sizes, then the three counters
+-- R42, the header: the six sizes, then the three counters
 abbrev pub headerWords : ℕ
-headerWords = 8
+headerWords = 9
 
 unfoldable pub shape : List ℕ → Shape
-shape w = record { sizes = getD w 0 0 ∷ getD w 1 0 ∷ []; escape = getD w 2 0; adaptive = getD w 3 0; injection = getD w 4 0 }
+shape w = record { sizes = getD w 0 0 ∷ getD w 1 0 ∷ getD w 2 0 ∷ []; escape = getD w 3 0; adaptive = getD w 4 0; injection = getD w 5 0 }
 
 abbrev pub acceptedAt : ℕ
-acceptedAt = 5
+acceptedAt = 6
 
 abbrev pub deliveredAt : ℕ
-deliveredAt = 6
+deliveredAt = 7
 
 abbrev pub movesAt : ℕ
-movesAt = 7
+movesAt = 8
 
 unfoldable pub accepted : List ℕ → ℕ
 accepted w = getD w acceptedAt 0

@@ -282,15 +282,15 @@ word-put S w n q ps i fits h b =
     let e = end-length S w n q fits in
     getD-before w (queueStart S n q) (queueEnd S n q) (queueWords (capacity S q) ps) i (omega arith) (omega arith)
 
--- the sizes stand in the first five words
+-- the sizes stand in the first six words
 pub shape-same : (v w : List ℕ) → ((i : ℕ) → i < acceptedAt → getD v i 0 ≡ getD w i 0) → shape v ≡ shape w
 unfolding shape
 shape-same v w h =
     λ i. record {
-      sizes = h 0 (omega arith) i ∷ h 1 (omega arith) i ∷ [];
-      escape = h 2 (omega arith) i;
-      adaptive = h 3 (omega arith) i;
-      injection = h 4 (omega arith) i;
+      sizes = h 0 (omega arith) i ∷ h 1 (omega arith) i ∷ h 2 (omega arith) i ∷ [];
+      escape = h 3 (omega arith) i;
+      adaptive = h 4 (omega arith) i;
+      injection = h 5 (omega arith) i;
     }
 
 pub shape-put : (S : Shape) (w : List ℕ) (n q : ℕ) (ps : List ℕ) → Fits S w n q → length ps ≤ capacity S q → shape (putQueue S w n q ps) ≡ shape w

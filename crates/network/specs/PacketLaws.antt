@@ -15,7 +15,7 @@ use Rattle.base.specs.Tests.{allOf}
 use Rattle.base.specs.Sums.{sumBelow, sum-change, sum-most, term-le}
 use Rattle.network.specs.Sizes.{dimensions, directions, dimensionOf, isPlus, plus, minus}
 use Rattle.base.specs.Digits.{product, digit, putDigit, weight, Positive, positive-by, digit-weight, digit-lt, digit-put-same, digit-put-other, put-put, put-comm, put-digit, above-put}
-use Rattle.network.specs.Packet.{offsetValues, destinationValues, fields, offsetField, destinationField, withOffsets, signed, unsigned, packetWord, tag, destination, offset, withOffset, distance, forward, backward, hops, heading, hopsLeft, work, shrunk, hop, label, stepsAhead, goesPlus, shorterWay}
+use Rattle.network.specs.Packet.{offsetValues, destinationValues, fields, offsetField, spareField, destinationField, withOffsets, signed, unsigned, packetWord, tag, destination, spare, offset, withOffset, distance, forward, backward, hops, heading, hopsLeft, work, shrunk, hop, label, stepsAhead, goesPlus, shorterWay}
 
 -- a choice whose test is known
 chosen : {A : Type 0} (b : Bool) (x y : A) → b ≡ true → cond b x y ≡ x
@@ -84,11 +84,11 @@ shrunk-range (negsuc (suc n)) r = let l : suc (suc n) ≤ halfOffsets = r .least
 -- The fields of a word ----------------------------------------------------------------------------------------------------------------
 -- Everything below rests on these three facts of the fields.
 
-fields-positive : Positive fields
+pub fields-positive : Positive fields
 unfolding allOf
 fields-positive = positive-by fields tt
 
-offset-values : (i : ℕ) → i < dimensions → getD fields (offsetField i) 0 ≡ offsetValues
+pub offset-values : (i : ℕ) → i < dimensions → getD fields (offsetField i) 0 ≡ offsetValues
 offset-values i h =
     List·getD-append (replicate dimensions offsetValues) (drop dimensions fields) 0 (offsetField i) (omega arith)
     ∙ getD-replicate dimensions (offsetField i) offsetValues 0 (omega arith)
@@ -96,18 +96,18 @@ offset-values i h =
 destination-values : getD fields destinationField 0 ≡ destinationValues
 destination-values = refl
 
-offset-field-lt : (i : ℕ) → i < dimensions → offsetField i < length fields
+pub offset-field-lt : (i : ℕ) → i < dimensions → offsetField i < length fields
 offset-field-lt i h = omega arith
 
 pub field-lt : (i p : ℕ) → i < dimensions → digit fields (offsetField i) p < offsetValues
 field-lt i p h = let l = digit-lt fields (offsetField i) p fields-positive (offset-field-lt i h) in let e = offset-values i h in omega arith
 
--- fields of different dimensions, and that of the destination, stand apart
+-- fields of different dimensions, and those above the offsets, stand apart
 offset-apart : (i j : ℕ) → i < dimensions → j < dimensions → j ≢ i → offsetField j ≢ offsetField i
 offset-apart i j h k ne e = ne (omega arith)
 
-destination-apart : (i : ℕ) → i < dimensions → destinationField ≢ offsetField i
-destination-apart i h e = omega arith
+above-apart : (k i : ℕ) → dimensions ≤ k → i < dimensions → k ≢ offsetField i
+above-apart k i l h e = omega arith
 
 small : (i : ℕ) (z : ℤ) → i < dimensions → OffsetRange z → unsigned z < getD fields (offsetField i) 0
 small i z h r = rw (offset-values i h) (unsigned-lt r)
@@ -120,6 +120,10 @@ tag-is p = refl
 pub destination-is : (p : ℕ) → destination p ≡ p / 2 ^ 16 % 2 ^ 16
 unfolding destination weight
 destination-is p = digit-weight fields destinationField p (omega arith)
+
+pub spare-is : (p : ℕ) → spare p ≡ p / 2 ^ 15 % 2
+unfolding spare weight
+spare-is p = digit-weight fields spareField p (omega arith)
 
 pub destination-within : (p : ℕ) → destination p < 2 ^ 16
 unfolding destination
@@ -137,10 +141,18 @@ unfolding offset withOffset
 offset-with-other i j z p h k ne r =
     ap signed (digit-put-other fields (offsetField i) (offsetField j) (unsigned z) p fields-positive (offset-apart i j h k ne) (small i z h r))
 
+-- a field above the offsets stays
+field-with : (k i : ℕ) (z : ℤ) (p : ℕ) → dimensions ≤ k → i < dimensions → OffsetRange z → digit fields k (withOffset i z p) ≡ digit fields k p
+unfolding withOffset
+field-with k i z p l h r = digit-put-other fields (offsetField i) k (unsigned z) p fields-positive (above-apart k i l h) (small i z h r)
+
 pub destination-with : (i : ℕ) (z : ℤ) (p : ℕ) → i < dimensions → OffsetRange z → destination (withOffset i z p) ≡ destination p
-unfolding destination withOffset
-destination-with i z p h r =
-    digit-put-other fields (offsetField i) destinationField (unsigned z) p fields-positive (destination-apart i h) (small i z h r)
+unfolding destination
+destination-with i z p h r = field-with destinationField i z p (omega arith) h r
+
+pub spare-with : (i : ℕ) (z : ℤ) (p : ℕ) → i < dimensions → OffsetRange z → spare (withOffset i z p) ≡ spare p
+unfolding spare
+spare-with i z p h r = field-with spareField i z p (omega arith) h r
 
 pub tag-with : (i : ℕ) (z : ℤ) (p : ℕ) → i < dimensions → OffsetRange z → tag (withOffset i z p) ≡ tag p
 unfolding tag withOffset
@@ -170,13 +182,13 @@ module _ (offs : ℕ → ℤ) where
   tag-withs zero p h r = refl
   tag-withs (suc m) p h r = tag-with m (offs m) (withOffsets m offs p) (omega arith) (r m (omega arith)) ∙ tag-withs m p (omega arith) (λ i l. r i (omega arith))
 
-  destination-withs : (m : ℕ) (p : ℕ) → m ≤ dimensions → InRange m offs → destination (withOffsets m offs p) ≡ destination p
+  field-withs : (k m : ℕ) (p : ℕ) → dimensions ≤ k → m ≤ dimensions → InRange m offs → digit fields k (withOffsets m offs p) ≡ digit fields k p
   unfolding withOffsets
-  destination-withs zero p h r = refl
-  destination-withs (suc m) p h r =
-      destination-with m (offs m) (withOffsets m offs p) (omega arith) (r m (omega arith)) ∙ destination-withs m p (omega arith) (λ i l. r i (omega arith))
+  field-withs k zero p l h r = refl
+  field-withs k (suc m) p l h r =
+      field-with k m (offs m) (withOffsets m offs p) l (omega arith) (r m (omega arith)) ∙ field-withs k m p l (omega arith) (λ i j. r i (omega arith))
 
-  offset-withs : (m i : ℕ) (p : ℕ) → m ≤ dimensions → i < m → InRange m offs → offset i (withOffsets m offs p) ≡ offs i
+  pub offset-withs : (m i : ℕ) (p : ℕ) → m ≤ dimensions → i < m → InRange m offs → offset i (withOffsets m offs p) ≡ offs i
   unfolding withOffsets
   offset-withs zero i p h l r = absurd (omega arith)
   offset-withs (suc m) i p h l r = go (ℕ-discrete i m) (λ k. offset-withs m i p (omega arith) k (λ j q. r j (omega arith)))
@@ -233,6 +245,10 @@ hop-range i p = shrunk-range (offset i p) (offset-range i p)
 pub destination-hop : (i p : ℕ) → i < dimensions → destination (hop i p) ≡ destination p
 unfolding hop
 destination-hop i p h = destination-with i (shrunk (offset i p)) p h (hop-range i p)
+
+pub spare-hop : (i p : ℕ) → i < dimensions → spare (hop i p) ≡ spare p
+unfolding hop
+spare-hop i p h = spare-with i (shrunk (offset i p)) p h (hop-range i p)
 
 pub tag-hop : (i p : ℕ) → i < dimensions → tag (hop i p) ≡ tag p
 unfolding hop
@@ -435,8 +451,8 @@ arrived-label p e = withs-own (λ j. pos 0) dimensions p (omega arith) (λ i h. 
     none i h = signed-zero (digit fields (offsetField i) p) (arrived-distance i p h e)
 
 pub destination-label : (p : ℕ) → destination (label p) ≡ destination p
-unfolding label
-destination-label p = destination-withs (λ j. pos 0) dimensions p (omega arith) (λ i h. zero-range)
+unfolding label destination
+destination-label p = field-withs (λ j. pos 0) destinationField dimensions p (omega arith) (omega arith) (λ i h. zero-range)
 
 pub tag-label : (p : ℕ) → tag (label p) ≡ tag p
 unfolding label
@@ -454,8 +470,16 @@ tag-packet t dest offs h r =
 pub destination-packet : (t dest : ℕ) (offs : ℕ → ℤ) → dest < 2 ^ 16 → InRange dimensions offs → destination (packetWord t dest offs) ≡ dest
 unfolding packetWord destination
 destination-packet t dest offs h r =
-    destination-withs offs dimensions (putDigit fields destinationField dest (t * product fields)) (omega arith) r
+    field-withs offs destinationField dimensions (putDigit fields destinationField dest (t * product fields)) (omega arith) (omega arith) r
     ∙ digit-put-same fields destinationField dest (t * product fields) fields-positive (omega arith) h
+
+pub spare-packet : (t dest : ℕ) (offs : ℕ → ℤ) → dest < 2 ^ 16 → InRange dimensions offs → spare (packetWord t dest offs) ≡ 0
+unfolding packetWord spare product weight
+spare-packet t dest offs h r =
+    field-withs offs spareField dimensions (putDigit fields destinationField dest (t * product fields)) (omega arith) (omega arith) r
+    ∙ digit-put-other fields destinationField spareField dest (t * product fields) fields-positive (λ e. omega arith) h
+    ∙ digit-weight fields spareField (t * product fields) (omega arith)
+    ∙ omega arith
 
 pub offset-packet : (i t dest : ℕ) (offs : ℕ → ℤ) → i < dimensions → dest < 2 ^ 16 → InRange dimensions offs → offset i (packetWord t dest offs) ≡ offs i
 unfolding packetWord

@@ -10,7 +10,7 @@ use Rattle.network.specs.Packet.{distance, heading, hopsLeft}
 use Rattle.network.specs.Torus.{neighbour}
 use Rattle.network.specs.Layout.{fill}
 
--- the dimensions in the order x, y: i, i + 1, .., so many of them
+-- the dimensions in the order x, y, z: i, i + 1, .., so many of them
 unfoldable pub inOrder : ℕ → ℕ → List ℕ
 inOrder i zero = []
 inOrder i (suc count) = i ∷ inOrder (suc i) count

@@ -16,10 +16,10 @@ use Rattle.base.specs.Tests.{EachBelow, each-at}
 use Rattle.base.specs.Sums.{sumBelow}
 use Rattle.network.specs.declared.Sign.{Sign}
 use Rattle.network.specs.Sizes.{dimensions, queues, plus, minus, adaptiveQueue, escapeQueue}
-use Rattle.network.specs.Packet.{offset, withOffset, distance, backward, heading, hopsLeft}
-use Rattle.network.specs.PacketLaws.{OffsetRange, offset-with-same, offset-with-other, arrived-distance}
+use Rattle.network.specs.Packet.{offset, withOffsets, distance, backward, heading, hopsLeft}
+use Rattle.network.specs.PacketLaws.{InRange, offset-withs, arrived-distance}
 use Rattle.network.specs.Routes.{inOrder, without, incoming, incomingFirst, headings, routes, deliver}
-use Rattle.network.specs.Selection.{sign, adaptiveX, adaptiveY, inTurn, lastCase, selection, selected}
+use Rattle.network.specs.Selection.{sign, adaptiveX, adaptiveY, adaptiveZ, inTurn, lastCase, selection, selected}
 
 -- The sign of an offset ---------------------------------------------------------------------------------------------------------------
 
@@ -75,6 +75,9 @@ along-x = record { at-plus = refl; at-minus = refl; at-zero = refl }
 along-y : Along 1 adaptiveY
 along-y = record { at-plus = refl; at-minus = refl; at-zero = refl }
 
+along-z : Along 2 adaptiveZ
+along-z = record { at-plus = refl; at-minus = refl; at-zero = refl }
+
 adaptive-by : {i : ℕ} {cases : Sign → List ℕ} → Along i cases → (s : Sign) → map adaptiveQueue (ways i s) ≡ cases s
 unfolding ways
 adaptive-by a Sign.Plus = sym (a .at-plus)
@@ -90,62 +93,78 @@ module _ (p : ℕ) where
       ∙ map-append adaptiveQueue (ways i (sign (offset i p))) (headings is p)
       ∙ ap (λ (l : List ℕ). l ++ map adaptiveQueue (headings is p)) (adaptive-by a (sign (offset i p)))
 
-  both : {i j : ℕ} {f g : Sign → List ℕ} → Along i f → Along j g
-      → f (sign (offset i p)) ++ g (sign (offset j p)) ≡ map adaptiveQueue (headings (i ∷ j ∷ []) p)
+  all-three : {i j k : ℕ} {f g h : Sign → List ℕ} → Along i f → Along j g → Along k h
+      → f (sign (offset i p)) ++ (g (sign (offset j p)) ++ h (sign (offset k p))) ≡ map adaptiveQueue (headings (i ∷ j ∷ k ∷ []) p)
   unfolding headings
-  both {i} {j} {f} {g} a b =
+  all-three {i} {j} {k} {f} {g} {h} a b c =
       sym
-      (adaptive-then a (j ∷ [])
-      ∙ ap (λ (l : List ℕ). f (sign (offset i p)) ++ l) (adaptive-then b [] ∙ append-nil (g (sign (offset j p)))))
+      (adaptive-then a (j ∷ k ∷ [])
+      ∙ ap (λ (l : List ℕ). f (sign (offset i p)) ++ l)
+      (adaptive-then b (k ∷ [])
+      ∙ ap (λ (l : List ℕ). g (sign (offset j p)) ++ l) (adaptive-then c [] ∙ append-nil (h (sign (offset k p))))))
 
 -- the row of each queue
-adaptives : (q p : ℕ) → q < queues → inTurn q (adaptiveX (sign (offset 0 p))) (adaptiveY (sign (offset 1 p))) ≡ map adaptiveQueue (headings (incomingFirst q) p)
+adaptives : (q p : ℕ) → q < queues
+    → inTurn q (adaptiveX (sign (offset 0 p))) (adaptiveY (sign (offset 1 p))) (adaptiveZ (sign (offset 2 p))) ≡ map adaptiveQueue (headings (incomingFirst q) p)
 unfolding inTurn incomingFirst incoming without inOrder EachBelow
-adaptives q p h = each-at row queues (((((((((tt, x-first), x-first), x-first), y-first), y-first), x-first), x-first), y-first), y-first) q h
+adaptives q p h =
+    each-at row queues
+    (((((((((((((tt, x-first), x-first), x-first), y-first), y-first), z-first), z-first), x-first), x-first), y-first), y-first), z-first), z-first) q h
   where
     row : ℕ → Type 0
-    row q = inTurn q (adaptiveX (sign (offset 0 p))) (adaptiveY (sign (offset 1 p))) ≡ map adaptiveQueue (headings (incomingFirst q) p)
+    row q = inTurn q (adaptiveX (sign (offset 0 p))) (adaptiveY (sign (offset 1 p))) (adaptiveZ (sign (offset 2 p))) ≡ map adaptiveQueue (headings (incomingFirst q) p)
 
-    x-first : adaptiveX (sign (offset 0 p)) ++ adaptiveY (sign (offset 1 p)) ≡ map adaptiveQueue (headings (0 ∷ 1 ∷ []) p)
-    x-first = both p along-x along-y
+    x-first : adaptiveX (sign (offset 0 p)) ++ (adaptiveY (sign (offset 1 p)) ++ adaptiveZ (sign (offset 2 p))) ≡ map adaptiveQueue (headings (0 ∷ 1 ∷ 2 ∷ []) p)
+    x-first = all-three p along-x along-y along-z
 
-    y-first : adaptiveY (sign (offset 1 p)) ++ adaptiveX (sign (offset 0 p)) ≡ map adaptiveQueue (headings (1 ∷ 0 ∷ []) p)
-    y-first = both p along-y along-x
+    y-first : adaptiveY (sign (offset 1 p)) ++ (adaptiveX (sign (offset 0 p)) ++ adaptiveZ (sign (offset 2 p))) ≡ map adaptiveQueue (headings (1 ∷ 0 ∷ 2 ∷ []) p)
+    y-first = all-three p along-y along-x along-z
+
+    z-first : adaptiveZ (sign (offset 2 p)) ++ (adaptiveX (sign (offset 0 p)) ++ adaptiveY (sign (offset 1 p))) ≡ map adaptiveQueue (headings (2 ∷ 0 ∷ 1 ∷ []) p)
+    z-first = all-three p along-z along-x along-y
 
 -- Line 3 and the delivery -------------------------------------------------------------------------------------------------------------
 
 escapes : (p : ℕ) → map escapeQueue (take 1 (headings (inOrder 0 dimensions) p))
-    ≡ map escapeQueue (take 1 (ways 0 (sign (offset 0 p)) ++ (ways 1 (sign (offset 1 p)) ++ [])))
+    ≡ map escapeQueue (take 1 (ways 0 (sign (offset 0 p)) ++ (ways 1 (sign (offset 1 p)) ++ (ways 2 (sign (offset 2 p)) ++ []))))
 unfolding inOrder headings
 escapes p =
     ap (λ (ds : List ℕ). map escapeQueue (take 1 ds))
-    (headings-by 0 (1 ∷ []) p ∙ ap (λ (ds : List ℕ). ways 0 (sign (offset 0 p)) ++ ds) (headings-by 1 [] p))
+    (headings-by 0 (1 ∷ 2 ∷ []) p
+    ∙ ap (λ (ds : List ℕ). ways 0 (sign (offset 0 p)) ++ ds)
+    (headings-by 1 (2 ∷ []) p ∙ ap (λ (ds : List ℕ). ways 1 (sign (offset 1 p)) ++ ds) (headings-by 2 [] p)))
 
-escape-case : (dx dy : Sign) → (dx ≡ Sign.Zero → dy ≢ Sign.Zero) → map escapeQueue (take 1 (ways 0 dx ++ (ways 1 dy ++ []))) ≡ lastCase dx dy ∷ []
+escape-case : (dx dy dz : Sign) → (dx ≡ Sign.Zero → dy ≡ Sign.Zero → dz ≢ Sign.Zero)
+    → map escapeQueue (take 1 (ways 0 dx ++ (ways 1 dy ++ (ways 2 dz ++ [])))) ≡ lastCase dx dy dz ∷ []
 unfolding ways
-escape-case Sign.Plus dy some = refl
-escape-case Sign.Minus dy some = refl
-escape-case Sign.Zero Sign.Plus some = refl
-escape-case Sign.Zero Sign.Minus some = refl
-escape-case Sign.Zero Sign.Zero some = absurd (some refl refl)
+escape-case Sign.Plus dy dz some = refl
+escape-case Sign.Minus dy dz some = refl
+escape-case Sign.Zero Sign.Plus dz some = refl
+escape-case Sign.Zero Sign.Minus dz some = refl
+escape-case Sign.Zero Sign.Zero Sign.Plus some = refl
+escape-case Sign.Zero Sign.Zero Sign.Minus some = refl
+escape-case Sign.Zero Sign.Zero Sign.Zero some = absurd (some refl refl refl)
 
--- with both Zero, lines 1 and 2 have no case and the last one delivers
-delivery-case : (q : ℕ) → q < queues → selection q Sign.Zero Sign.Zero ≡ deliver ∷ []
+-- with all Zero, lines 1 and 2 have no case and the last one delivers
+delivery-case : (q : ℕ) → q < queues → selection q Sign.Zero Sign.Zero Sign.Zero ≡ deliver ∷ []
 unfolding selection inTurn EachBelow
 delivery-case q h =
-    each-at (λ (q : ℕ). selection q Sign.Zero Sign.Zero ≡ deliver ∷ []) queues (((((((((tt, refl), refl), refl), refl), refl), refl), refl), refl), refl) q h
+    each-at (λ (q : ℕ). selection q Sign.Zero Sign.Zero Sign.Zero ≡ deliver ∷ []) queues
+    (((((((((((((tt, refl), refl), refl), refl), refl), refl), refl), refl), refl), refl), refl), refl), refl) q h
 
 -- The whole ---------------------------------------------------------------------------------------------------------------------------
 
--- where both are Zero no hop is left, and the other way round
-not-both : (p : ℕ) → hopsLeft p ≢ 0 → sign (offset 0 p) ≡ Sign.Zero → sign (offset 1 p) ≢ Sign.Zero
+-- where all are Zero no hop is left, and the other way round
+not-all : (p : ℕ) → hopsLeft p ≢ 0 → sign (offset 0 p) ≡ Sign.Zero → sign (offset 1 p) ≡ Sign.Zero → sign (offset 2 p) ≢ Sign.Zero
 unfolding hopsLeft sumBelow
-not-both p ne x y = ne (let a = zero-done 0 p x in let b = zero-done 1 p y in omega arith)
+not-all p ne x y z = ne (let a = zero-done 0 p x in let b = zero-done 1 p y in let c = zero-done 2 p z in omega arith)
 
-both-zero : (q p : ℕ) → hopsLeft p ≡ 0 → selected q p ≡ selection q Sign.Zero Sign.Zero
+all-zero : (q p : ℕ) → hopsLeft p ≡ 0 → selected q p ≡ selection q Sign.Zero Sign.Zero Sign.Zero
 unfolding selected
-both-zero q p z =
-    ap₂ (selection q) (done-zero 0 p (arrived-distance 0 p (omega arith) z)) (done-zero 1 p (arrived-distance 1 p (omega arith) z))
+all-zero q p e = rw (none 0 (omega arith), none 1 (omega arith), none 2 (omega arith))
+  where
+    none : (i : ℕ) → i < dimensions → sign (offset i p) ≡ Sign.Zero
+    none i h = done-zero i p (arrived-distance i p h e)
 
 -- the cases are the routes, of every head that a word can be and in each queue
 pub selection-routes : (q p : ℕ) → q < queues → selected q p ≡ routes q p
@@ -153,18 +172,19 @@ unfolding routes selected selection
 selection-routes q p h = go (ℕ-discrete (hopsLeft p) 0)
   where
     go : Dec (hopsLeft p ≡ 0) → selected q p ≡ routes q p
-    go (yes z) = rw (eq-eqb (hopsLeft p) 0 z) (both-zero q p z ∙ delivery-case q h)
+    go (yes z) = rw (eq-eqb (hopsLeft p) 0 z) (all-zero q p z ∙ delivery-case q h)
     go (no ne) =
         rw (ne-eqb (hopsLeft p) 0 ne)
         (ap₂ (λ (xs ys : List ℕ). xs ++ ys) (adaptives q p h)
-        (sym (escapes p ∙ escape-case (sign (offset 0 p)) (sign (offset 1 p)) (not-both p ne))))
+        (sym (escapes p ∙ escape-case (sign (offset 0 p)) (sign (offset 1 p)) (sign (offset 2 p)) (not-all p ne))))
 
--- the same by the offsets: all that their fields can hold, from −128 to 127, whatever else the word says
-pub selection-offsets : (q p : ℕ) (dx dy : ℤ) → q < queues → OffsetRange dx → OffsetRange dy
-    → selection q (sign dx) (sign dy) ≡ routes q (withOffset 0 dx (withOffset 1 dy p))
+-- the same by the offsets: all that their fields can hold, from −16 to 15, whatever else the word says
+pub selection-offsets : (q p : ℕ) (offsets : ℕ → ℤ) → q < queues → InRange dimensions offsets
+    → selection q (sign (offsets 0)) (sign (offsets 1)) (sign (offsets 2)) ≡ routes q (withOffsets dimensions offsets p)
 unfolding selected
-selection-offsets q p dx dy h r s =
-    sym
-    (ap₂ (λ (x y : ℤ). selection q (sign x) (sign y)) (offset-with-same 0 dx (withOffset 1 dy p) (omega arith) r)
-    (offset-with-other 0 1 dx (withOffset 1 dy p) (omega arith) (omega arith) (λ e. omega arith) r ∙ offset-with-same 1 dy p (omega arith) s))
-    ∙ selection-routes q (withOffset 0 dx (withOffset 1 dy p)) h
+selection-offsets q p offsets h r =
+    sym (rw (carried 0 (omega arith), carried 1 (omega arith), carried 2 (omega arith)))
+    ∙ selection-routes q (withOffsets dimensions offsets p) h
+  where
+    carried : (i : ℕ) → i < dimensions → offset i (withOffsets dimensions offsets p) ≡ offsets i
+    carried i l = offset-withs offsets dimensions i p (omega arith) l r

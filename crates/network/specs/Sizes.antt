@@ -1,5 +1,5 @@
 -- R1, R20 to R25 and R31 to R34: what a network is made of. The constants of src/lib.rt are these numbers for the code.
--- Order: dimensions and directions; the sizes of a network and their ranges; the nine queues and their capacities. Assumes nothing.
+-- Order: dimensions and directions; the sizes of a network and their ranges; the thirteen queues and their capacities. Assumes nothing.
 use mathlib.Core.Bool.{Bool, cond, _&&_}
 use mathlib.Core.List.{List, [], _∷_}
 use Prim.Native.Nat.{ℕ, _+_, _*_, _-_, _/_, _%_, _^_}
@@ -9,11 +9,11 @@ use Rattle.base.specs.Tests.{allOf}
 use Rattle.base.specs.Digits.{product}
 use Rattle.network.specs.declared.Sizes.{Sizes}
 
--- R1: a torus in two dimensions; 0 is x, along which columns are counted, and 1 is y, along which rows are
+-- R1: a torus in three dimensions; 0 is x, 1 is y and 2 is z
 abbrev pub dimensions : ℕ
-dimensions = 2
+dimensions = 3
 
--- x+, x−, y+, y− are the directions 0 to 3, in the order of R33: dimension d / 2, plus where d is even, minus where it is odd
+-- x+, x−, y+, y−, z+, z− are the directions 0 to 5, in the order of R33: dimension d / 2, plus where d is even, minus where it is odd
 abbrev pub directions : ℕ
 directions = 2 * dimensions
 
@@ -29,7 +29,7 @@ dimensionOf d = d / 2
 abbrev pub isPlus : ℕ → Bool
 isPlus d = eqb (d % 2) 0
 
--- R20, R25: X and Y, and the slots E, A and J of a queue of each kind, one number for all nodes
+-- R20, R25: X, Y and Z, and the slots E, A and J of a queue of each kind, one number for all nodes
 pub record Shape : Type 0 where
   pub sizes : List ℕ
   pub escape : ℕ
@@ -38,11 +38,11 @@ pub record Shape : Type 0 where
 
 -- the code's sizes as the definitions read them
 unfoldable pub shapeOf : Sizes → Shape
-shapeOf s = record { sizes = s .x ∷ s .y ∷ []; escape = s .escape; adaptive = s .adaptive; injection = s .injection }
+shapeOf s = record { sizes = s .x ∷ s .y ∷ s .z ∷ []; escape = s .escape; adaptive = s .adaptive; injection = s .injection }
 
 -- the sizes of which these are the numbers, in the order of the header
-abbrev pub sized : ℕ → ℕ → ℕ → ℕ → ℕ → Sizes
-sized x y e a j = record { x = x; y = y; escape = e; adaptive = a; injection = j }
+abbrev pub sized : ℕ → ℕ → ℕ → ℕ → ℕ → ℕ → Sizes
+sized x y z e a j = record { x = x; y = y; z = z; escape = e; adaptive = a; injection = j }
 
 unfoldable pub size : Shape → ℕ → ℕ
 size S i = getD (S .sizes) i 0
@@ -59,14 +59,14 @@ fewestEscape = 2
 abbrev pub largestCapacity : ℕ
 largestCapacity = 8
 
--- R21 to R24: the range of each of the five
+-- R21 to R24: the range of each of the six
 unfoldable pub sizesInRange : Shape → Bool
 sizesInRange S =
     allOf (within 1 largestRing) (S .sizes)
     && (within fewestEscape largestCapacity (S .escape)
     && (within 1 largestCapacity (S .adaptive) && within 1 largestCapacity (S .injection)))
 
--- R30: nodes are numbered 0 to X × Y − 1
+-- R30: nodes are numbered 0 to X × Y × Z − 1
 unfoldable pub nodes : Shape → ℕ
 nodes S = product (S .sizes)
 
@@ -74,7 +74,7 @@ nodes S = product (S .sizes)
 abbrev pub mostNodes : ℕ
 mostNodes = largestRing ^ dimensions
 
--- R31 to R34: nine queues a node; the injection queue is 0, then an adaptive queue for each direction, then an escape queue for each
+-- R31 to R34: thirteen queues a node; the injection queue is 0, then an adaptive queue for each direction, then an escape queue for each
 abbrev pub queues : ℕ
 queues = 1 + 2 * directions
 

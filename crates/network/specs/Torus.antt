@@ -5,7 +5,7 @@ use Rattle.base.specs.Digits.{digit, rotate}
 use Rattle.network.specs.Sizes.{Shape, size, dimensionOf, isPlus, directions}
 use Rattle.network.specs.Packet.{hops}
 
--- R30: the coordinate of node n = y × X + x in dimension i
+-- R30: the coordinate of node n = (z × Y + y) × X + x in dimension i
 unfoldable pub coordinate : Shape → ℕ → ℕ → ℕ
 coordinate S i n = digit (S .sizes) i n
 
@@ -17,7 +17,7 @@ stride S d = cond (isPlus d) 1 (size S (dimensionOf d) - 1)
 unfoldable pub along : Shape → ℕ → ℕ → ℕ → ℕ
 along S d count n = rotate (S .sizes) (dimensionOf d) (count * stride S d) n
 
--- R35, R36: one hop, and round to the other end after the last node of the row or column
+-- R35, R36: one hop, and round to the other end after the last node of the ring
 unfoldable pub neighbour : Shape → ℕ → ℕ → ℕ
 neighbour S d n = along S d 1 n
 

@@ -2,23 +2,25 @@
 // sign of an offset, and the answers of the calls. specs/ has the definitions: Sizes.antt, Layout.antt, Check.antt and Refusals.antt those
 // of the numbers, under the same names, Selection.antt what follows from a sign, and Calls.antt when a call gives which answer.
 
-// R20, R25: columns and rows, and the slots of a queue of each kind: the sizes of a network, in the order of its first words.
+// R20, R25: the nodes along x, y and z, and the slots of a queue of each kind: the sizes of a network, in the order of its first words.
 pub struct Sizes {
     pub x: u64,
     pub y: u64,
+    pub z: u64,
     pub escape: u64,
     pub adaptive: u64,
     pub injection: u64,
 }
 
-// R1, R31 to R34: x and y; x+, x-, y+, y-; and the queues of a node: the injection queue, and an adaptive and an escape queue for each direction.
-pub const DIMENSIONS: u64 = 2;
+// R1, R31 to R34: x, y and z; x+, x-, y+, y-, z+, z-; and the queues of a node: the injection queue, and an adaptive and an escape queue for each
+// direction.
+pub const DIMENSIONS: u64 = 3;
 
-pub const DIRECTIONS: u64 = 4;
+pub const DIRECTIONS: u64 = 6;
 
-pub const QUEUES: u64 = 9;
+pub const QUEUES: u64 = 13;
 
-pub const FIRST_ESCAPE: u64 = 5;
+pub const FIRST_ESCAPE: u64 = 7;
 
 // R21 to R24: the ranges of the sizes. Every ring and every queue has at least one node or slot, an escape queue two.
 pub const LARGEST_RING: u64 = 16;
@@ -27,23 +29,31 @@ pub const FEWEST_ESCAPE: u64 = 2;
 
 pub const LARGEST_CAPACITY: u64 = 8;
 
-// The nodes of the largest network, two rings of the largest size.
-pub const MOST_NODES: u64 = 256;
+// The nodes of the largest network, of the largest size in each dimension.
+pub const MOST_NODES: u64 = 4096;
+
+// So many nodes are few, as many as there can be where one of the sizes is 1. What a call keeps for each node is then short: to clear it for
+// MOST_NODES would cost a call on a small network more than its work.
+pub const FEW_NODES: u64 = 256;
 
 // R42: the words of the header, and where the counts of packets accepted, packets delivered and moves made stand among them.
-pub const HEADER_WORDS: usize = 8;
+pub const HEADER_WORDS: usize = 9;
 
-pub const ACCEPTED_AT: usize = 5;
+pub const ACCEPTED_AT: usize = 6;
 
-pub const DELIVERED_AT: usize = 6;
+pub const DELIVERED_AT: usize = 7;
 
-pub const MOVES_AT: usize = 7;
+pub const MOVES_AT: usize = 8;
 
-// R60: the fields of a packet word: how many values an offset has, and how many destinations can be named; and by how much the word grows when the
-// destination, or the tag, is one more.
-pub const OFFSET_VALUES: u64 = 256;
+// R60: the fields of a packet word: how many values an offset has, the spare bit above the offsets, and how many destinations can be named; and by
+// how much the word grows when the spare bit, the destination or the tag is one more.
+pub const OFFSET_VALUES: u64 = 32;
+
+pub const SPARE_VALUES: u64 = 2;
 
 pub const DESTINATION_VALUES: u64 = 65536;
+
+pub const SPARE_AT: u64 = 32768;
 
 pub const DESTINATION_AT: u64 = 65536;
 
@@ -60,7 +70,7 @@ pub enum Sign {
 pub const MOST_ACCEPTED: u64 = 4294967295;
 
 // R85: the most work that a packet starts with, 8 hops in each dimension and its delivery.
-pub const MOST_WORK: u64 = 17;
+pub const MOST_WORK: u64 = 25;
 
 // The numbers of the refusals.
 

@@ -1,34 +1,64 @@
--- The two dimensions as the code tells them apart: 0 and not 0. Order: an offset's field; the word with an offset replaced; the
--- word that an offer starts from.
+-- The fields of a word as the code reads and writes them. Order: their weights; an offset's field; the word with an offset replaced; the word that an
+-- offer starts from.
 -- Assumes nothing.
 use mathlib.Core.Path.{_≡_, refl, ap, ap₂, sym, _∙_}
-use Prim.Native.Nat.{ℕ, _+_, _*_, _/_, _%_, _<_}
+use Prim.Native.Nat.{ℕ, _+_, _*_, _-_, _/_, _%_, _^_, _<_, _≤_}
 use native.Mathlib.Numerals.{add-one}
 use native.Mathlib.Omega.{arith}
 use lib.IntN.{ℤ}
 use Rattle.network.specs.Sizes.{dimensions}
-use native.Mathlib.Nat.{div-div-eq-div-mul}
-use Rattle.base.specs.Digits.{product, digit, putDigit}
+use Rattle.network.specs.PacketLaws.{OffsetRange, fields-positive, offset-values, offset-field-lt, tag-is, tag-with}
+use Rattle.base.specs.Digits.{product, digit, putDigit, weight, weight-pos, digit-weight, put-weight}
+use native.Mathlib.Nat.{zero-mul}
 use Rattle.network.specs.Packet.{offsetValues, fields, offsetField, destinationField, unsigned, withOffset, withOffsets}
 
-pub other-dimension : (i : ℕ) → i < dimensions → (i ≡ 0 → ⊥) → i ≡ 1
-other-dimension i h ne = omega arith
+pub last-dimension : (i : ℕ) → i < dimensions → (i ≡ 0 → ⊥) → (i ≡ 1 → ⊥) → i ≡ 2
+last-dimension i h no-x no-y = omega arith
 
-pub field-x : (i p : ℕ) → i ≡ 0 → p / offsetValues % offsetValues ≡ digit fields (offsetField i) p
-unfolding digit
-field-x i p e = rw e refl
+-- the weight of an offset's field, of each dimension
+pub weight-x : (i : ℕ) → i ≡ 0 → offsetValues * offsetValues ≡ weight fields (offsetField i)
+unfolding weight
+weight-x i e = rw e refl
 
-pub field-y : (i p : ℕ) → i ≡ 1 → p % offsetValues ≡ digit fields (offsetField i) p
-unfolding digit
-field-y i p e = rw e refl
+pub weight-y : (i : ℕ) → i ≡ 1 → offsetValues ≡ weight fields (offsetField i)
+unfolding weight
+weight-y i e = rw e refl
 
-pub with-x : (i : ℕ) (z : ℤ) (p b : ℕ) → i ≡ 0 → b ≡ unsigned z → p / 65536 * 65536 + b * offsetValues + p % offsetValues ≡ withOffset i z p
-unfolding withOffset putDigit
-with-x i z p b e f = rw e (let d : p / offsetValues / offsetValues ≡ p / 65536 = div-div-eq-div-mul p offsetValues offsetValues in omega arith)
+pub weight-z : (i : ℕ) → i ≡ 2 → 1 ≡ weight fields (offsetField i)
+unfolding weight
+weight-z i e = rw e refl
 
-pub with-y : (i : ℕ) (z : ℤ) (p b : ℕ) → i ≡ 1 → b ≡ unsigned z → p / offsetValues * offsetValues + b ≡ withOffset i z p
-unfolding withOffset putDigit
-with-y i z p b e f = rw e (omega arith)
+pub weight-some : (i : ℕ) → 0 < weight fields (offsetField i)
+weight-some i = weight-pos fields (offsetField i) fields-positive
+
+-- an offset's field by its weight w
+module _ (i p w : ℕ) (h : i < dimensions) (e : w ≡ weight fields (offsetField i)) where
+  pub field-by : p / w % offsetValues ≡ digit fields (offsetField i) p
+  field-by = ap₂ (λ (a k : ℕ). p / a % k) e (sym (offset-values i h)) ∙ sym (digit-weight fields (offsetField i) p (offset-field-lt i h))
+
+  -- and the word with another field there
+  module _ (z : ℤ) (f b : ℕ) (ef : f ≡ digit fields (offsetField i) p) (eb : b ≡ unsigned z) where
+    balance : withOffset i z p + f * w ≡ p + b * w
+    unfolding withOffset
+    balance = rw (ef, eb, e) (put-weight fields (offsetField i) (unsigned z) p (offset-field-lt i h))
+
+    pub field-within : f * w ≤ p
+    field-within =
+        let s = put-weight fields (offsetField i) 0 p (offset-field-lt i h) in
+        let z = zero-mul (weight fields (offsetField i)) in
+        rw (ef, e) (omega arith)
+
+    pub with-by : p - f * w + b * w ≡ withOffset i z p
+    with-by = let s = balance in let l = field-within in omega arith
+
+    -- what stands above the offsets stays, so the word stays one
+    pub with-fits : OffsetRange z → p < 2 ^ 64 → p - f * w + b * w < 2 ^ 64
+    with-fits r l =
+        let s = with-by in
+        let t = tag-with i z p h r in
+        let u = tag-is (withOffset i z p) in
+        let v = tag-is p in
+        omega arith
 
 -- the word of a tag and a destination, before any offset
 pub word-start : (t dest : ℕ) (offs : ℕ → ℤ) → dest < 65536

@@ -1,11 +1,11 @@
--- Laws of the code's sizes and places. Order: the two dimensions one by one; a coordinate by its weight; the neighbour by the weight; a node by its
+-- Laws of the code's sizes and places. Order: the dimensions one by one; a coordinate by its weight; the neighbour by the weight; a node by its
 -- place; the next place; a walk over all nodes; a coordinate moved; an offer's way. `s` are the code's sizes, `n` is a node. Assumes nothing.
-use mathlib.Core.Path.{_≡_, refl, ap, ap₂, sym, _∙_}
+use mathlib.Core.Path.{_≡_, refl, ap, ap₂, sym, subst, _∙_}
 use mathlib.Core.Bool.{cond}
 use mathlib.Core.List.{List}
 use mathlib.Core.Logic.{_≢_}
 use Prim.Native.Nat.{ℕ, zero, suc, _+_, _*_, _-_, _/_, _%_, _<_, _≤_}
-use native.Mathlib.Nat.{mul-one, one-mul, zero-mul, add-mul, mul-comm, mod-eq-of-lt, mod-self, add-mod-right, add-mul-mod-self-right, mul-suc}
+use native.Mathlib.Nat.{mul-assoc, mul-le-mul-left, mul-one, one-mul, zero-mul, add-mul, mul-comm, mod-eq-of-lt, mod-self, add-mod-right, add-mul-mod-self-right, mul-suc}
 use native.Mathlib.Numerals.{add-one}
 use native.Mathlib.Decide.{ℕ-discrete}
 use native.Mathlib.Omega.{arith}
@@ -25,11 +25,16 @@ use Rattle.network.specs.declared.Sizes.{Sizes}
 use Rattle.packet.specs.declared.torus.Place.{Place}
 use Rattle.packet.specs.Geometry.{nodeAt, OnTorus, WalkTo}
 
--- The two dimensions one by one -------------------------------------------------------------------------------------------------------
+-- The dimensions one by one -----------------------------------------------------------------------------------------------------------
 
-pub nodes-is : (s : Sizes) → s .x * s .y ≡ nodes (shapeOf s)
+pub nodes-is : (s : Sizes) → s .x * s .y * s .z ≡ nodes (shapeOf s)
 unfolding nodes shapeOf product
-nodes-is s = ap (λ (y : ℕ). s .x * y) (sym (mul-one (s .y)))
+nodes-is s = mul-assoc (s .x) (s .y) (s .z) ∙ ap (λ (z : ℕ). s .x * (s .y * z)) (sym (mul-one (s .z)))
+
+-- the nodes of a plane are no more than all
+pub plane-most : (s : Sizes) → T (sizesInRange (shapeOf s)) → s .x * s .y ≤ nodes (shapeOf s)
+unfolding shapeOf size
+plane-most s t = subst (λ (n : ℕ). s .x * s .y ≤ n) (nodes-is s) (let m = mul-le-mul-left (s .x * s .y) (size-pos (shapeOf s) 2 (sizes-torus s t) (omega arith)) in let o = mul-one (s .x * s .y) in omega arith)
 
 pub size-x : (s : Sizes) (i : ℕ) → i ≡ 0 → s .x ≡ size (shapeOf s) i
 unfolding size shapeOf
@@ -39,6 +44,10 @@ pub size-y : (s : Sizes) (i : ℕ) → i ≡ 1 → s .y ≡ size (shapeOf s) i
 unfolding size shapeOf
 size-y s i e = rw e refl
 
+pub size-z : (s : Sizes) (i : ℕ) → i ≡ 2 → s .z ≡ size (shapeOf s) i
+unfolding size shapeOf
+size-z s i e = rw e refl
+
 pub weight-x : (s : Sizes) (i : ℕ) → i ≡ 0 → 1 ≡ weight (shapeOf s .sizes) i
 unfolding weight shapeOf
 weight-x s i e = rw e refl
@@ -46,6 +55,10 @@ weight-x s i e = rw e refl
 pub weight-y : (s : Sizes) (i : ℕ) → i ≡ 1 → s .x ≡ weight (shapeOf s .sizes) i
 unfolding weight shapeOf
 weight-y s i e = rw e (sym (mul-one (s .x)))
+
+pub weight-z : (s : Sizes) (i : ℕ) → i ≡ 2 → s .x * s .y ≡ weight (shapeOf s .sizes) i
+unfolding weight shapeOf
+weight-z s i e = rw e (ap (λ (y : ℕ). s .x * y) (sym (mul-one (s .y))))
 
 -- A coordinate by its weight ------------------------------------------------------------------------------------------------------------
 

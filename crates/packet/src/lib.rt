@@ -6,13 +6,15 @@ use network::DESTINATION_AT;
 use network::DESTINATION_VALUES;
 use network::DIMENSIONS;
 use network::OFFSET_VALUES;
+use network::SPARE_AT;
+use network::SPARE_VALUES;
 use network::Sign;
 ghost use mathlib.Core.Path.{_≡_};
 ghost use Prim.Native.Nat.{_<_, _≤_};
 ghost use lib.IntN.{natAbs};
-ghost use Rattle.base.specs.Digits.{digit};
+ghost use Rattle.base.specs.Digits.{digit, weight};
 ghost use Rattle.network.specs.Sizes.{dimensions, largestRing};
-ghost use Rattle.network.specs.Packet.{offsetValues, fields, offsetField, signed, unsigned, offset, withOffset, distance, shrunk, hop, hopsLeft, work, destination, shorterWay};
+ghost use Rattle.network.specs.Packet.{offsetValues, fields, offsetField, signed, unsigned, offset, withOffset, distance, shrunk, hop, hopsLeft, work, destination, spare, shorterWay};
 ghost use Rattle.network.specs.PacketLaws.{OffsetRange};
 ghost use Rattle.network.specs.Selection.{sign};
 
@@ -71,16 +73,31 @@ pub fn destination(p: u64) -> u64
     p / DESTINATION_AT % DESTINATION_VALUES
 }
 
-// The field of the offset of dimension i. It is divided out by a literal in each arm, so that no division by a variable is left.
+// The bit above the offsets, of which nothing is made.
+pub fn spare(p: u64) -> u64
+    ensures { λ r. ⌜ r ≡ spare p ⌝ }
+{
+    p / SPARE_AT % SPARE_VALUES
+}
+
+// By how much a word grows when the offset of dimension i is one more: that of the last dimension stands lowest. All are powers of two, so that no
+// division is left.
+fn offset_weight(i: u64) -> u64
+    requires { ⌜ i < dimensions ⌝ }
+    ensures { λ r. ⌜ r ≡ weight fields (offsetField i) ⌝ }
+{
+    if i == 0 {
+        return OFFSET_VALUES * OFFSET_VALUES;
+    }
+    if i == 1 { OFFSET_VALUES } else { 1 }
+}
+
+// The field of the offset of dimension i.
 pub fn offset_field(i: u64, p: u64) -> u64
     requires { ⌜ i < dimensions ⌝ }
     ensures { λ r. ⌜ r ≡ digit fields (offsetField i) p ⌝ }
 {
-    if i == 0 {
-        p / OFFSET_VALUES % OFFSET_VALUES
-    } else {
-        p % OFFSET_VALUES
-    }
+    p / offset_weight(i) % OFFSET_VALUES
 }
 
 pub fn offset(i: u64, p: u64) -> i64
@@ -94,11 +111,8 @@ pub fn with_offset(i: u64, z: i64, p: u64) -> u64
     requires { ⌜ (i < dimensions) × OffsetRange z ⌝ }
     ensures { λ r. ⌜ r ≡ withOffset i z p ⌝ }
 {
-    if i == 0 {
-        p / DESTINATION_AT * DESTINATION_AT + unsigned(z) * OFFSET_VALUES + p % OFFSET_VALUES
-    } else {
-        p / OFFSET_VALUES * OFFSET_VALUES + unsigned(z)
-    }
+    let w = offset_weight(i);
+    p - offset_field(i, p) * w + unsigned(z) * w
 }
 
 // Hops left -----------------------------------------------------------------------------------------------------------------

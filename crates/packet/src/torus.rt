@@ -19,14 +19,17 @@ pub fn nodes(s: Sizes) -> u64
     requires { ⌜ T (sizesInRange (shapeOf s)) ⌝ }
     ensures { λ r. ⌜ r ≡ nodes (shapeOf s) ⌝ }
 {
-    s.x * s.y
+    s.x * s.y * s.z
 }
 
 pub fn size(s: Sizes, i: u64) -> u64
     requires { ⌜ i < dimensions ⌝ }
     ensures { λ r. ⌜ r ≡ size (shapeOf s) i ⌝ }
 {
-    if i == 0 { s.x } else { s.y }
+    if i == 0 {
+        return s.x;
+    }
+    if i == 1 { s.y } else { s.z }
 }
 
 // By how much the numbers of two nodes differ that are one step apart in dimension i.
@@ -34,7 +37,10 @@ pub fn weight(s: Sizes, i: u64) -> u64
     requires { ⌜ T (sizesInRange (shapeOf s)) × (i < dimensions) ⌝ }
     ensures { λ r. ⌜ r ≡ weight (shapeOf s .sizes) i ⌝ }
 {
-    if i == 0 { 1 } else { s.x }
+    if i == 0 {
+        return 1;
+    }
+    if i == 1 { s.x } else { s.x * s.y }
 }
 
 pub fn coordinate(s: Sizes, i: u64, n: u64) -> u64

@@ -15,11 +15,11 @@ use lib.Dec.{T, ltb, eqb, ltb→lt, lt→ltb, eqb→eq}
 use Rattle.base.specs.Tests.{all-at, all-by, and-l, and-r, and-i, T-true, passed?, T-false}
 use Rattle.base.specs.Bools.{same-test}
 use Rattle.network.specs.Sizes.{Shape, shapeOf, sizesInRange, size, nodes, dimensions, directions, dimensionOf, directionOf, isEscape, isPlus, plus, minus, injectionQueue}
-use Rattle.network.specs.Packet.{destination, distance, hops}
+use Rattle.network.specs.Packet.{destination, spare, distance, hops}
 use Rattle.network.specs.PacketLaws.{one-way, distance-is, hops-le, dimension-lt}
 use Rattle.network.specs.Torus.{movedBy}
 use Rattle.network.specs.TorusLaws.{Torus, sizes-torus, size-pos, movedBy-lt}
-use Rattle.network.specs.Check.{longest, isQueueOf, reach, opposite, packetFits}
+use Rattle.network.specs.Check.{longest, isQueueOf, reach, opposite, spareClear, packetFits}
 use Rattle.network.specs.CheckLaws.{PacketFits, packet-of, packet-by, eq-T, reach-least, reach-other, opposite-dimension, opposite-lt}
 use Rattle.network.specs.declared.Sizes.{Sizes}
 use Rattle.packet_check.specs.PacketLimits.{limit, LimitsOf, LimitsFit, belowAlong, belowLimits, fitsWithin, NoRound}
@@ -250,9 +250,10 @@ module _ (S : Shape) (n q p : ℕ) where
       go (inl z) e = omega arith
       go (inr z) e = omega arith
 
-  clauses : Torus S → n < nodes S → ((d : ℕ) → d < directions → hops d p < limit S q d) → movedBy S p n ≡ destination p → PacketFits S n q p
-  clauses torus hn h e =
+  clauses : Torus S → n < nodes S → ((d : ℕ) → d < directions → hops d p < limit S q d) → spare p ≡ 0 → movedBy S p n ≡ destination p → PacketFits S n q p
+  clauses torus hn h clear e =
       record {
+        clear = clear;
         addressed = let l = movedBy-lt S n p torus hn in omega arith;
         arrives = e;
         near = λ i k. near i k (ℕ-discrete q injectionQueue) (ℕ-discrete (dimensionOf (directionOf q)) i);
@@ -317,20 +318,24 @@ module _ (S : Shape) (n q p : ℕ) where
 
   -- the check of a packet is that of its limits
   pub fits-is : (l : List ℕ) → LimitsOf S q l → Torus S → n < nodes S → packetFits S n q p ≡ fitsWithin S n l p
-  unfolding fitsWithin
+  unfolding fitsWithin spareClear
   fits-is l of torus hn =
-      same-test (packetFits S n q p) (near && there)
+      same-test (packetFits S n q p) (near && (clear && there))
       (λ t.
       let f = packet-of S n q p t in
-      and-i near there (below-by l p (λ d h. let b = hops-below f d h in let e = of d h in omega arith))
-      (eq-T (destination p) (movedBy S p n) (sym (f .arrives))))
+      and-i near (clear && there) (below-by l p (λ d h. let b = hops-below f d h in let e = of d h in omega arith))
+      (and-i clear there (eq-T (spare p) 0 (f .clear)) (eq-T (destination p) (movedBy S p n) (sym (f .arrives)))))
       (λ t.
       packet-by S n q p
-      (clauses torus hn (λ d h. let b = below-of l p (and-l near there t) d h in let e = of d h in omega arith)
-      (sym (eqb→eq (destination p) (movedBy S p n) (and-r near there t)))))
+      (clauses torus hn (λ d h. let b = below-of l p (and-l near (clear && there) t) d h in let e = of d h in omega arith)
+      (eqb→eq (spare p) 0 (and-l clear there (and-r near (clear && there) t)))
+      (sym (eqb→eq (destination p) (movedBy S p n) (and-r clear there (and-r near (clear && there) t))))))
     where
       near : Bool
       near = belowLimits l p
+
+      clear : Bool
+      clear = eqb (spare p) 0
 
       there : Bool
       there = eqb (destination p) (movedBy S p n)

@@ -1,5 +1,5 @@
--- A packet's clauses of the check, as the code tests them: the hops left in each direction are below a limit that the queue sets, and lead from
--- the node to the destination. Order: the limits; a packet within them; no ring gone round. `i` is a dimension, `d` a direction. Assumes nothing.
+-- A packet's clauses of the check, as the code tests them: the hops left in each direction are below a limit that the queue sets, the spare bit is 0,
+-- and the hops lead from the node to the destination. Order: the limits; a packet within them; no ring gone round. `i` is a dimension, `d` a direction. Assumes nothing.
 use mathlib.Core.Path.{_≡_}
 use mathlib.Core.Logic.{_⊎_}
 use mathlib.Core.Bool.{Bool, cond, _&&_}
@@ -9,7 +9,7 @@ use lib.Dec.{ltb, eqb}
 use lib.ListN.{getD}
 use Rattle.base.specs.Tests.{allBelow}
 use Rattle.network.specs.Sizes.{Shape, shapeOf, size, dimensions, directions, dimensionOf, directionOf, isEscape, injectionQueue, plus, minus}
-use Rattle.network.specs.Check.{longest}
+use Rattle.network.specs.Check.{longest, spareClear}
 use Rattle.network.specs.Packet.{destination, hops}
 use Rattle.network.specs.Torus.{movedBy}
 use Rattle.network.specs.declared.Sizes.{Sizes}
@@ -43,7 +43,7 @@ unfoldable pub belowLimits : List ℕ → ℕ → Bool
 belowLimits l p = allBelow dimensions (belowAlong l p)
 
 unfoldable pub fitsWithin : Shape → ℕ → List ℕ → ℕ → Bool
-fitsWithin S n l p = belowLimits l p && eqb (destination p) (movedBy S p n)
+fitsWithin S n l p = belowLimits l p && (spareClear p && eqb (destination p) (movedBy S p n))
 
 -- no ring is gone round: the hops left in each direction are fewer than its nodes
 abbrev pub NoRound : Sizes → ℕ → Type 0

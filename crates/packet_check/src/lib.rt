@@ -1,5 +1,5 @@
 // A packet's clauses of the check, by the hops that it has left in each direction: each is below a limit that its queue sets, and together
-// they lead to its destination. Where hops lead is looked up in a table of the rings, which is filled once for a check.
+// they lead to its destination; and by its spare bit. Where hops lead is looked up in a table of the rings, which is filled once for a check.
 use network::DIMENSIONS;
 use network::DIRECTIONS;
 use network::LARGEST_RING;
@@ -186,6 +186,9 @@ pub fn packet_fits(
     ensures { λ r. ⌜ r ≡ fitsWithin (shapeOf s) (nodeAt s place) l p ⌝ }
 {
     if !below_limits(l, p) {
+        return false;
+    }
+    if packet::spare(p) != 0 {
         return false;
     }
     packet::destination(p) == led_to(tables, s, place, p)

@@ -1,5 +1,5 @@
 -- The fields behind the first, read one after another: the invariant of the loop of `read_numbers`, its steps and its ways out.
--- Order: one more number; one more of the first five; the invariant. Assumes nothing.
+-- Order: one more number; one more of the first; the invariant. Assumes nothing.
 use mathlib.Core.Path.{_≡_, refl, ap, ap₂, sym, _∙_}
 use mathlib.Core.Bool.{Bool, true, false, _&&_, false≢true}
 use mathlib.Core.List.{List, [], _∷_, _++_, map, append-assoc, append-nil}
@@ -12,7 +12,7 @@ use Rattle.reader.specs.declared.Number.{Number}
 use Rattle.sheet.specs.Text.{comma}
 use Rattle.sheet.specs.Commands.{laterFields, ten, largestNumber, isNumber, value}
 use Rattle.sheet.specs.Fields.{endFrom, fieldAt}
-use Rattle.reader.specs.Reading.{numberOf, is-number, number-is, not-number, Separator, firstFive, NumbersOf}
+use Rattle.reader.specs.Reading.{numberOf, is-number, number-is, not-number, Separator, firstNumbers, NumbersOf}
 use Rattle.reader.proofs.Fields.{end-separator, next-field}
 
 -- what is appended to numbers, and their values
@@ -29,15 +29,16 @@ map-snoc : (f : List ℕ → ℕ) (xs : List (List ℕ)) (x : List ℕ) → map 
 map-snoc f [] x = refl
 map-snoc f (y ∷ xs) x = ap (λ l. f y ∷ l) (map-snoc f xs x)
 
--- a number behind the first five is left out
-five-snoc : (ns : List ℕ) (n : ℕ) → firstFive (ns ++ (n ∷ [])) ≡ set (firstFive ns) (length ns) n
-unfolding firstFive
-five-snoc [] n = refl
-five-snoc (a ∷ []) n = refl
-five-snoc (a ∷ b ∷ []) n = refl
-five-snoc (a ∷ b ∷ c ∷ []) n = refl
-five-snoc (a ∷ b ∷ c ∷ d ∷ []) n = refl
-five-snoc (a ∷ b ∷ c ∷ d ∷ e ∷ ns) n = refl
+-- a number behind those that a command can take is left out
+first-snoc : (ns : List ℕ) (n : ℕ) → firstNumbers (ns ++ (n ∷ [])) ≡ set (firstNumbers ns) (length ns) n
+unfolding firstNumbers
+first-snoc [] n = refl
+first-snoc (a ∷ []) n = refl
+first-snoc (a ∷ b ∷ []) n = refl
+first-snoc (a ∷ b ∷ c ∷ []) n = refl
+first-snoc (a ∷ b ∷ c ∷ d ∷ []) n = refl
+first-snoc (a ∷ b ∷ c ∷ d ∷ e ∷ []) n = refl
+first-snoc (a ∷ b ∷ c ∷ d ∷ e ∷ f ∷ ns) n = refl
 
 -- the fields `done` have been read as numbers, and `at` is where the last of them ends
 pub record Gathered (line : List ℕ) (start : ℕ) (values : List ℕ) (count at : ℕ) : Type 0 where
@@ -47,10 +48,10 @@ pub record Gathered (line : List ℕ) (start : ℕ) (values : List ℕ) (count a
   pub valid : allOf (isNumber ten largestNumber) done ≡ true
   pub counted : count ≡ length done
   pub few : count ≤ at
-  pub stored : values ≡ firstFive (map (value ten) done)
+  pub stored : values ≡ firstNumbers (map (value ten) done)
 
-pub none : (line : List ℕ) (start : ℕ) → Separator line start → Gathered line start (0 ∷ 0 ∷ 0 ∷ 0 ∷ 0 ∷ []) 0 start
-unfolding allOf firstFive
+pub none : (line : List ℕ) (start : ℕ) → Separator line start → Gathered line start (0 ∷ 0 ∷ 0 ∷ 0 ∷ 0 ∷ 0 ∷ []) 0 start
+unfolding allOf firstNumbers
 none line start s = record { done = []; separator = s; fields = refl; valid = refl; counted = refl; few = omega arith; stored = refl }
 
 -- the next field is the part of the line from behind the separator to `end`
@@ -73,9 +74,9 @@ module _ {line : List ℕ} {start : ℕ} {values : List ℕ} {count at : ℕ} (g
         few = omega arith;
         stored =
             ap₂ (λ vs k. set vs k n) (g .stored) (g .counted ∙ sym (length-map (g .done) (value ten)))
-            ∙ sym (five-snoc (map (value ten) (g .done)) n)
-            ∙ ap (λ v. firstFive (map (value ten) (g .done) ++ (v ∷ []))) (number-is ten largestNumber f n e)
-            ∙ ap firstFive (sym (map-snoc (value ten) (g .done) f));
+            ∙ sym (first-snoc (map (value ten) (g .done)) n)
+            ∙ ap (λ v. firstNumbers (map (value ten) (g .done) ++ (v ∷ []))) (number-is ten largestNumber f n e)
+            ∙ ap firstNumbers (sym (map-snoc (value ten) (g .done) f));
       }
 
   not-all : Number.Nothing ≡ numberOf ten largestNumber (fieldAt comma line (at + 1))
@@ -97,14 +98,14 @@ module _ {line : List ℕ} {start : ℕ} {values : List ℕ} {count at : ℕ} (g
     pub more : (n : ℕ) → read ≡ Number.Value n → Gathered line start (set values count n) (count + 1) end
     more n e = rw q (one-more n (sym e ∙ read-at))
 
-    -- the number is left out where there are five already
-    pub sixth : (n : ℕ) → 5 ≤ count → read ≡ Number.Value n → Gathered line start values (count + 1) end
-    unfolding firstFive
-    sixth n five e =
-        let l : length values ≡ 5 = ap length (g .stored) in
+    -- the number is left out where there are as many already
+    pub left-out : (n : ℕ) → 6 ≤ count → read ≡ Number.Value n → Gathered line start values (count + 1) end
+    unfolding firstNumbers
+    left-out n many e =
+        let l : length values ≡ 6 = ap length (g .stored) in
         rw (set-out values count n (omega arith)) at (more n e)
 
-    pub broken : read ≡ Number.Nothing → NumbersOf (laterFields (drop start line)) (record { valid = false; count = 0; values = 0 ∷ 0 ∷ 0 ∷ 0 ∷ 0 ∷ [] })
+    pub broken : read ≡ Number.Nothing → NumbersOf (laterFields (drop start line)) (record { valid = false; count = 0; values = 0 ∷ 0 ∷ 0 ∷ 0 ∷ 0 ∷ 0 ∷ [] })
     broken e = record { valid = not-all (sym e ∙ read-at); count = λ v. absurd (false≢true v); values = λ v. absurd (false≢true v) }
 
 pub all : {line : List ℕ} {start : ℕ} {values : List ℕ} {count at : ℕ} → Gathered line start values count at → length line ≤ at
@@ -116,5 +117,5 @@ all {line} {start} {values} {count} {at} g h =
     record {
       valid = sym (ap (allOf (isNumber ten largestNumber)) e ∙ g .valid);
       count = λ v. g .counted ∙ ap length (sym e);
-      values = λ v. g .stored ∙ ap (λ fs. firstFive (map (value ten) fs)) (sym e);
+      values = λ v. g .stored ∙ ap (λ fs. firstNumbers (map (value ten) fs)) (sym e);
     }

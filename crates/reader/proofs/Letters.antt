@@ -1,4 +1,4 @@
--- The command of a letter and its numbers, by the tests of `command_with`: the letter, then how many numbers there are. `v` is the first five.
+-- The command of a letter and its numbers, by the tests of `command_with`: the letter, then how many numbers there are. `v` is the first of them.
 -- Order: each letter with as many numbers as it takes; each with another number of them; another letter. Assumes nothing.
 use mathlib.Core.Path.{_≡_, refl, ap, sym, _∙_}
 use mathlib.Core.Bool.{true, false, and-false}
@@ -16,29 +16,29 @@ use Rattle.sheet.specs.Lines.{lineLimit}
 use Rattle.sheet.specs.Commands.{firstField, laterFields, ten, largestNumber, value, isNumber, commandWith, wellFormed, commandOf}
 use Rattle.sheet.specs.Text.{comma}
 use Rattle.sheet.specs.Fields.{upTo-length, upTo-take}
-use Rattle.reader.specs.Reading.{Separator, firstFive, NumbersOf}
+use Rattle.reader.specs.Reading.{Separator, firstNumbers, NumbersOf}
 use Rattle.reader.proofs.Fields.{later-behind, end-separator}
 
-module _ {letter count : ℕ} {v : List ℕ} (n : List ℕ) (c : count ≡ length n) (f : v ≡ firstFive n) where
-  pub make : letter ≡ 84 → count ≡ 5 → Command.Make (getD v 0 0) (getD v 1 0) (getD v 2 0) (getD v 3 0) (getD v 4 0) ≡ commandWith letter n
-  unfolding commandWith firstFive
-  make l k = rw (l, f, eq-eqb (length n) 5 (sym c ∙ k)) refl
+module _ {letter count : ℕ} {v : List ℕ} (n : List ℕ) (c : count ≡ length n) (f : v ≡ firstNumbers n) where
+  pub make : letter ≡ 84 → count ≡ 6 → Command.Make (getD v 0 0) (getD v 1 0) (getD v 2 0) (getD v 3 0) (getD v 4 0) (getD v 5 0) ≡ commandWith letter n
+  unfolding commandWith firstNumbers
+  make l k = rw (l, f, eq-eqb (length n) 6 (sym c ∙ k)) refl
 
   pub offer : letter ≡ 79 → count ≡ 3 → Command.Offer (getD v 0 0) (getD v 1 0) (getD v 2 0) ≡ commandWith letter n
-  unfolding commandWith firstFive
+  unfolding commandWith firstNumbers
   offer l k = rw (l, f, eq-eqb (length n) 3 (sym c ∙ k)) refl
 
   pub move : letter ≡ 77 → count ≡ 3 → Command.Move (getD v 0 0) (getD v 1 0) (getD v 2 0) ≡ commandWith letter n
-  unfolding commandWith firstFive
+  unfolding commandWith firstNumbers
   move l k = rw (l, f, eq-eqb (length n) 3 (sym c ∙ k)) refl
 
   pub drain : letter ≡ 68 → count ≡ 1 → Command.Drain (getD v 0 0) ≡ commandWith letter n
-  unfolding commandWith firstFive
+  unfolding commandWith firstNumbers
   drain l k = rw (l, f, eq-eqb (length n) 1 (sym c ∙ k)) refl
 
-  pub no-make : letter ≡ 84 → (count ≡ 5 → ⊥) → Command.Bad ≡ commandWith letter n
+  pub no-make : letter ≡ 84 → (count ≡ 6 → ⊥) → Command.Bad ≡ commandWith letter n
   unfolding commandWith
-  no-make l k = rw (l, ne-eqb (length n) 5 (λ e. k (c ∙ e))) refl
+  no-make l k = rw (l, ne-eqb (length n) 6 (λ e. k (c ∙ e))) refl
 
   pub no-offer : letter ≡ 79 → (count ≡ 3 → ⊥) → Command.Bad ≡ commandWith letter n
   unfolding commandWith
@@ -90,7 +90,7 @@ module _ (line : List ℕ) (end : ℕ) (q : end ≡ 0 + length (firstField line)
         rw (sym valid-is ∙ e, and-false (eqb (length (firstField line)) 1), and-false (leb (length line) lineLimit)) refl
 
     pub letter-and-numbers : (answer : Command)
-        → ((n : List ℕ) → r .count ≡ length n → r .values ≡ firstFive n → answer ≡ commandWith (getD line 0 0) n)
+        → ((n : List ℕ) → r .count ≡ length n → r .values ≡ firstNumbers n → answer ≡ commandWith (getD line 0 0) n)
         → length line ≤ lineLimit → end ≡ 1 → r .valid ≡ true → answer ≡ commandOf line
     unfolding commandOf wellFormed
     letter-and-numbers answer is h one e =
@@ -98,6 +98,6 @@ module _ (line : List ℕ) (end : ℕ) (q : end ≡ 0 + length (firstField line)
         = ap (λ s. getD s 0 0) (sym (upTo-take comma line) ∙ ap (λ k. take k line) (first-length-is ∙ one)) ∙ getD-take 1 line 0 0 (omega arith) in
         let count : r .count ≡ length (map (value ten) (laterFields line))
         = read .count e ∙ ap length behind ∙ sym (length-map (laterFields line) (value ten)) in
-        let values : r .values ≡ firstFive (map (value ten) (laterFields line)) = read .values e ∙ ap (λ fs. firstFive (map (value ten) fs)) behind in
+        let values : r .values ≡ firstNumbers (map (value ten) (laterFields line)) = read .values e ∙ ap (λ fs. firstNumbers (map (value ten) fs)) behind in
         is (map (value ten) (laterFields line)) count values
         ∙ rw (le-leb (length line) lineLimit h, eq-eqb (length (firstField line)) 1 (first-length-is ∙ one), sym valid-is ∙ e, first) refl

@@ -60,12 +60,12 @@ pub record Separator (line : List ℕ) (at : ℕ) : Type 0 where
   pub within : at ≤ length line
   pub comma : at < length line → getD line at 0 ≡ comma
 
--- the first five of some numbers, 0 for those that are missing
-unfoldable pub firstFive : List ℕ → List ℕ
-firstFive n = getD n 0 0 ∷ getD n 1 0 ∷ getD n 2 0 ∷ getD n 3 0 ∷ getD n 4 0 ∷ []
+-- the first of some numbers, as many as a command can take, 0 for those that are missing
+unfoldable pub firstNumbers : List ℕ → List ℕ
+firstNumbers n = getD n 0 0 ∷ getD n 1 0 ∷ getD n 2 0 ∷ getD n 3 0 ∷ getD n 4 0 ∷ getD n 5 0 ∷ []
 
 -- what is read in fields
 pub record NumbersOf (fields : List (List ℕ)) (r : Numbers) : Type 0 where
   pub valid : r .valid ≡ allOf (isNumber ten largestNumber) fields
   pub count : r .valid ≡ true → r .count ≡ length fields
-  pub values : r .valid ≡ true → r .values ≡ firstFive (map (value ten) fields)
+  pub values : r .valid ≡ true → r .values ≡ firstNumbers (map (value ten) fields)

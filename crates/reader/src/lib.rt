@@ -5,7 +5,7 @@ ghost use mathlib.Core.Path.{_≡_};
 ghost use mathlib.Core.List.{List};
 ghost use Prim.Native.Nat.{ℕ, _+_, _≤_};
 ghost use lib.ListN.{length, drop};
-ghost use Rattle.reader.specs.Reading.{numberOf, digitsFrom, Separator, firstFive, NumbersOf};
+ghost use Rattle.reader.specs.Reading.{numberOf, digitsFrom, Separator, firstNumbers, NumbersOf};
 ghost use Rattle.sheet.specs.Commands.{upTo, laterFields, commandWith, commandOf};
 
 // What stands in a field: a number, or no number.
@@ -79,11 +79,14 @@ pub fn field_end(line: &[u8], at: usize, stop: u8) -> usize
     i
 }
 
-// The fields behind the first: how many there are, whether each is a number, and the first five numbers.
+// No command takes more numbers.
+const MOST_NUMBERS: usize = 6;
+
+// The fields behind the first: how many there are, whether each is a number, and the first numbers, as many as a command can take.
 pub struct Numbers {
     pub valid: bool,
     pub count: usize,
-    pub values: [u32; 5],
+    pub values: [u32; MOST_NUMBERS],
 }
 
 // The fields behind the comma at `start`, or none where the line ends there. It stops at a field that is no number.
@@ -91,7 +94,7 @@ fn read_numbers(line: &[u8], start: usize) -> Numbers
     requires { ⌜ Separator (now line) start ⌝ }
     ensures { λ r. ⌜ NumbersOf (laterFields (drop start (now (line .entry)))) r ⌝ }
 {
-    let mut values = [0u32; 5];
+    let mut values = [0u32; MOST_NUMBERS];
     let mut count: usize = 0;
     let mut at = start;
     while at < line.len() {
@@ -99,7 +102,7 @@ fn read_numbers(line: &[u8], start: usize) -> Numbers
         let end = field_end(line, from, b',');
         match read_number(&line[from..end], TEN, LARGEST_NUMBER) {
             Number::Value(n) => {
-                if count < 5 {
+                if count < MOST_NUMBERS {
                     values[count] = n as u32;
                 }
             }
@@ -107,7 +110,7 @@ fn read_numbers(line: &[u8], start: usize) -> Numbers
                 return Numbers {
                     valid: false,
                     count: 0,
-                    values: [0u32; 5],
+                    values: [0u32; MOST_NUMBERS],
                 };
             }
         }
@@ -123,18 +126,19 @@ fn read_numbers(line: &[u8], start: usize) -> Numbers
 
 // The command of a letter and the numbers behind it.
 fn command_with(letter: u8, numbers: Numbers) -> Command
-    ensures { λ r. ⌜ ((n : List ℕ) → numbers .count ≡ length n → numbers .values ≡ firstFive n → r ≡ commandWith letter n) ⌝ }
+    ensures { λ r. ⌜ ((n : List ℕ) → numbers .count ≡ length n → numbers .values ≡ firstNumbers n → r ≡ commandWith letter n) ⌝ }
 {
     let count = numbers.count;
     let v = numbers.values;
     if letter == b'T' {
-        if count == 5 {
+        if count == 6 {
             return Command::Make {
                 x: v[0],
                 y: v[1],
-                e: v[2],
-                a: v[3],
-                j: v[4],
+                z: v[2],
+                e: v[3],
+                a: v[4],
+                j: v[5],
             };
         }
         return Command::Bad;

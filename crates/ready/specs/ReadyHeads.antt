@@ -201,35 +201,22 @@ pub before-is : (S : Shape) (n q r : ℕ) → r ≡ neighbour S ((q - 1) % direc
 unfolding before
 before-is S n q r e = e ∙ ap (λ (d : ℕ). neighbour S d n) (direction-back ((q - 1) % directions))
 
--- the search through the set: no head before `from` is left in it
-pub record Searched (S : Shape) (w set : List ℕ) (from : ℕ) : Type 0 where
-  pub covers : Covered S w set
-  pub below : (m : ℕ) → m < from → member set m ≡ false
-
-pub searched-start : (S : Shape) (w set : List ℕ) → Covered S w set → Searched S w set 0
-searched-start S w set c = record { covers = c; below = λ m h. absurd (native.Mathlib.Nat.not-suc-le-zero h) }
-
-pub searched-next : (S : Shape) (w set after : List ℕ) (from h : ℕ) → Searched S w set from → Lowest set h → firstInQueue S w (h / nodeHeads) (h % nodeHeads) ≡ Found.Nothing
-    → Removed set after h → Searched S w after (h + 1)
-searched-next S w set after from h s l none r =
-    record { covers = covered-removed S w set after h (s .covers) none r; below = λ m b. r .members m ∙ gone m b (ℕ-discrete m h) }
+-- the search through the set goes on upwards: the lowest head left is above the one that was taken out
+pub lowest-rises : (set after : List ℕ) (h r : ℕ) → Lowest set h → Removed set after h → Lowest after r → h < heads → h < r
+lowest-rises set after h r l out l′ small = go (decLt h r)
   where
-    gone : (m : ℕ) → m < h + 1 → Dec (m ≡ h) → (not (eqb m h) && member set m) ≡ false
-    gone m b (yes e) = rw (eq-eqb m h e)
-    gone m b (no ne) = rw (ne-eqb m h ne) (l .below m (omega arith))
+    gone : r ≤ h → member after r ≡ false
+    gone b = out .members r ∙ at-most (ℕ-discrete r h)
+      where
+        at-most : Dec (r ≡ h) → (not (eqb r h) && member set r) ≡ false
+        at-most (yes e) = rw (eq-eqb r h e)
+        at-most (no ne) = rw (ne-eqb r h ne) (l .below r (omega arith))
 
--- it goes on upwards
-pub searched-up : (S : Shape) (w set : List ℕ) (from h : ℕ) → Searched S w set from → Lowest set h → h < heads → from ≤ h
-searched-up S w set from h s l small = go (decLt h from)
-  where
-    go : Dec (h < from) → from ≤ h
-    go (yes b) = absurd (true≢false (sym (l .found small) ∙ s .below h b))
-    go (no b) = omega arith
+    go : Dec (h < r) → h < r
+    go (yes b) = b
+    go (no b) = absurd (true≢false (sym (l′ .found (omega arith)) ∙ gone (omega arith)))
 
--- and where no head is left, there is no move
-pub searched-all : (S : Shape) (w set : List ℕ) (from : ℕ) → Searched S w set from → nodes S ≤ mostNodes → heads ≤ from → firstMove S w ≡ Found.Nothing
-searched-all S w set from s few h = first-nowhere S w (λ k r hk hr. s .covers .others k r hk hr (s .below (headOf k r) (omega arith)))
-
+-- where no head is left, there is no move
 pub lowest-none : (S : Shape) (w set : List ℕ) (h : ℕ) → Covered S w set → Lowest set h → nodes S ≤ mostNodes → heads ≤ h → firstMove S w ≡ Found.Nothing
 lowest-none S w set h c l few g = first-nowhere S w (λ k r hk hr. c .others k r hk hr (l .below (headOf k r) (omega arith)))
 

@@ -72,12 +72,8 @@ pub fn next_move(words: &[u64], s: Sizes, near: &[u16], ready: &mut [u64]) -> Fo
     ensures answer { λ r. ⌜ r ≡ firstMove (shapeOf s) (now (words .entry)) ⌝ }
     ensures set { λ _. ⌜ Covered (shapeOf s) (now (words .entry)) (now (ready .exit)) ⌝ }
 {
-    let mut from: u64 = 0;
-    while from < headset::HEADS {
-        let h = headset::lowest(ready);
-        if headset::HEADS <= h {
-            return Found::Nothing;
-        }
+    let mut h = headset::lowest(ready);
+    while h < headset::HEADS {
         let found = first::first_in_queue(
             words,
             s,
@@ -98,8 +94,7 @@ pub fn next_move(words: &[u64], s: Sizes, near: &[u16], ready: &mut [u64]) -> Fo
                 return found;
             }
         }
-        headset::remove(ready, h);
-        from = h + 1;
+        h = headset::remove_lowest(ready, h);
     }
     Found::Nothing
 }

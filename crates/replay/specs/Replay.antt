@@ -32,7 +32,7 @@ shownIf changed first w list page = cond changed (stepShown first w list page) (
 
 -- what a command does at once: all that the bench does, but for a D, whose moves come one by one
 unfoldable pub carriedOut : Command → List ℕ → List ℕ
-carriedOut (Command.Make x y e a j) w = perform (Command.Make x y e a j) w .store
+carriedOut (Command.Make x y z e a j) w = perform (Command.Make x y z e a j) w .store
 carriedOut (Command.Offer node destination tag) w = perform (Command.Offer node destination tag) w .store
 carriedOut (Command.Move node queue output) w = perform (Command.Move node queue output) w .store
 carriedOut (Command.Drain budget) w = w
@@ -40,7 +40,7 @@ carriedOut Command.Bad w = perform Command.Bad w .store
 
 -- whether that changes something: a T, an O or an M that is answered 0
 unfoldable pub changed : Command → List ℕ → Bool
-changed (Command.Make x y e a j) w = eqb (makeRefusal (shapeOf (sized x y e a j)) w) 0
+changed (Command.Make x y z e a j) w = eqb (makeRefusal (shapeOf (sized x y z e a j)) w) 0
 changed (Command.Offer node destination tag) w = eqb (offerRefusal w node destination) 0
 changed (Command.Move node queue output) w = eqb (moveRefusal w node queue output) 0
 changed (Command.Drain budget) w = false
@@ -48,7 +48,7 @@ changed Command.Bad w = false
 
 -- R424: a T begins a new dump
 unfoldable pub beginsDump : Command → Bool
-beginsDump (Command.Make x y e a j) = true
+beginsDump (Command.Make x y z e a j) = true
 beginsDump (Command.Offer node destination tag) = false
 beginsDump (Command.Move node queue output) = false
 beginsDump (Command.Drain budget) = false
@@ -59,7 +59,7 @@ commandShown c w list page = shownIf (changed c w) (beginsDump c) (carriedOut c 
 
 -- the moves that a command asks for besides
 unfoldable pub movesAsked : Command → ℕ
-movesAsked (Command.Make x y e a j) = 0
+movesAsked (Command.Make x y z e a j) = 0
 movesAsked (Command.Offer node destination tag) = 0
 movesAsked (Command.Move node queue output) = 0
 movesAsked (Command.Drain budget) = budget

@@ -1,11 +1,11 @@
--- No step is lost for want of room: where list and page have room for the largest network, every command that changes something and every move of a D is
+-- No step is lost for want of room: where list and page have room for every network that the store can hold, every command that changes something and every move of a D is
 -- shown by its whole step (`command-whole`, `move-whole`); and whatever room there is, a step lies within the page. Order: a step within the page; a whole
 -- step; the words that are shown are a network; the theorems. Assumes nothing.
 use mathlib.Core.Path.{_≡_, refl, sym, _∙_}
 use mathlib.Core.Bool.{Bool, true, false, true≢false, _||_}
 use mathlib.Core.Logic.{_⊎_, inl, inr}
 use mathlib.Core.List.{List, [], _∷_, _++_}
-use Prim.Native.Nat.{ℕ, _≤_}
+use Prim.Native.Nat.{ℕ, _/_, _≤_}
 use native.Mathlib.Decide.{ℕ-discrete}
 use native.Mathlib.Omega.{arith}
 use borrow.Author.Tests.{eq-eqb, ne-eqb, eqb-true, le-ltb, ltb-false}
@@ -21,8 +21,8 @@ use Rattle.run.specs.Theorem.{demand3}
 use Rattle.run.specs.Reached.{make-passes, offer-passes}
 use Rattle.sheet.specs.declared.Command.{Command}
 use Rattle.session.specs.Session.{perform}
-use Rattle.waveform.specs.Dump.{variablesOf, mostVariables}
-use Rattle.waveform.specs.DumpLaws.{variables-most}
+use Rattle.waveform.specs.Dump.{variablesOf}
+use Rattle.waveform.specs.DumpLaws.{variables-words}
 use Rattle.waveform.specs.Lengths.{pageRoom, step-room}
 use Rattle.waveform.specs.Calls.{fillsNow, writtenStep, writeRules, writeRefusal, writeAnswer, writeList, writePage, writtenLength}
 use Rattle.waveform.specs.Answers.{write-tells}
@@ -54,10 +54,13 @@ unfolding shownIf
 shown-within true first w list page = step-within first w list page
 shown-within false first w list page = omega arith
 
--- room for the largest network
-pub record Roomy (list page : List ℕ) : Type 0 where
-  pub fills : mostVariables ≤ length list
-  pub bytes : pageRoom mostVariables ≤ length page
+-- room for every network that so many words can hold: a queue has two words at least
+abbrev pub heldVariables : ℕ → ℕ
+heldVariables words = words / 2
+
+pub record Roomy (words : ℕ) (list page : List ℕ) : Type 0 where
+  pub fills : heldVariables words ≤ length list
+  pub bytes : pageRoom (heldVariables words) ≤ length page
 
 -- the whole step: its bytes, and behind them the page as it was; the fills, and behind them the list as it was
 unfoldable pub wholeStep : Bool → List ℕ → List ℕ → List ℕ → Shown
@@ -65,10 +68,10 @@ wholeStep first w list page =
     shown (length (writtenStep first w list)) (fillsNow w ++ drop (variablesOf (shape w)) list)
     (writtenStep first w list ++ drop (length (writtenStep first w list)) page)
 
-never-short : (first : Bool) (w list page : List ℕ) → Roomy list page → networkRefusal w ≡ 0 → writeRefusal first w list page ≡ 0
+never-short : (words : ℕ) (first : Bool) (w list page : List ℕ) → Roomy words list page → length w ≤ words → networkRefusal w ≡ 0 → writeRefusal first w list page ≡ 0
 unfolding writeRefusal writeRules
-never-short first w list page r z =
-    let most = variables-most w z in
+never-short words first w list page r h z =
+    let most = variables-words w z in
     let room = step-room first w list z in
     let a = r .fills in
     let b = r .bytes in
@@ -76,9 +79,9 @@ never-short first w list page r z =
     let p : ltb (length page) (length (writtenStep first w list)) ≡ false = le-ltb (length page) (length (writtenStep first w list)) (omega arith) in
     elseBy-zero (networkRefusal w) (writeRules first w list page) z ∙ rw (l, p) refl
 
-step-whole : (first : Bool) (w list page : List ℕ) → Roomy list page → networkRefusal w ≡ 0 → stepShown first w list page ≡ wholeStep first w list page
+step-whole : (words : ℕ) (first : Bool) (w list page : List ℕ) → Roomy words list page → length w ≤ words → networkRefusal w ≡ 0 → stepShown first w list page ≡ wholeStep first w list page
 unfolding stepShown wholeStep writeAnswer writeList writePage writtenLength
-step-whole first w list page r z = rw (eq-eqb (writeRefusal first w list page) 0 (never-short first w list page r z)) refl
+step-whole words first w list page r h z = rw (eq-eqb (writeRefusal first w list page) 0 (never-short words first w list page r h z)) refl
 
 -- what a command leaves that changed something, or a move of a D, is a network
 move-passes : (w : List ℕ) (n q o : ℕ) → moveRefusal w n q o ≡ 0 → networkRefusal (perform (Command.Move n q o) w .store) ≡ 0
@@ -87,7 +90,7 @@ move-passes w n q o z = demand3 w (move n q o ∷ []) (neither (networkRefusal w
 
 changed-passes : (c : Command) (w : List ℕ) → changed c w ≡ true → networkRefusal (carriedOut c w) ≡ 0
 unfolding changed carriedOut perform shapeOf
-changed-passes (Command.Make x y e a j) w t = make-passes (shapeOf (sized x y e a j)) w refl (eqb-true _ 0 t)
+changed-passes (Command.Make x y z e a j) w t = make-passes (shapeOf (sized x y z e a j)) w refl (eqb-true _ 0 t)
 changed-passes (Command.Offer node destination tag) w t = offer-passes w node destination tag (eqb-true _ 0 t)
 changed-passes (Command.Move node queue output) w t = move-passes w node queue output (eqb-true _ 0 t)
 changed-passes (Command.Drain budget) w t = absurd (true≢false (sym t))
@@ -100,13 +103,13 @@ moved-passes w room t = by (move-told w room)
     by (inl s) = absurd (true≢false (sym t ∙ s .none))
     by (inr g) = g .passes
 
--- the theorems
-pub command-whole : (c : Command) (w list page : List ℕ) → Roomy list page → changed c w ≡ true
+-- the theorems, for a store of so many words: it is the same one before and after
+pub command-whole : (words : ℕ) (c : Command) (w list page : List ℕ) → Roomy words list page → length (carriedOut c w) ≤ words → changed c w ≡ true
     → commandShown c w list page ≡ wholeStep (beginsDump c) (carriedOut c w) list page
 unfolding commandShown shownIf
-command-whole c w list page r t = rw t (step-whole (beginsDump c) (carriedOut c w) list page r (changed-passes c w t))
+command-whole words c w list page r h t = rw t (step-whole words (beginsDump c) (carriedOut c w) list page r h (changed-passes c w t))
 
-pub move-whole : (w : List ℕ) (room : ℕ) (list page : List ℕ) → Roomy list page → makesMove w room ≡ true
+pub move-whole : (words : ℕ) (w : List ℕ) (room : ℕ) (list page : List ℕ) → Roomy words list page → length (movedOn w room) ≤ words → makesMove w room ≡ true
     → moveShown w room list page ≡ wholeStep false (movedOn w room) list page
 unfolding moveShown shownIf
-move-whole w room list page r t = rw t (step-whole false (movedOn w room) list page r (moved-passes w room t))
+move-whole words w room list page r h t = rw t (step-whole words false (movedOn w room) list page r h (moved-passes w room t))

@@ -47,13 +47,14 @@ fn show(changed: bool, first: bool, store: &[u64], fills: &mut [u8], page: &mut 
 }
 
 // T: whether it made a network.
-fn make(store: &mut [u64], x: u32, y: u32, e: u32, a: u32, j: u32) -> bool
-    ensures store { λ _. ⌜ now (store .exit) ≡ carriedOut (Command.Make x y e a j) (now (store .entry)) ⌝ }
-    ensures changed { λ r. ⌜ r ≡ changed (Command.Make x y e a j) (now (store .entry)) ⌝ }
+fn make(store: &mut [u64], x: u32, y: u32, z: u32, e: u32, a: u32, j: u32) -> bool
+    ensures store { λ _. ⌜ now (store .exit) ≡ carriedOut (Command.Make x y z e a j) (now (store .entry)) ⌝ }
+    ensures changed { λ r. ⌜ r ≡ changed (Command.Make x y z e a j) (now (store .entry)) ⌝ }
 {
     let s = Sizes {
         x: x as u64,
         y: y as u64,
+        z: z as u64,
         escape: e as u64,
         adaptive: a as u64,
         injection: j as u64,
@@ -78,7 +79,7 @@ fn apply(store: &mut [u64], command: Command) -> bool
     ensures changed { λ r. ⌜ r ≡ changed command (now (store .entry)) ⌝ }
 {
     match command {
-        Command::Make { x, y, e, a, j } => make(store, x, y, e, a, j),
+        Command::Make { x, y, z, e, a, j } => make(store, x, y, z, e, a, j),
         Command::Offer {
             node,
             destination,
@@ -102,6 +103,7 @@ fn begins_dump(command: Command) -> bool
         Command::Make {
             x: _,
             y: _,
+            z: _,
             e: _,
             a: _,
             j: _,
@@ -140,6 +142,7 @@ pub fn moves_asked(command: Command) -> u32
         Command::Make {
             x: _,
             y: _,
+            z: _,
             e: _,
             a: _,
             j: _,

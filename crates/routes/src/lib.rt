@@ -1,6 +1,6 @@
 // The routes of a head (R140 to R149), decided case by case, line after line of the paper's selection list: by the number of its queue and the
-// signs of its offsets. The cases are those of the crate `network` (specs/Selection.antt): `adaptive_x`, `adaptive_y` and `last_case` under the
-// same names, and `inTurn` as the match in `routes`. What they give together is proved to be `routes` (specs/Routes.antt there).
+// signs of its offsets. The cases are those of the crate `network` (specs/Selection.antt): `adaptive_x`, `adaptive_y`, `adaptive_z` and `last_case`
+// under the same names, and `inTurn` as the match in `routes`. What they give together is proved to be `routes` (specs/Routes.antt there).
 use network::DIMENSIONS;
 use network::Sign;
 use packet::sign;
@@ -10,11 +10,11 @@ ghost use lib.ListN.{length};
 ghost use Rattle.base.specs.Tests.{elem};
 ghost use Rattle.network.specs.Sizes.{queues};
 ghost use Rattle.network.specs.Routes.{routes};
-ghost use Rattle.network.specs.Selection.{adaptiveX, adaptiveY, lastCase};
+ghost use Rattle.network.specs.Selection.{adaptiveX, adaptiveY, adaptiveZ, lastCase};
 ghost use Rattle.routes.specs.Lines.{lines, applies, outputsFrom, unlessZero};
 
 // How many lines the selection list has, one for each dimension and the last, and the number of the last. The code counts them from 0: the
-// paper's line 1 has number 0.
+// paper's line 1 has number 0, and its line 2 is one for each of the two other dimensions.
 pub const LINES: u64 = DIMENSIONS + 1;
 
 const LAST_LINE: u64 = DIMENSIONS;
@@ -41,17 +41,33 @@ fn adaptive_y(dy: Sign) -> u64
     }
 }
 
-// The paper's line 3: the escape queue of x, and that of y only where no hop is left along x. A head that has arrived is delivered.
-fn last_case(dx: Sign, dy: Sign) -> u64
-    ensures { λ r. ⌜ r ≡ lastCase dx dy ⌝ }
+// And along z.
+fn adaptive_z(dz: Sign) -> u64
+    ensures { λ r. ⌜ unlessZero r ≡ adaptiveZ dz ⌝ }
 {
-    match dx {
+    match dz {
         Sign::Plus => 5,
         Sign::Minus => 6,
+        Sign::Zero => 0,
+    }
+}
+
+// The paper's line 3: the escape queue of x, that of y only where no hop is left along x, and that of z only where none is left along x and y. A head
+// that has arrived is delivered.
+fn last_case(dx: Sign, dy: Sign, dz: Sign) -> u64
+    ensures { λ r. ⌜ r ≡ lastCase dx dy dz ⌝ }
+{
+    match dx {
+        Sign::Plus => 7,
+        Sign::Minus => 8,
         Sign::Zero => match dy {
-            Sign::Plus => 7,
-            Sign::Minus => 8,
-            Sign::Zero => 0,
+            Sign::Plus => 9,
+            Sign::Minus => 10,
+            Sign::Zero => match dz {
+                Sign::Plus => 11,
+                Sign::Minus => 12,
+                Sign::Zero => 0,
+            },
         },
     }
 }
@@ -65,14 +81,17 @@ pub fn routes(q: u64, p: u64) -> [u64; LINES as usize]
 {
     let dx = sign(0, p);
     let dy = sign(1, p);
+    let dz = sign(2, p);
     let x = adaptive_x(dx);
     let y = adaptive_y(dy);
-    let last = last_case(dx, dy);
+    let z = adaptive_z(dz);
+    let last = last_case(dx, dy, dz);
     match q {
-        0 | 1 | 2 | 5 | 6 => [x, y, last],
-        3 | 4 | 7 | 8 => [y, x, last],
+        0 | 1 | 2 | 7 | 8 => [x, y, z, last],
+        3 | 4 | 9 | 10 => [y, x, z, last],
+        5 | 6 | 11 | 12 => [z, x, y, last],
         // no queue has another number
-        _ => [0, 0, last],
+        _ => [0, 0, 0, last],
     }
 }
 

@@ -8,7 +8,7 @@ use native.Mathlib.Omega.{arith}
 use lib.Dec.{T, ltb→lt}
 use Rattle.network.specs.Sizes.{Shape, nodes, directions, dimensions, dimensionOf, directionOf, isEscape, injectionQueue, adaptiveQueue, escapeQueue}
 use Rattle.network.specs.Packet.{distance, hops, heading, hop}
-use Rattle.network.specs.PacketLaws.{dimension-lt, destination-hop, distance-hop-same, distance-hop-other, hops-hop-same, hops-le, heading-dimension, heading-lt, hops-heading}
+use Rattle.network.specs.PacketLaws.{dimension-lt, destination-hop, spare-hop, distance-hop-same, distance-hop-other, hops-hop-same, hops-le, heading-dimension, heading-lt, hops-heading}
 use Rattle.network.specs.Torus.{neighbour}
 use Rattle.network.specs.TorusLaws.{Torus, movedBy-hop}
 use Rattle.network.specs.Check.{longest, reach, opposite}
@@ -74,6 +74,7 @@ pub hopped-fits : (S : Shape) (n q p o d : ℕ) → Torus S → n < nodes S → 
     → PacketFits S (neighbour S d n) o (hop (dimensionOf d) p)
 hopped-fits S n q p o d tor hn f g =
     record {
+      clear = spare-hop i p hi ∙ f .clear;
       addressed = rw (destination-hop i p hi) (f .addressed);
       arrives = movedBy-hop S d n p tor (g .direction) hn (g .left) ∙ f .arrives ∙ sym (destination-hop i p hi);
       near = λ j hj. close j hj (ℕ-discrete j i);

@@ -26,7 +26,7 @@ use Rattle.network.specs.Check.{reach, isQueueOf, packetFits, ringHasRoom, pack
 use Rattle.network.specs.CheckLaws.{PacketFits, packet-by, Network}
 use Rattle.network.specs.Refusals.{networkRefusal, makeRefusal, offerRules, offerRefusal}
 use Rattle.network.specs.RefusalLaws.{not-refused, neither, network-passed, network-passes, own-node-exactly}
-use Rattle.network.specs.OfferLaws.{ShortRings, destination-offered, distance-offered, work-offered, movedBy-offered, hops-offered}
+use Rattle.network.specs.OfferLaws.{ShortRings, destination-offered, spare-offered, distance-offered, work-offered, movedBy-offered, hops-offered}
 use Rattle.network.specs.Calls.{emptyNetwork, makeWords, offered, afterOffer, offerWords}
 use Rattle.run.specs.Queues.{AllFit, fill-few, fits-words, fit-put, fit-raised, allOf-newest}
 use Rattle.run.specs.Rings.{Room, RingRoom, ring-of, ring-by, escape-lt}
@@ -154,19 +154,20 @@ module _ (s : Sizes) (rest : List ℕ) where
   unfolding made S shapeOf
   made-passes t = network-passes made (subst (λ (R : Shape). Network R made) (sym made-shape) (blank-network S made (inRange-torus S t refl) (made-blank t)))
 
--- sizes of two dimensions are a number of columns and one of rows
-two : (ks : List ℕ) → length ks ≡ dimensions → ks ≡ getD ks 0 0 ∷ getD ks 1 0 ∷ []
-two [] l = absurd (let z : 0 ≡ 2 = l in omega arith)
-two (x ∷ []) l = absurd (let z : 1 ≡ 2 = l in omega arith)
-two (x ∷ y ∷ []) l = refl
-two (x ∷ y ∷ z ∷ ks) l = absurd (let n : suc (suc (suc (length ks))) ≡ 2 = l in omega arith)
+-- sizes of three dimensions are those along x, y and z
+three : (ks : List ℕ) → length ks ≡ dimensions → ks ≡ getD ks 0 0 ∷ getD ks 1 0 ∷ getD ks 2 0 ∷ []
+three [] l = absurd (let n : 0 ≡ 3 = l in omega arith)
+three (x ∷ []) l = absurd (let n : 1 ≡ 3 = l in omega arith)
+three (x ∷ y ∷ []) l = absurd (let n : 2 ≡ 3 = l in omega arith)
+three (x ∷ y ∷ z ∷ []) l = refl
+three (x ∷ y ∷ z ∷ k ∷ ks) l = absurd (let n : suc (suc (suc (suc (length ks)))) ≡ 3 = l in omega arith)
 
 sizesOf : Shape → Sizes
-sizesOf S = sized (size S 0) (size S 1) (S .escape) (S .adaptive) (S .injection)
+sizesOf S = sized (size S 0) (size S 1) (size S 2) (S .escape) (S .adaptive) (S .injection)
 
 shape-is : (S : Shape) → length (S .sizes) ≡ dimensions → S ≡ shapeOf (sizesOf S)
 unfolding shapeOf size sizesOf
-shape-is S l = λ i. record { sizes = two (S .sizes) l i; escape = S .escape; adaptive = S .adaptive; injection = S .injection }
+shape-is S l = λ i. record { sizes = three (S .sizes) l i; escape = S .escape; adaptive = S .adaptive; injection = S .injection }
 
 passed : (b : Bool) → not b ≡ false → T b
 passed true e = tt
@@ -175,9 +176,9 @@ passed false e = absurd (mathlib.Core.Bool.true≢false e)
 -- R91, R92: a Make that is not refused leaves words that pass the check
 pub make-passes : (S : Shape) (w : List ℕ) → length (S .sizes) ≡ dimensions → makeRefusal S w ≡ 0 → networkRefusal (makeWords S w) ≡ 0
 unfolding makeWords makeRefusal
-make-passes S w two-dimensional e =
+make-passes S w all-dimensions e =
     let (range, rest) = not-refused (not (sizesInRange S)) 1 _ e in
-    let whole : S ≡ shapeOf (sizesOf S) = shape-is S two-dimensional in
+    let whole : S ≡ shapeOf (sizesOf S) = shape-is S all-dimensions in
     rw (eq-eqb (makeRefusal S w) 0 e)
     (subst (λ (R : Shape). networkRefusal (emptyNetwork R ++ drop (need S) w) ≡ 0) (sym whole)
     (made-passes (sizesOf S) (drop (need S) w)
@@ -201,6 +202,7 @@ module _ (S : Shape) (w : List ℕ) (n dest tag : ℕ) (tor : Torus S) (N : Netw
   offered-fits =
       let there : destination p ≡ dest = destination-offered S n dest tag tor hn hd few-nodes small in
       record {
+        clear = spare-offered S n dest tag tor hn hd few-nodes small;
         addressed = rw there hd;
         arrives = movedBy-offered S n dest tag tor hn hd few-nodes small ∙ sym there;
         near = λ i h. distance-offered S n dest tag tor hn hd few-nodes small i h;

@@ -26,8 +26,8 @@ newLedger = replicate ledgerWords 0
 
 -- R243 to R246, R248: which call a command is, and what it prints
 unfoldable pub perform : Command → List ℕ → Performed
-perform (Command.Make x y e a j) w =
-    record { store = makeWords (shapeOf (sized x y e a j)) w; output = answerLine (code "T") (makeRefusal (shapeOf (sized x y e a j)) w) }
+perform (Command.Make x y z e a j) w =
+    record { store = makeWords (shapeOf (sized x y z e a j)) w; output = answerLine (code "T") (makeRefusal (shapeOf (sized x y z e a j)) w) }
 perform (Command.Offer node destination tag) w =
     record { store = offerWords w node destination tag; output = answerLine (code "O") (offerRefusal w node destination) }
 perform (Command.Move node queue output) w = record { store = moveWords w node queue output; output = movedLines (moveAnswer w node queue output) }

@@ -58,14 +58,24 @@ pub fn answer_read(
 }
 
 // T makes.
-fn run_make(store: &mut [u64], x: u32, y: u32, e: u32, a: u32, j: u32, out: &mut [u8]) -> usize
+fn run_make(
+    store: &mut [u64],
+    x: u32,
+    y: u32,
+    z: u32,
+    e: u32,
+    a: u32,
+    j: u32,
+    out: &mut [u8],
+) -> usize
     requires { ⌜ commandRoom ≤ length (now out) ⌝ }
-    ensures store { λ _. ⌜ now (store .exit) ≡ perform (Command.Make x y e a j) (now (store .entry)) .store ⌝ }
-    ensures printed { λ r. ⌜ Put (now (out .entry)) 0 (perform (Command.Make x y e a j) (now (store .entry)) .output) (now (out .exit)) r ⌝ }
+    ensures store { λ _. ⌜ now (store .exit) ≡ perform (Command.Make x y z e a j) (now (store .entry)) .store ⌝ }
+    ensures printed { λ r. ⌜ Put (now (out .entry)) 0 (perform (Command.Make x y z e a j) (now (store .entry)) .output) (now (out .exit)) r ⌝ }
 {
     let s = Sizes {
         x: x as u64,
         y: y as u64,
+        z: z as u64,
         escape: e as u64,
         adaptive: a as u64,
         injection: j as u64,
@@ -112,7 +122,7 @@ fn run_command(store: &mut [u64], command: Command, out: &mut [u8]) -> usize
     ensures printed { λ r. ⌜ Put (now (out .entry)) 0 (perform command (now (store .entry)) .output) (now (out .exit)) r ⌝ }
 {
     match command {
-        Command::Make { x, y, e, a, j } => run_make(store, x, y, e, a, j, out),
+        Command::Make { x, y, z, e, a, j } => run_make(store, x, y, z, e, a, j, out),
         Command::Offer {
             node,
             destination,

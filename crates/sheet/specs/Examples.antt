@@ -29,10 +29,18 @@ pub record Examples : Type 0 where
       × (map kept (lines (replicate 64 48 ++ text "\r0\n")) ≡ tooLong ∷ [])
       × (map kept (lines (replicate 65 48 ++ text "\r\n")) ≡ tooLong ∷ [])
       × (map kept (lines (replicate 65 48)) ≡ tooLong ∷ [])
-  pub listing : (commandOf (text "T,4,1,2,1,1") ≡ Command.Make 4 1 2 1 1)
+  -- R242, R243: the longest T line has 67 bytes, six numbers of ten digits, and is too long; with one of them of seven digits it has 64
+  pub longest-sizes : (map kept (lines (text "T,4294967295,4294967295,4294967295,4294967295,4294967295,4294967295\n")) ≡ tooLong ∷ [])
+      × (map kept (lines (text "T,4294967295,4294967295,4294967295,4294967295,4294967295,4294967\n"))
+      ≡ whole (text "T,4294967295,4294967295,4294967295,4294967295,4294967295,4294967") ∷ [])
+  pub listing : (commandOf (text "T,4,1,1,2,1,1") ≡ Command.Make 4 1 1 2 1 1)
       × (commandOf (text "O,0,2,7") ≡ Command.Offer 0 2 7)
-      × (commandOf (text "M,1,5,0") ≡ Command.Move 1 5 0)
+      × (commandOf (text "M,1,7,0") ≡ Command.Move 1 7 0)
       × (commandOf (text "D,10") ≡ Command.Drain 10)
+  -- R243: X, Y, Z, E, A, J in this order, no fewer numbers and no more
+  pub sizes : (commandOf (text "T,2,3,5,8,7,6") ≡ Command.Make 2 3 5 8 7 6)
+      × (commandOf (text "T,4,1,2,1,1") ≡ Command.Bad)
+      × (commandOf (text "T,4,1,1,2,1,1,0") ≡ Command.Bad)
   pub numbers : (commandOf (text "D,4294967295") ≡ Command.Drain 4294967295)
       × (commandOf (text "D,4294967296") ≡ Command.Bad)
       × (commandOf (text "D,0") ≡ Command.Drain 0)
@@ -68,7 +76,9 @@ examples =
     record {
       ends = (refl, refl, refl, refl, refl);
       limit = (refl, refl, refl, refl, refl);
+      longest-sizes = (refl, refl);
       listing = (refl, refl, refl, refl);
+      sizes = (refl, refl, refl);
       numbers = (refl, refl, refl, refl, refl, refl, refl, refl);
       others = (refl, refl, refl, refl, refl, refl, refl, refl, refl, refl);
       printed = (refl, refl, refl, refl, refl, refl, refl, refl, refl, refl);

@@ -21,6 +21,7 @@ pub enum Command {
     Make {
         x: u32,
         y: u32,
+        z: u32,
         e: u32,
         a: u32,
         j: u32,

@@ -3,6 +3,7 @@
 // grow with the network, and a table of neighbours. The move is First's all the same, and that is what the contracts say.
 use network::ACCEPTED_AT;
 use network::DELIVERED_AT;
+use network::DIRECTIONS;
 use network::Found;
 use network::Sizes;
 use network::Stop;
@@ -42,7 +43,8 @@ fn turn_by_move(
     ensures set { λ _. ⌜ Covered (shapeOf s) (byWords (shapeOf s) (now (words .entry)) room (Found.Move n q o)) (now (ready .exit)) ⌝ }
 {
     if o != 0 {
-        changes::make_move(words, s, n, q, o);
+        let there = near::look_up(near, (o - 1) % DIRECTIONS, n);
+        changes::move_to(words, s, n, q, o, there);
         ready::mark(ready, s, near, n, q, o);
         return Turn::Passed;
     }

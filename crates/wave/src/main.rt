@@ -10,7 +10,6 @@ use session::STORE_WORDS;
 use sheet::Command;
 use sheet::Fed;
 use sheet::Pending;
-use waveform::MOST_VARIABLES;
 ghost use mathlib.Core.Path.{_≡_};
 ghost use mathlib.Core.Bool.{true};
 ghost use mathlib.Core.List.{List};
@@ -18,7 +17,7 @@ ghost use Prim.Native.Nat.{ℕ, _≤_};
 ghost use lib.ListN.{length};
 ghost use Rattle.network.specs.Calls.{drainWords};
 ghost use Rattle.sheet.specs.Cutting.{heldBytes, feedByte, feedBytes};
-ghost use Rattle.session.specs.Session.{perform, ledgerWords};
+ghost use Rattle.session.specs.Session.{perform, ledgerWords, storeWords};
 ghost use Rattle.session.specs.Reads.{sheet, cutter, carryOut, answerRead, Reached};
 ghost use Rattle.session.specs.Running.{LineWithin, fedCutting};
 ghost use Rattle.replay.specs.Whole.{Roomy};
@@ -26,8 +25,11 @@ ghost use Rattle.replay.specs.Whole.{Roomy};
 // The bytes of a read at most.
 const PIECE: usize = 1024;
 
-// Room for any step of the largest network (waveform, specs/Lengths.antt: `pageRoom`).
-const PAGE_BYTES: usize = 120 + 48 * MOST_VARIABLES;
+// The store holds no network of more variables, since each of its queues has two words at least; and room for any step of that many (waveform,
+// specs/Lengths.antt: `pageRoom`).
+const STORE_VARIABLES: usize = STORE_WORDS / 2;
+
+const PAGE_BYTES: usize = 120 + 48 * STORE_VARIABLES;
 
 // How far the sheet has come: the bytes that are pending of a line, and whether to go on.
 struct Turn {
@@ -163,7 +165,7 @@ fn run_bytes(
 }
 
 // One read, of some bytes or, at the end of the input, of none: a last line without an end counts. List and page have room for every step
-// of every network, so that none is lost (replay, specs/Whole.antt).
+// of every network that the store can hold, so that none is lost (replay, specs/Whole.antt).
 fn run_read(
     store: &mut [u64; STORE_WORDS],
     line: &mut [u8; HELD_BYTES],
@@ -172,7 +174,7 @@ fn run_read(
     fills: &mut [u8],
     page: &mut [u8],
 ) -> Turn
-    requires { ⌜ Roomy (now fills) (now page) ⌝ }
+    requires { ⌜ Roomy storeWords (now fills) (now page) ⌝ }
     ensures { λ r. ⌜ (r .more ≡ true → sheet (now (store .exit)) (now (line .exit)) (r .pending) ≡ answerRead (sheet (now (store .entry)) (now (line .entry)) pending) (now (piece .entry)) .sheet) ⌝ }
 {
     if piece.len() == 0 {
@@ -188,7 +190,7 @@ fn read_once(
     store: &mut [u64; STORE_WORDS],
     line: &mut [u8; HELD_BYTES],
     pending: usize,
-    fills: &mut [u8; MOST_VARIABLES],
+    fills: &mut [u8; STORE_VARIABLES],
     page: &mut [u8; PAGE_BYTES],
 ) -> Turn
     ensures { λ r. ⌜ ((buffer : List ℕ) → Reached buffer (sheet (now (store .entry)) (now (line .entry)) pending) → r .more ≡ true → Reached buffer (sheet (now (store .exit)) (now (line .exit)) (r .pending))) ⌝ }
@@ -214,7 +216,7 @@ fn read_once(
 fn main() {
     let mut store = [0u64; STORE_WORDS];
     let mut line = [0u8; HELD_BYTES];
-    let mut fills = [0u8; MOST_VARIABLES];
+    let mut fills = [0u8; STORE_VARIABLES];
     let mut page = [0u8; PAGE_BYTES];
     let mut pending = session::start(&mut store);
     let mut more = true;

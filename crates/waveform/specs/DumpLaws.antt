@@ -3,15 +3,15 @@ use mathlib.Core.Path.{_≡_, refl, ap, sym, _∙_, subst}
 use mathlib.Core.Bool.{Bool, true, false}
 use mathlib.Core.List.{List, [], _∷_, _++_, append-nil, append-assoc}
 use mathlib.Core.Logic.{_⊎_, inl, inr}
-use Prim.Native.Nat.{ℕ, zero, suc, _+_, _/_, _%_, _<_, _≤_}
-use native.Mathlib.Nat.{eq-or-lt-of-le, le-of-suc-le-suc, not-suc-le-zero}
+use Prim.Native.Nat.{ℕ, zero, suc, _+_, _*_, _/_, _%_, _<_, _≤_}
+use native.Mathlib.Nat.{mul-le-mul-left, eq-or-lt-of-le, le-of-suc-le-suc, not-suc-le-zero}
 use native.Mathlib.Omega.{arith}
 use lib.ListN.{length, getD, length-append, List·getD-append}
 use lib.Seq.{getD-at}
 use Rattle.network.specs.Sizes.{Shape, nodes, queues, capacity}
 use Rattle.network.specs.SizesLaws.{range-of, capacity-most}
 use Rattle.network.specs.TorusLaws.{inRange-torus, inRange-nodes, nodes-pos}
-use Rattle.network.specs.Layout.{shape, movesMade, queueStart, queuePart, queueLength, held}
+use Rattle.network.specs.Layout.{shape, movesMade, nodeWords, need, queueStart, queuePart, queueLength, held}
 use Rattle.network.specs.LayoutLaws.{Fits, length-queuePart, length-packetsOf, count-word}
 use Rattle.network.specs.CheckLaws.{Network}
 use Rattle.network.specs.Refusals.{networkRefusal}
@@ -72,6 +72,18 @@ module _ (w : List ℕ) (passed : networkRefusal w ≡ 0) where
   pub variables-most : variablesOf (shape w) ≤ mostVariables
   unfolding shape
   variables-most = let m = inRange-nodes (shape w) (network .in-range) refl in omega arith
+
+  -- each queue has two words at least, its number held and a slot
+  pub variables-words : 2 * variablesOf (shape w) ≤ length w
+  unfolding need nodeWords
+  variables-words =
+      let r = range-of (shape w) (network .in-range) in
+      let j = r .injection .low in
+      let a = r .adaptive .low in
+      let e = r .escape .low in
+      let m : nodes (shape w) * (2 * queues) ≤ nodes (shape w) * nodeWords (shape w) = mul-le-mul-left (nodes (shape w)) (omega arith) in
+      let l : need (shape w) ≤ length w = network .long in
+      omega arith
 
   pub variables-some : 1 ≤ variablesOf (shape w)
   unfolding shape

@@ -45,7 +45,7 @@ valueRoom = 16
 pub variable-room : (i : ℕ) → i < mostVariables → length (variableLine i) ≤ variableRoom
 variable-room i h =
     let l = variable-length i in
-    let a : length (decimal i) ≤ 4 = numeral-length ten (omega arith) 3 i (omega arith) in
+    let a : length (decimal i) ≤ 5 = numeral-length ten (omega arith) 4 i (omega arith) in
     let b : length (decimal (i / queues)) ≤ 4 = numeral-length ten (omega arith) 3 (i / queues) (omega arith) in
     let c : length (decimal (i % queues)) ≤ 2 = numeral-length ten (omega arith) 1 (i % queues) (omega arith) in
     omega arith
@@ -53,7 +53,7 @@ variable-room i h =
 pub value-room : (c : Change) → c .variable < mostVariables → c .fill ≤ largestFill → length (valueLine c) ≤ valueRoom
 value-room c h f =
     let l = value-length c in
-    let a : length (decimal (c .variable)) ≤ 4 = numeral-length ten (omega arith) 3 (c .variable) (omega arith) in
+    let a : length (decimal (c .variable)) ≤ 5 = numeral-length ten (omega arith) 4 (c .variable) (omega arith) in
     let b = binary-digits (c .fill) f in
     omega arith
 

@@ -1,4 +1,4 @@
--- `changes::write_empty` meets its contract: five words written over cleared ones are the empty network. Assumes nothing.
+-- `changes::write_empty` meets its contract: six words written over cleared ones are the empty network. Assumes nothing.
 use borrow.Author.Needs.{needs}
 use Prim.Native.Nat.{_≤_}
 use native.Mathlib.Omega.{arith}
@@ -35,6 +35,9 @@ slice-write-words-4 c = let l = long (c .before .before) in simp length-set (ome
 slice-write-words-5 : tie.Need-slice-write-words-5
 slice-write-words-5 c = let l = long (c .before .before) in simp length-set (omega arith)
 
+slice-write-words-6 : tie.Need-slice-write-words-6
+slice-write-words-6 c = let l = long (c .before .before) in simp length-set (omega arith)
+
 returns : tie.Need-returns
 returns c =
     let k = c .before .before in
@@ -53,5 +56,6 @@ write-empty-spec =
     slice-write-words-3
     slice-write-words-4
     slice-write-words-5
+    slice-write-words-6
     (λ c. search needs)
     returns)

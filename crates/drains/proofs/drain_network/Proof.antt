@@ -4,11 +4,9 @@ use mathlib.Core.Path.{refl, sym, subst}
 use Prim.Native.Nat.{ℕ, _≤_}
 use native.Mathlib.Omega.{arith}
 use denote.Ref.{now}
-use Rattle.network.specs.Sizes.{shapeOf, mostNodes}
+use Rattle.network.specs.Sizes.{shapeOf}
 use Rattle.network.specs.declared.Stop.{Stop}
 use Rattle.network.specs.Layout.{accepted, delivered}
-use Rattle.headset.specs.Set.{Filled}
-use Rattle.ready.specs.ReadyHeads.{covered-filled}
 use Rattle.turns.specs.Turns.{turn-emptied, none-held}
 use Rattle.turns.specs.Turned.{header-long}
 use Rattle.network.specs.TorusLaws.{sizes-torus, sizes-nodes}
@@ -38,34 +36,22 @@ returns c =
     so-far-end S (sizes-torus (a .args .s) (a .pre .in-range)) w (a .args .budget) l w l 0 0 Stop.Emptied (so-far-start S w (a .args .budget) l (a .pre))
     (turn-emptied S w _ _ (none-held S w (a .pre) (c .if1 .taken)))
 
-fill-requires : tie.Need-fill-requires
-fill-requires c κs =
-    let a = c .before .before .before .before .before .before in
-    (a .pre .in-range, refl)
-
 nodes-requires : tie.Need-nodes-requires
-nodes-requires c κs =
-    let a = c .before .before .before .before .before .before .before .before .before in
-    a .pre .in-range
+nodes-requires c κs = c .before .before .before .before .before .pre .in-range
 
-fill-requires-2 : tie.Need-fill-requires-2
-fill-requires-2 c κs =
+drain-with-requires : tie.Need-drain-with-requires
+drain-with-requires c κs =
+    let few = c .before .before .before in
+    let a = few .before .before .before .before .before .before .before in
+    let e = few .before .nodes .ensures in
+    let h = few .if2 .taken in
+    (a .pre, omega arith)
+
+drain-with-requires-2 : tie.Need-drain-with-requires-2
+drain-with-requires-2 c κs =
     let a = c .before .before .before .before .before .before .before .before .before .before in
-    (refl, subst (λ (x : ℕ). x ≤ mostNodes) (sym (c .nodes .ensures)) (sizes-nodes (a .args .s) (a .pre .in-range)))
-
-take-turns-requires : tie.Need-take-turns-requires
-take-turns-requires c κs =
-    let r = c .before .before .before .before .before in
-    let n = r .before in
-    let f = n .before .before .before in
-    let a = f .before .before .before .before .before .before .before in (
-      a .pre,
-      (
-        f .fill .ensures,
-        covered-filled (shapeOf (a .args .s)) (now (a .args .words)) (r .fill2 .last .0)
-            (subst (λ (x : ℕ). Filled (r .fill2 .last .0) x) (n .nodes .ensures) (r .fill2 .ensures)),
-      ),
-    )
+    let m = sizes-nodes (a .args .s) (a .pre .in-range) in
+    (a .pre, omega arith)
 
 pub drain-network-spec : {M : Type 1} → statement M
 drain-network-spec =
@@ -74,14 +60,14 @@ drain-network-spec =
     slice-read-accepted
     slice-read-delivered
     returns
-    (λ c. search needs)
-    fill-requires
-    (λ c. search needs)
     nodes-requires
-    fill-requires-2
+    (λ c. search needs)
+    drain-with-requires
     (λ c. search needs)
     (λ c. search needs)
-    take-turns-requires
+    (λ c. search needs)
+    (λ c. search needs)
+    drain-with-requires-2
     (λ c. search needs)
     (λ c. search needs)
     (λ c. search needs))

@@ -8,7 +8,7 @@ use denote.Ref.{now}
 use lib.ListN.{length}
 use Rattle.network.specs.Sizes.{Shape, shapeOf, nodes}
 use Rattle.network.specs.TorusLaws.{sizes-nodes}
-use Rattle.network.specs.Layout.{need, nodeWords, movesMade}
+use Rattle.network.specs.Layout.{need, nodeWords, movesAt, movesMade}
 use Rattle.network.specs.CheckLaws.{Network}
 use Rattle.waveform.specs.Dump.{mostVariables, fills}
 use Rattle.waveform.specs.DumpLaws.{fills-length}
@@ -17,7 +17,7 @@ use Rattle.dump_writer.proofs.write_fills.Statement.{statement}
 use Rattle.dump_writer.proofs.write_fills.Tie as tie
 
 -- the header is there
-header : {S : Shape} {w : List ℕ} → Network S w → 7 < length w
+header : {S : Shape} {w : List ℕ} → Network S w → movesAt < length w
 unfolding need
 header {S} k =
     let l = k .long in

@@ -13,10 +13,8 @@ use Rattle.dump_writer.proofs.write_network.Tie as tie
 -- the list is long enough
 fit : (c : tie.After-nodes) → c .nodes .result * queues ≤ length (c .before .before .before .before .before .args .counts .now)
 fit c =
-    let s = c .before .before .before .before .before in
-    let m = sizes-nodes (s .args .s) (s .pre .0 .in-range) in
     let e = c .nodes .ensures in
-    let l = s .pre .1 in
+    let l = c .before .before .before .before .before .pre .1 in
     omega arith
 
 mul-count : tie.Need-mul-count

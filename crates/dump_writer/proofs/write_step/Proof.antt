@@ -1,7 +1,6 @@
 -- `dump_writer::write_step` meets its contract. Assumes nothing.
 use borrow.Author.Needs.{needs}
 use mathlib.Core.Path.{refl, ap, sym, _∙_}
-use native.Mathlib.Omega.{arith}
 use denote.Ref.{now}
 use Rattle.network.specs.Sizes.{shapeOf}
 use Rattle.network.specs.Layout.{movesMade}
@@ -12,11 +11,8 @@ use Rattle.dump_writer.specs.Writing.{write-broken, write-counts}
 use Rattle.dump_writer.proofs.write_step.Statement.{statement}
 use Rattle.dump_writer.proofs.write_step.Tie as tie
 
-write-network-requires : tie.Need-write-network-requires
-write-network-requires c κs =
-    let o = c .before .before .before .before in
-    let k = is-open (o .before .before .«open» .ensures) (o .opened2 .given .1) in
-    (k .network, omega arith)
+write-opened-requires : tie.Need-write-opened-requires
+write-opened-requires c κs = let o = c .before .before .before in is-open (o .before .before .«open» .ensures) (o .opened2 .given .1) .network
 
 returns : tie.Need-returns
 returns c =
@@ -28,13 +24,13 @@ returns c =
 
 returns-2 : tie.Need-returns-2
 returns-2 c =
-    let o = c .before .before .before .before .before .before .before .before .before .before in
+    let o = c .before .before .before .before .before .before .before .before in
     let s = o .before .before .before .before .before .before in
     let S = shapeOf (o .opened2 .given .0 .0) in
     let w = now (s .args .words) in
     let k = is-open (o .before .before .«open» .ensures) (o .opened2 .given .1) in
     write-counts (s .args .first) w (now (s .args .fills)) (now (s .args .page)) S (fills S w) (movesMade w) (k .passed) (k .sizes) refl refl
-    (c .before .before .before .before .before .write-network .ensures)
+    (c .before .before .before .before .write-opened .ensures)
 
 pub write-step-spec : {M : Type 1} → statement M
 write-step-spec =
@@ -43,8 +39,7 @@ write-step-spec =
     (λ c κs. search needs)
     (λ c. search needs)
     (λ c. search needs)
-    (λ c. search needs)
-    write-network-requires
+    write-opened-requires
     returns
     (λ c. search needs)
     (λ c. search needs)

@@ -21,6 +21,7 @@ use Rattle.network.specs.declared.Sizes.{Sizes}
 use Rattle.flow.specs.QueueOf.{QueueOf}
 use Rattle.network.specs.TorusLaws.{sizes-nodes}
 use Rattle.flow.specs.HeldWords.{asked}
+use Rattle.near.specs.Table.{entry-within}
 use Rattle.flow.proofs.Targets.{at-target, target-few, target-free}
 use Rattle.flow.proofs.may_flow.Statement.{statement}
 use Rattle.flow.proofs.may_flow.Tie as tie
@@ -82,7 +83,7 @@ look-up-requires c κs =
     let places = asked (a .s) (a .words .now) (a .n) (a .o) (f .pre .0) in
     let h = places .1 in
     let few = sizes-nodes (a .s) (places .0) in
-    (omega arith, omega arith, f .pre .1 .entries)
+    (omega arith, omega arith, entry-within (a .n) _ (f .pre .1) h (omega arith))
 
 held-count-requires : tie.Need-held-count-requires
 held-count-requires c κs =

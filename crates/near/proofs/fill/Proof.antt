@@ -1,8 +1,9 @@
 -- `near::fill` meets its contract. The loop's invariant: the entries of the nodes before n are there, and the walk has come to n. Assumes nothing.
 use borrow.Author.Needs.{needs}
-use mathlib.Core.Path.{_≡_, subst}
+use mathlib.Core.Path.{_≡_, refl, subst, _∙_}
 use Prim.Native.Nat.{ℕ, _*_, _-_, _<_, _≤_}
 use native.Mathlib.Omega.{arith}
+use lib.ListN.{length}
 use Rattle.network.specs.Sizes.{shapeOf, directions, nodes}
 use Rattle.network.specs.TorusLaws.{sizes-nodes}
 use Rattle.packet.specs.Geometry.{WalkTo}
@@ -12,7 +13,7 @@ use Rattle.near.proofs.fill.Statement.{statement}
 use Rattle.near.proofs.fill.Tie as tie
 
 abbrev Inv-loop : tie.InvT-loop
-Inv-loop near₀ s count place₀ n₀ near place n = NearTo (shapeOf s) (directions * n) near × WalkTo s n place × (n ≤ nodes (shapeOf s))
+Inv-loop near₀ s count place₀ n₀ near place n = NearTo (shapeOf s) (directions * n) near × WalkTo s n place × (n ≤ nodes (shapeOf s)) × (length near ≡ length near₀)
 
 abbrev μ-loop : tie.MeasureT-loop
 μ-loop near₀ s count place₀ n₀ near place n = count - n
@@ -24,7 +25,7 @@ is-node c = let e = c .before .before .nodes .ensures in let h = c .loop-test .t
 loop-holds : tie.Need-loop-holds Inv-loop μ-loop
 loop-holds c =
     let a = c .before .before in
-    (near-none (shapeOf (a .args .s)) (a .args .near .now) (a .pre .1), walk-start _ (a .pre .0), omega arith)
+    (near-none (shapeOf (a .args .s)) (a .args .near .now) (a .pre .1), walk-start _ (a .pre .0), omega arith, refl)
 
 fill-node-requires : tie.Need-fill-node-requires Inv-loop μ-loop
 fill-node-requires c κs =
@@ -47,7 +48,10 @@ loop-again : tie.Need-loop-again Inv-loop μ-loop
 loop-again c =
     let l = c .before .before .before .before .before .before .loop in
     let h = is-node (c .before .before .before .before .before) in
-    (c .before .before .before .fill-node .ensures, walk-next _ _ _ _ (l .inv .1) h (c .next-place .ensures .0) (c .next-place .ensures .1), omega arith)
+    (c .before .before .before .fill-node .ensures, walk-next _ _ _ _ (l .inv .1) h (c .next-place .ensures .0) (c .next-place .ensures .1), omega arith, c .before .before .before .fill-node .kept .0 ∙ l .inv .3)
+
+same-length : tie.Need-same-length Inv-loop μ-loop
+same-length c = c .before .loop .inv .3
 
 returns : tie.Need-returns Inv-loop μ-loop
 returns c =
@@ -70,5 +74,5 @@ fill-spec =
     add-n
     loop-less
     loop-again
-    (λ c. search needs)
+    same-length
     returns)

@@ -1,31 +1,26 @@
 -- `near::fill_node` meets its contract. The loop's invariant: the entries of the directions before d are there. Assumes nothing.
 use borrow.Author.Needs.{needs}
-use mathlib.Core.Path.{_≡_, ap, subst, _∙_}
+use mathlib.Core.Path.{_≡_, refl, ap, subst, _∙_}
 use mathlib.Core.List.{List}
 use Prim.Native.Nat.{ℕ, _+_, _*_, _-_, _<_, _≤_}
-use native.Mathlib.Nat.{lt-of-lt-of-le}
 use native.Mathlib.Omega.{arith}
-use lib.ListN.{getD}
-use Rattle.network.specs.Sizes.{Shape, shapeOf, directions, dimensionOf, nodes, mostNodes}
+use lib.ListN.{length, getD}
+use Rattle.network.specs.Sizes.{Shape, shapeOf, directions, dimensionOf, nodes}
 use Rattle.network.specs.PacketLaws.{dimension-lt}
 use Rattle.network.specs.Torus.{coordinate}
-use Rattle.network.specs.TorusLaws.{sizes-nodes}
 use Rattle.packet.specs.GeometryLaws.{place-node, place-coordinate}
 use Rattle.near.specs.Table.{NearTo}
 use Rattle.near.proofs.fill_node.Statement.{statement}
 use Rattle.near.proofs.fill_node.Tie as tie
 
 abbrev Inv-loop : tie.InvT-loop
-Inv-loop near₀ s n at d₀ near d = NearTo (shapeOf s) (directions * n + d) near × (d ≤ directions)
+Inv-loop near₀ s n at d₀ near d = NearTo (shapeOf s) (directions * n + d) near × (d ≤ directions) × (length near ≡ length near₀)
 
 abbrev μ-loop : tie.MeasureT-loop
 μ-loop near₀ s n at d₀ near d = directions - d
 
 is-node : (c : tie.Start Inv-loop μ-loop) → c .args .n < nodes (shapeOf (c .args .s))
 is-node c = subst (λ (k : ℕ). k < nodes (shapeOf (c .args .s))) (c .pre .1) (place-node (c .pre .0))
-
-few : (c : tie.Start Inv-loop μ-loop) → c .args .n < mostNodes
-few c = lt-of-lt-of-le (is-node c) (sizes-nodes (c .args .s) (c .pre .0 .sizes))
 
 coordinate-at : (c : tie.Start Inv-loop μ-loop) (d : ℕ) → d < directions
     → getD (c .args .place .at) (dimensionOf d) 0 ≡ coordinate (shapeOf (c .args .s)) (dimensionOf d) (c .args .n)
@@ -36,24 +31,21 @@ counted : {S : Shape} {a b : ℕ} {near : List ℕ} → a ≡ b → NearTo S a n
 counted {S} {near = near} e t = subst (λ (k : ℕ). NearTo S k near) e t
 
 loop-holds : tie.Need-loop-holds Inv-loop μ-loop
-loop-holds c = (counted (omega arith) (c .before .before .pre .2), omega arith)
+loop-holds c = (counted (omega arith) (c .before .before .pre .2), omega arith, refl)
 
 fill-entry-requires : tie.Need-fill-entry-requires Inv-loop μ-loop
 fill-entry-requires c κs =
     let st = c .before .before .before .before .before in
     let h = c .before .loop-test .taken in
-    ((st .pre .0 .sizes, h, is-node st, coordinate-at st (c .before .before .loop .d) h), (few st, c .before .before .loop .inv .0))
+    ((st .pre .0 .sizes, h, is-node st, coordinate-at st (c .before .before .loop .d) h), c .before .before .loop .inv .0)
 
 loop-again : tie.Need-loop-again Inv-loop μ-loop
 loop-again c =
     let h = c .before .before .before .before .loop-test .taken in
-    (counted (omega arith) (c .before .before .fill-entry .ensures), omega arith)
+    (counted (omega arith) (c .before .before .fill-entry .ensures), omega arith, c .before .before .fill-entry .kept .0 ∙ c .before .before .before .before .before .loop .inv .2)
 
 same-length : tie.Need-same-length Inv-loop μ-loop
-same-length c =
-    let a = c .before .loop .inv .0 .entries in
-    let b = c .before .before .before .before .pre .2 .entries in
-    omega arith
+same-length c = c .before .loop .inv .2
 
 returns : tie.Need-returns Inv-loop μ-loop
 returns c =

@@ -1,13 +1,15 @@
 -- `packet::offset_field` meets its contract. Assumes nothing.
-use Rattle.packet.proofs.FieldWords.{other-dimension, field-x, field-y}
+use borrow.Author.Needs.{needs}
+use native.Mathlib.Omega.{arith}
+use Rattle.packet.proofs.FieldWords.{weight-some, field-by}
 use Rattle.packet.proofs.offset_field.Statement.{statement}
 use Rattle.packet.proofs.offset_field.Tie as tie
 
-returns : tie.Need-returns
-returns c = let a = c .before .args in field-x (a .i) (a .p) (c .if1 .taken)
+div-result : tie.Need-div-result
+div-result c = let a = c .before in omega (arith, c .offset-weight .ensures, weight-some (a .args .i))
 
-returns-2 : tie.Need-returns-2
-returns-2 c = let a = c .before .args in field-y (a .i) (a .p) (other-dimension (a .i) (c .before .pre) (c .if1 .left))
+returns : tie.Need-returns
+returns c = let a = c .before in field-by (a .args .i) (a .args .p) (c .offset-weight .result) (a .pre) (c .offset-weight .ensures)
 
 pub offset-field-spec : {M : Type 1} → statement M
-offset-field-spec = tie.close (tie.spec returns returns-2)
+offset-field-spec = tie.close (tie.spec (λ c κs. search needs) div-result returns)

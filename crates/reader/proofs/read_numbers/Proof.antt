@@ -10,7 +10,7 @@ use Rattle.sheet.specs.Text.{comma}
 use Rattle.sheet.specs.Commands.{ten, largestNumber}
 use Rattle.sheet.specs.Fields.{end-within}
 use Rattle.reader.specs.Reading.{number-fits}
-use Rattle.reader.proofs.Gather.{Gathered, none, more, sixth, broken, all}
+use Rattle.reader.proofs.Gather.{Gathered, none, more, left-out, broken, all}
 use Rattle.reader.proofs.read_numbers.Statement.{statement}
 use Rattle.reader.proofs.read_numbers.Tie as tie
 
@@ -48,7 +48,7 @@ loop-again c =
     (more (g .loop .inv) (f .before .loop-test .taken) (f .field-end .result) (f .field-end .ensures) (r .read-number .result) (r .read-number .ensures) _ (n .n .given .1)))
     (λ w.
     rw (w .1)
-    (sixth (g .loop .inv) (f .before .loop-test .taken) (f .field-end .result) (f .field-end .ensures) (r .read-number .result) (r .read-number .ensures) _ (w .0 .left) (n .n .given .1)))
+    (left-out (g .loop .inv) (f .before .loop-test .taken) (f .field-end .result) (f .field-end .ensures) (r .read-number .result) (r .read-number .ensures) _ (w .0 .left) (n .n .given .1)))
     (c .if1 .came)
 
 returns-2 : tie.Need-returns-2 Inv-loop μ-loop

@@ -8,6 +8,7 @@ use denote.Ref.{now}
 use Rattle.network.specs.Sizes.{shapeOf, directions}
 use Rattle.network.specs.Torus.{neighbour}
 use Rattle.network.specs.TorusLaws.{sizes-torus, sizes-nodes}
+use Rattle.near.specs.Table.{entry-within}
 use Rattle.ready.specs.ReadyHeads.{neighbour-node, target-is, arrival-marked}
 use Rattle.ready.proofs.mark_arrival.Statement.{statement}
 use Rattle.ready.proofs.mark_arrival.Tie as tie
@@ -15,7 +16,7 @@ use Rattle.ready.proofs.mark_arrival.Tie as tie
 look-up-requires : tie.Need-look-up-requires
 look-up-requires c κs =
     let a = c .before .before .before in
-    (omega arith, lt-of-lt-of-le (a .pre .1 .0 .1) (sizes-nodes (a .args .s) (a .pre .1 .0 .0)), a .pre .1 .1 .entries)
+    (omega arith, lt-of-lt-of-le (a .pre .1 .0 .1) (sizes-nodes (a .args .s) (a .pre .1 .0 .0)), entry-within (a .args .n) _ (a .pre .1 .1) (a .pre .1 .0 .1) (omega arith))
 
 -- the neighbour that was looked up
 abbrev start : tie.After-look-up → tie.Start

@@ -14,7 +14,7 @@ returns c =
     let line = c .before .before .put-answer .ensures in
     let call = c .before .before .before .before .before .before .make .ensures in
     let a = c .before .before .before .before .before .before .before .before .before .before .args in
-    let told = sym {b = makeRefusal (shapeOf (sized (a .x) (a .y) (a .e) (a .a) (a .j))) (now (a .store))} (call .0) in
+    let told = sym {b = makeRefusal (shapeOf (sized (a .x) (a .y) (a .z) (a .e) (a .a) (a .j))) (now (a .store))} (call .0) in
     (call .1, rw told line)
 
 pub run-make-spec : {M : Type 1} → statement M

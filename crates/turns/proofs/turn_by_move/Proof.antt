@@ -1,23 +1,39 @@
 -- `turns::turn_by_move` meets its contract. Assumes nothing.
 use borrow.Author.Needs.{needs}
+use native.Mathlib.Omega.{arith}
 use denote.Ref.{now}
 use Rattle.network.specs.Sizes.{shapeOf}
-use Rattle.network.specs.TorusLaws.{sizes-torus}
+use Rattle.network.specs.TorusLaws.{sizes-torus, sizes-nodes}
+use Rattle.near.specs.Table.{entry-within}
 use Rattle.turns.specs.Turned.{turned-passed, turned-delivered, turned-full}
 use Rattle.turns.proofs.turn_by_move.Statement.{statement}
 use Rattle.turns.proofs.turn_by_move.Tie as tie
 
+look-up-requires : tie.Need-look-up-requires
+look-up-requires c κs =
+    let a = c .before .before .before .before in
+    let h = a .pre .1 .1 .1 .node in
+    let few = sizes-nodes (a .args .s) (a .pre .0 .in-range) in
+    (omega arith, omega arith, entry-within (a .args .n) _ (a .pre .1 .0) h (omega arith))
+
+-- the node that was looked up is that of the target
+move-to-requires : tie.Need-move-to-requires
+move-to-requires c κs =
+    let t = c .before in
+    let a = t .before .before .before .before .before in
+    (a .pre .0, (a .pre .1 .1 .1, λ away. t .look-up .ensures (shapeOf (a .args .s)) (a .pre .1 .0) (a .pre .1 .1 .1 .node)))
+
 mark-requires : tie.Need-mark-requires
 mark-requires c κs =
-    let a = c .before .before .before .before .before .before .before .before .before in
+    let a = c .before .before .before .before .before .before .before .before .before .before in
     (a .pre .1 .1 .0 .set-of, ((a .pre .0 .in-range, a .pre .1 .1 .1 .node, a .pre .1 .1 .1 .queue, a .pre .1 .1 .1 .output), a .pre .1 .0))
 
 returns : tie.Need-returns
 returns c =
-    let a = c .before .before .before .before .before .before .before .before .before .before .before .before in
+    let a = c .before .before .before .before .before .before .before .before .before .before .before .before .before in
     turned-passed (shapeOf (a .args .s)) (sizes-torus (a .args .s) (a .pre .0 .in-range)) (now (a .args .words)) (now (a .args .ready))
-    (a .pre .0) (a .pre .1 .1 .0) (a .args .room) (a .args .n) (a .args .q) (a .args .o) (c .before .before .before .before .before .before .make-move .last .0) (c .before .before .mark .last .0) (a .pre .1 .1 .1)
-    (c .before .before .mark .ensures) (c .before .before .before .before .before .before .make-move .ensures .0) (c .before .before .before .before .before .before .before .before .if1 .taken)
+    (a .pre .0) (a .pre .1 .1 .0) (a .args .room) (a .args .n) (a .args .q) (a .args .o) (c .before .before .before .before .before .before .move-to .last .0) (c .before .before .mark .last .0) (a .pre .1 .1 .1)
+    (c .before .before .mark .ensures) (c .before .before .before .before .before .before .move-to .ensures .0) (c .before .before .before .before .before .before .before .before .before .if1 .taken)
 
 returns-2 : tie.Need-returns-2
 returns-2 c =
@@ -34,14 +50,16 @@ returns-3 : tie.Need-returns-3
 returns-3 c =
     let a = c .before .before .before .before .before .before .before .before .before .before .before .before .before in
     turned-delivered (shapeOf (a .args .s)) (sizes-torus (a .args .s) (a .pre .0 .in-range)) (now (a .args .words)) (now (a .args .ready))
-    (a .pre .0) (a .pre .1 .1 .0) (a .args .room) (a .args .n) (a .args .q) (a .args .o) (c .before .before .before .before .before .before .make-move2 .result) (c .before .before .before .before .before .before .make-move2 .last .0) (c .before .before .mark2 .last .0)
-    (a .pre .1 .1 .1) (c .before .before .mark2 .ensures) (c .before .before .before .before .before .before .make-move2 .ensures .0) (c .before .before .before .before .before .before .before .before .before .if1 .left) (c .before .before .before .before .before .before .before .before .if2 .left) (c .before .before .before .before .before .before .make-move2 .ensures .1)
+    (a .pre .0) (a .pre .1 .1 .0) (a .args .room) (a .args .n) (a .args .q) (a .args .o) (c .before .before .before .before .before .before .make-move .result) (c .before .before .before .before .before .before .make-move .last .0) (c .before .before .mark2 .last .0)
+    (a .pre .1 .1 .1) (c .before .before .mark2 .ensures) (c .before .before .before .before .before .before .make-move .ensures .0) (c .before .before .before .before .before .before .before .before .before .if1 .left) (c .before .before .before .before .before .before .before .before .if2 .left) (c .before .before .before .before .before .before .make-move .ensures .1)
 
 pub turn-by-move-spec : {M : Type 1} → statement M
 turn-by-move-spec =
     tie.close
     (tie.spec
-    (λ c κs. search needs)
+    (λ c. search needs)
+    look-up-requires
+    move-to-requires
     mark-requires
     (λ c. search needs)
     (λ c. search needs)

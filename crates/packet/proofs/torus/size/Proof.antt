@@ -1,6 +1,6 @@
 -- `packet::torus::size` meets its contract. Assumes nothing.
-use Rattle.packet.specs.GeometryLaws.{size-x, size-y}
-use Rattle.packet.proofs.FieldWords.{other-dimension}
+use Rattle.packet.specs.GeometryLaws.{size-x, size-y, size-z}
+use Rattle.packet.proofs.FieldWords.{last-dimension}
 use Rattle.packet.proofs.torus.size.Statement.{statement}
 use Rattle.packet.proofs.torus.size.Tie as tie
 
@@ -8,7 +8,10 @@ returns : tie.Need-returns
 returns c = let a = c .before .args in size-x (a .s) (a .i) (c .if1 .taken)
 
 returns-2 : tie.Need-returns-2
-returns-2 c = let a = c .before .args in size-y (a .s) (a .i) (other-dimension (a .i) (c .before .pre) (c .if1 .left))
+returns-2 c = let a = c .before .before .args in size-y (a .s) (a .i) (c .if2 .taken)
+
+returns-3 : tie.Need-returns-3
+returns-3 c = let a = c .before .before in size-z (a .args .s) (a .args .i) (last-dimension (a .args .i) (a .pre) (c .before .if1 .left) (c .if2 .left))
 
 pub size-spec : {M : Type 1} → statement M
-size-spec = tie.close (tie.spec returns returns-2)
+size-spec = tie.close (tie.spec returns returns-2 returns-3)
