@@ -1,5 +1,5 @@
 //! The kept cases (R281 to R298, R361 to R380), the listing (R257) and the
-//! misreadings (R301 to R309), with the numbers that RULES gives, and others
+//! misreadings (R301 to R309, R500, R501), with the numbers that RULES gives, and others
 //! beside them. The numbers were worked out here once more.
 
 use compare::bench::Call;

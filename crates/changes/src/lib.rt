@@ -11,8 +11,8 @@ ghost use mathlib.Core.Logic.{_≢_};
 ghost use Prim.Native.Nat.{_<_, _≤_};
 ghost use lib.Dec.{T};
 ghost use lib.ListN.{length, drop};
-ghost use Rattle.network.specs.Sizes.{shapeOf, sizesInRange, nodes, capacity, injectionQueue, directionOf};
-ghost use Rattle.network.specs.Torus.{neighbour};
+ghost use Rattle.network.specs.Sizes.{shapeOf, sizesInRange, nodes, capacity, injectionQueue};
+ghost use Rattle.network.specs.Routes.{target};
 ghost use Rattle.network.specs.Layout.{need, held};
 ghost use Rattle.network.specs.CheckLaws.{Network};
 ghost use Rattle.network.specs.Refusals.{head};
@@ -79,7 +79,7 @@ pub fn make_move(words: &mut [u64], s: Sizes, n: u64, q: u64, o: u64) -> u64
 pub fn move_to(words: &mut [u64], s: Sizes, n: u64, q: u64, o: u64, there: u64) -> u64
     requires { ⌜ Network (shapeOf s) (now words) ⌝ }
     requires { ⌜ Permitted (shapeOf s) (now words) n q o ⌝ }
-    requires { ⌜ (o ≢ 0 → there ≡ neighbour (shapeOf s) (directionOf o) n) ⌝ }
+    requires { ⌜ (o ≢ 0 → there ≡ target (shapeOf s) n o) ⌝ }
     ensures words { λ _. ⌜ now (words .exit) ≡ afterMove (shapeOf s) (now (words .entry)) n q o ⌝ }
     ensures head { λ r. ⌜ r ≡ head (held (shapeOf s) (now (words .entry)) n q) ⌝ }
 {

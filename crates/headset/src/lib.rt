@@ -18,7 +18,7 @@ pub const NODE_HEADS: u64 = 16;
 
 pub const HEADS: u64 = NODE_HEADS * MOST_NODES;
 
-// The words that speak of others: word 0, and one for each of its bits. Not all of these have words to speak of and are always 0, so that one rule
+// The words that speak of others: word 0, and one for each of its bits. Those that have no words to speak of are always 0, so that one rule
 // tells, for both levels, which bit speaks of which word. The first bit behind them, and all words.
 const WORD_BITS: u64 = 64;
 

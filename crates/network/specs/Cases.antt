@@ -458,7 +458,7 @@ pub record KeptCases : Type 0 where
       ∷ x-column ∷ x-column ∷ y-column ∷ y-column ∷ z-column ∷ z-column ∷ []
   -- any head in any queue: its routes are what Selection.antt gives case by case
   pub routes-every : (q p : ℕ) → q < queues → selected q p ≡ routes q p
-  -- the third dimension, a row for each clause that came with it, most of them with Z above 1
+  -- the third dimension, a row for each clause that came with it, with Z above 1 wherever the clause speaks of more than one node
   -- R142, R143, R147, a head with hops left in x+, y+ and z+: in the injection queue and the x queues x is first, then y and z; in the y queues y, then x and
   -- z; in the z queues z, then x and y; after them in each the escape queue of x. First tries them in this order
   pub adaptive-order : (map (λ q. routes q (packet 0 (pos 1) (pos 1) (pos 1))) (0 ∷ 1 ∷ 2 ∷ 7 ∷ 8 ∷ []) ≡ replicate 5 (1 ∷ 3 ∷ 5 ∷ 7 ∷ []))
@@ -481,8 +481,8 @@ pub record KeptCases : Type 0 where
       × (spare a-word ≡ 1)
       × (map (λ i. offset i a-word) (inOrder 0 dimensions) ≡ negsuc 1 ∷ pos 3 ∷ negsuc 15 ∷ [])
       × (label a-word ≡ 7 * 2 ^ 32 + 6 * 2 ^ 16 + 2 ^ 15)
-  -- R87: bit 15 set, and clear; and any network: it is clear in every packet held
-  pub spare-bit : (networkRefusal (only one-node injectionQueue (here 0 + 2 ^ 15)) ≡ 3) × (networkRefusal alone ≡ 0)
+  -- R87, 2 by 2 by 2: bit 15 set, and clear; and any network: it is clear in every packet held
+  pub spare-bit : (networkRefusal (only two-cubed injectionQueue (here 0 + 2 ^ 15)) ≡ 3) × (networkRefusal (only two-cubed injectionQueue (here 0)) ≡ 0)
   pub spare-bit-every : (w : List ℕ) (n q p : ℕ) → Within w n q p → p / 2 ^ 15 % 2 ≡ 0
   -- R76: offsets are judged as they stand, not as they would be round the ring. In a ring of 16 along each dimension, of the 32 numbers that the field can
   -- have, each with the node to which it leads: 0 to 8 pass, and 24 to 31, which stand for −8 to −1. Along z what Check says of −16, −8, 8 and 15

@@ -1,4 +1,4 @@
--- R70 to R85, the check, a definition for each clause. Order: one packet in its queue; one queue; the rings; the counters; all of it.
+-- R70 to R85 and R87, the check, a definition for each clause. Order: one packet in its queue; one queue; the rings; the counters; all of it.
 -- Assumes nothing.
 use mathlib.Core.Bool.{Bool, cond, not, _&&_, _||_}
 use mathlib.Core.List.{List}

@@ -1,4 +1,4 @@
--- R60 to R63, R67, R68, R84, R110 and R228: the packet word. Order: the fields of a word; its offsets; the word of some fields; hops left; a hop; the
+-- R60 to R63, R67 to R69, R84, R110, R145 and R228: the packet word. Order: the fields of a word; its offsets; the word of some fields; hops left; a hop; the
 -- label; the shorter way of an offer. Assumes nothing.
 use mathlib.Core.Bool.{Bool, cond, _&&_, _||_}
 use Prim.Native.Nat.{ℕ, zero, suc, _+_, _*_, _-_, _/_, _%_}
@@ -102,7 +102,7 @@ shrunk (negsuc (suc n)) = negsuc n
 unfoldable pub hop : ℕ → ℕ → ℕ
 hop i p = withOffset i (shrunk (offset i p)) p
 
--- R228: tag and destination, which no hop changes
+-- R228: tag, destination and spare bit, which no hop changes
 unfoldable pub label : ℕ → ℕ
 label p = withOffsets dimensions (λ i. pos 0) p
 

@@ -454,6 +454,10 @@ pub destination-label : (p : ℕ) → destination (label p) ≡ destination p
 unfolding label destination
 destination-label p = field-withs (λ j. pos 0) destinationField dimensions p (omega arith) (omega arith) (λ i h. zero-range)
 
+pub spare-label : (p : ℕ) → spare (label p) ≡ spare p
+unfolding label spare
+spare-label p = field-withs (λ j. pos 0) spareField dimensions p (omega arith) (omega arith) (λ i h. zero-range)
+
 pub tag-label : (p : ℕ) → tag (label p) ≡ tag p
 unfolding label
 tag-label p = tag-withs (λ j. pos 0) dimensions p (omega arith) (λ i h. zero-range)

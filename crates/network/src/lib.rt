@@ -33,7 +33,7 @@ pub const LARGEST_CAPACITY: u64 = 8;
 pub const MOST_NODES: u64 = 4096;
 
 // So many nodes are few, as many as there can be where one of the sizes is 1. What a call keeps for each node is then short: to clear it for
-// MOST_NODES would cost a call on a small network more than its work.
+// MOST_NODES would cost a call on a small network more than its work. No rule fixes this number (D96), and no definition has it.
 pub const FEW_NODES: u64 = 256;
 
 // R42: the words of the header, and where the counts of packets accepted, packets delivered and moves made stand among them.

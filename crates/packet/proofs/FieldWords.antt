@@ -16,20 +16,20 @@ pub last-dimension : (i : ℕ) → i < dimensions → (i ≡ 0 → ⊥) → (i �
 last-dimension i h no-x no-y = omega arith
 
 -- the weight of an offset's field, of each dimension
-pub weight-x : (i : ℕ) → i ≡ 0 → offsetValues * offsetValues ≡ weight fields (offsetField i)
+pub field-weight-x : (i : ℕ) → i ≡ 0 → offsetValues * offsetValues ≡ weight fields (offsetField i)
 unfolding weight
-weight-x i e = rw e refl
+field-weight-x i e = rw e refl
 
-pub weight-y : (i : ℕ) → i ≡ 1 → offsetValues ≡ weight fields (offsetField i)
+pub field-weight-y : (i : ℕ) → i ≡ 1 → offsetValues ≡ weight fields (offsetField i)
 unfolding weight
-weight-y i e = rw e refl
+field-weight-y i e = rw e refl
 
-pub weight-z : (i : ℕ) → i ≡ 2 → 1 ≡ weight fields (offsetField i)
+pub field-weight-z : (i : ℕ) → i ≡ 2 → 1 ≡ weight fields (offsetField i)
 unfolding weight
-weight-z i e = rw e refl
+field-weight-z i e = rw e refl
 
-pub weight-some : (i : ℕ) → 0 < weight fields (offsetField i)
-weight-some i = weight-pos fields (offsetField i) fields-positive
+pub field-weight-some : (i : ℕ) → 0 < weight fields (offsetField i)
+field-weight-some i = weight-pos fields (offsetField i) fields-positive
 
 -- an offset's field by its weight w
 module _ (i p w : ℕ) (h : i < dimensions) (e : w ≡ weight fields (offsetField i)) where

@@ -23,7 +23,7 @@ ghost use Rattle.network.specs.Selection.{sign};
 // Half of the values of an offset: how far the least of them stands below 0.
 pub const HALF_OFFSETS: u64 = OFFSET_VALUES / 2;
 
-// The number that an offset's field stands for, two's complement: half of the values on, and half of them back. This form is one instruction, a sign extension.
+// The number that an offset's field stands for, two's complement: half of the values on, and half of them back. This form needs no branch on the sign.
 pub fn signed(b: u64) -> i64
     requires { ⌜ b < offsetValues ⌝ }
     ensures { λ r. ⌜ r ≡ signed b ⌝ }

@@ -24,7 +24,7 @@ unfoldable pub partFits : Shape → ℕ → ℕ → List ℕ → Bool
 partFits S n q part =
     leb (countOf part) (capacity S q) && (allOf (eqb 0) (unusedOf part) && allOf (packetFits S n q) (packetsOf part))
 
--- the nine queues of node n
+-- the queues of node n
 unfoldable pub nodeTally : Shape → List ℕ → ℕ → Tally
 nodeTally S w n =
     tally (allBelow queues (λ q. queueFits S w n q)) (sumBelow queues (λ q. length (held S w n q))) (sumBelow queues (λ q. sumOf work (held S w n q)))

@@ -1,7 +1,7 @@
 -- No step is lost for want of room: where list and page have room for every network that the store can hold, every command that changes something and every move of a D is
 -- shown by its whole step (`command-whole`, `move-whole`); and whatever room there is, a step lies within the page. Order: a step within the page; a whole
--- step; the words that are shown are a network; the theorems. Assumes nothing.
-use mathlib.Core.Path.{_≡_, refl, sym, _∙_}
+-- step; the words that are shown are a network, and as many as before; the theorems. Assumes nothing.
+use mathlib.Core.Path.{_≡_, refl, ap, sym, _∙_}
 use mathlib.Core.Bool.{Bool, true, false, true≢false, _||_}
 use mathlib.Core.Logic.{_⊎_, inl, inr}
 use mathlib.Core.List.{List, [], _∷_, _++_}
@@ -10,15 +10,15 @@ use native.Mathlib.Decide.{ℕ-discrete}
 use native.Mathlib.Omega.{arith}
 use borrow.Author.Tests.{eq-eqb, ne-eqb, eqb-true, le-ltb, ltb-false}
 use lib.Dec.{ltb}
-use lib.ListN.{length, drop}
+use lib.ListN.{length, drop, replicate, length-replicate}
 use Rattle.network.specs.Sizes.{shapeOf, sized}
 use Rattle.network.specs.Layout.{shape}
 use Rattle.network.specs.Refusals.{networkRefusal, moveRefusal, moveRules}
 use Rattle.network.specs.RefusalLaws.{neither, not-refused, elseBy-zero}
-use Rattle.network.specs.Calls.{unlessRefused}
-use Rattle.network.specs.Run.{move, outcome, run, Demand3}
+use Rattle.network.specs.Calls.{unlessRefused, drainWords}
+use Rattle.network.specs.Run.{move, drain, outcome, run, Demand3}
 use Rattle.run.specs.Theorem.{demand3}
-use Rattle.run.specs.Reached.{make-passes, offer-passes}
+use Rattle.run.specs.Reached.{make-passes, make-length, offer-passes, offer-length}
 use Rattle.sheet.specs.declared.Command.{Command}
 use Rattle.session.specs.Session.{perform}
 use Rattle.waveform.specs.Dump.{variablesOf}
@@ -26,7 +26,7 @@ use Rattle.waveform.specs.DumpLaws.{variables-words}
 use Rattle.waveform.specs.Lengths.{pageRoom, step-room}
 use Rattle.waveform.specs.Calls.{fillsNow, writtenStep, writeRules, writeRefusal, writeAnswer, writeList, writePage, writtenLength}
 use Rattle.waveform.specs.Answers.{write-tells}
-use Rattle.replay.specs.Replay.{Shown, shown, stepShown, shownIf, carriedOut, changed, beginsDump, commandShown, movedOn, makesMove, moveShown}
+use Rattle.replay.specs.Replay.{Shown, shown, stepShown, shownIf, carriedOut, changed, beginsDump, commandShown, oneWord, movedOn, makesMove, moveShown}
 use Rattle.replay.specs.ReplayLaws.{Stops, Goes, move-told}
 
 -- a step that is not refused has its place on the page
@@ -84,9 +84,13 @@ unfolding stepShown wholeStep writeAnswer writeList writePage writtenLength
 step-whole words first w list page r h z = rw (eq-eqb (writeRefusal first w list page) 0 (never-short words first w list page r h z)) refl
 
 -- what a command leaves that changed something, or a move of a D, is a network
+moved-network : (w : List ℕ) (n q o : ℕ) → moveRefusal w n q o ≡ 0 → networkRefusal w ≡ 0
+unfolding moveRefusal
+moved-network w n q o z = neither (networkRefusal w) (moveRules (shape w) w n q o) z .0
+
 move-passes : (w : List ℕ) (n q o : ℕ) → moveRefusal w n q o ≡ 0 → networkRefusal (perform (Command.Move n q o) w .store) ≡ 0
-unfolding moveRefusal perform run outcome Demand3
-move-passes w n q o z = demand3 w (move n q o ∷ []) (neither (networkRefusal w) (moveRules (shape w) w n q o) z .0) .still-a-network
+unfolding perform run outcome Demand3
+move-passes w n q o z = demand3 w (move n q o ∷ []) (moved-network w n q o z) .still-a-network
 
 changed-passes : (c : Command) (w : List ℕ) → changed c w ≡ true → networkRefusal (carriedOut c w) ≡ 0
 unfolding changed carriedOut perform shapeOf
@@ -103,13 +107,34 @@ moved-passes w room t = by (move-told w room)
     by (inl s) = absurd (true≢false (sym t ∙ s .none))
     by (inr g) = g .passes
 
--- the theorems, for a store of so many words: it is the same one before and after
-pub command-whole : (words : ℕ) (c : Command) (w list page : List ℕ) → Roomy words list page → length (carriedOut c w) ≤ words → changed c w ≡ true
+-- the store stays as long as it was
+changed-length : (c : Command) (w : List ℕ) → changed c w ≡ true → length (carriedOut c w) ≡ length w
+unfolding changed carriedOut perform shapeOf run outcome Demand3
+changed-length (Command.Make x y z e a j) w t = make-length (shapeOf (sized x y z e a j)) w refl (eqb-true _ 0 t)
+changed-length (Command.Offer node destination tag) w t = offer-length w node destination tag (eqb-true _ 0 t)
+changed-length (Command.Move node queue output) w t = demand3 w (move node queue output ∷ []) (moved-network w node queue output (eqb-true _ 0 t)) .same-length
+changed-length (Command.Drain budget) w t = refl
+changed-length Command.Bad w t = refl
+
+moved-length : (w : List ℕ) (room : ℕ) → length (movedOn w room) ≡ length w
+unfolding movedOn drainWords run outcome Demand3
+moved-length w room = go (ℕ-discrete (networkRefusal w) 0)
+  where
+    go : Dec (networkRefusal w ≡ 0) → length (movedOn w room) ≡ length w
+    go (yes z) =
+        ap (λ (k : ℕ). length (drainWords w 1 k)) (sym (length-replicate (oneWord room) 0))
+        ∙ demand3 w (drain 1 (replicate (oneWord room) 0) ∷ []) z .same-length
+    go (no ne) = rw (ne-eqb (networkRefusal w) 0 ne) refl
+
+-- the theorems, for a store of so many words
+pub command-whole : (words : ℕ) (c : Command) (w list page : List ℕ) → Roomy words list page → length w ≤ words → changed c w ≡ true
     → commandShown c w list page ≡ wholeStep (beginsDump c) (carriedOut c w) list page
 unfolding commandShown shownIf
-command-whole words c w list page r h t = rw t (step-whole words (beginsDump c) (carriedOut c w) list page r h (changed-passes c w t))
+command-whole words c w list page r h t =
+    rw t (step-whole words (beginsDump c) (carriedOut c w) list page r (let l = changed-length c w t in omega arith) (changed-passes c w t))
 
-pub move-whole : (words : ℕ) (w : List ℕ) (room : ℕ) (list page : List ℕ) → Roomy words list page → length (movedOn w room) ≤ words → makesMove w room ≡ true
+pub move-whole : (words : ℕ) (w : List ℕ) (room : ℕ) (list page : List ℕ) → Roomy words list page → length w ≤ words → makesMove w room ≡ true
     → moveShown w room list page ≡ wholeStep false (movedOn w room) list page
 unfolding moveShown shownIf
-move-whole words w room list page r h t = rw t (step-whole words false (movedOn w room) list page r h (moved-passes w room t))
+move-whole words w room list page r h t =
+    rw t (step-whole words false (movedOn w room) list page r (let l = moved-length w room in omega arith) (moved-passes w room t))

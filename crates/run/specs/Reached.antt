@@ -7,9 +7,9 @@ use mathlib.Core.Bool.{Bool, true, false, not, _||_}
 use mathlib.Core.List.{List, [], _∷_, _++_}
 use Prim.Native.Nat.{ℕ, suc, _+_, _*_, _-_, _^_, _<_, _≤_}
 use native.Mathlib.Omega.{arith}
-use borrow.Author.Tests.{eq-eqb, leb-false, eqb-false}
-use lib.Dec.{T, leb, eqb}
-use lib.ListN.{length, getD, drop, replicate, length-append, length-replicate, getD-replicate, List·getD-append}
+use borrow.Author.Tests.{eq-eqb, leb-false, eqb-false, ltb-false}
+use lib.Dec.{T, leb, ltb, eqb}
+use lib.ListN.{length, getD, drop, replicate, length-append, length-replicate, length-drop, getD-replicate, List·getD-append}
 use lib.Seq.{ext-getD, getD-append-add}
 use Rattle.base.specs.Tests.{allOf}
 use Rattle.base.specs.Sums.{sumOf, sumBelow, sum-zero, sumOf-append}
@@ -123,13 +123,16 @@ module _ (s : Sizes) (rest : List ℕ) where
   unfolding blanks
   blanks-length = length-replicate (nodes S * nodeWords S) 0
 
-  made-long : need S ≤ length made
+  made-length : length made ≡ need S + length rest
   unfolding header need S shapeOf
-  made-long =
+  made-length =
       let l : length made ≡ headerWords + (length blanks + length rest) =
       ap length made-is ∙ length-append header (blanks ++ rest) ∙ ap (λ (m : ℕ). headerWords + m) (length-append blanks rest) in
       let r = blanks-length in
       omega arith
+
+  made-long : need S ≤ length made
+  made-long = let l = made-length in omega arith
 
   made-zeros : (i : ℕ) → headerWords ≤ i → i < need S → getD made i 0 ≡ 0
   unfolding header blanks need S shapeOf
@@ -183,6 +186,19 @@ make-passes S w all-dimensions e =
     (subst (λ (R : Shape). networkRefusal (emptyNetwork R ++ drop (need S) w) ≡ 0) (sym whole)
     (made-passes (sizesOf S) (drop (need S) w)
     (subst (λ (R : Shape). T (sizesInRange R)) whole (passed (sizesInRange S) range))))
+
+-- the store is as long as it was
+pub make-length : (S : Shape) (w : List ℕ) → length (S .sizes) ≡ dimensions → makeRefusal S w ≡ 0 → length (makeWords S w) ≡ length w
+unfolding makeWords makeRefusal made S
+make-length S w all-dimensions e =
+    let (range, rest) = not-refused (not (sizesInRange S)) 1 _ e in
+    let (short, none) = not-refused (ltb (length w) (need S)) 0 _ rest in
+    let long : need S ≤ length w = ltb-false (length w) (need S) short in
+    let whole : S ≡ shapeOf (sizesOf S) = shape-is S all-dimensions in
+    let l : length (emptyNetwork S ++ drop (need S) w) ≡ need S + length (drop (need S) w) =
+    subst (λ (R : Shape). length (emptyNetwork R ++ drop (need S) w) ≡ need R + length (drop (need S) w)) (sym whole) (made-length (sizesOf S) (drop (need S) w)) in
+    let d = length-drop (need S) w in
+    rw (eq-eqb (makeRefusal S w) 0 e) (omega arith)
 
 -- The packet of an offer ----------------------------------------------------------------------------------------------------------------
 
@@ -371,6 +387,15 @@ offer-passes w n dest tag e =
     let (network, rules) = neither (networkRefusal w) (offerRules (shape w) w n dest) e in
     let A : Accepting (shape w) w n dest = accepting (shape w) w n dest (network-passed w network) rules in
     rw (eq-eqb (offerRefusal w n dest) 0 e) (joined-passes w n dest tag network A)
+
+-- and leaves the store as long as it was
+pub offer-length : (w : List ℕ) (n dest tag : ℕ) → offerRefusal w n dest ≡ 0 → length (offerWords w n dest tag) ≡ length w
+unfolding offerWords offerRefusal afterOffer after put joined p
+offer-length w n dest tag e =
+    let (network, rules) = neither (networkRefusal w) (offerRules (shape w) w n dest) e in
+    let N : Network (shape w) w = network-passed w network in
+    let A : Accepting (shape w) w n dest = accepting (shape w) w n dest N rules in
+    rw (eq-eqb (offerRefusal w n dest) 0 e) (after-length (shape w) w n dest tag (torus w N) N (A .node) (A .addressed) (A .free) (A .fewer))
 
 -- R174: the packet of an offer that is not refused has a hop to make: where it is handed out, it has crossed a link
 pub offer-hops : (w : List ℕ) (n dest tag : ℕ) → offerRefusal w n dest ≡ 0 → hopsLeft (offered (shape w) n dest tag) ≢ 0

@@ -1,6 +1,7 @@
 -- `changes::make_move` meets its contract, by whether the move is a delivery. Assumes nothing.
 use borrow.Author.Needs.{needs}
 use native.Mathlib.Omega.{arith}
+use Rattle.network.specs.Routes.{target}
 use Rattle.changes.proofs.make_move.Statement.{statement}
 use Rattle.changes.proofs.make_move.Tie as tie
 
@@ -15,6 +16,7 @@ neighbour-requires c κs =
     (s .pre .0 .in-range, omega arith, s .pre .1 .node)
 
 move-to-requires-2 : tie.Need-move-to-requires-2
+unfolding target
 move-to-requires-2 c κs =
     let t = c .before in
     let s = t .before .before .before in

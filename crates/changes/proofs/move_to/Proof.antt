@@ -4,6 +4,7 @@ use borrow.Author.Needs.{needs}
 use native.Mathlib.Omega.{arith}
 use Rattle.network.specs.Sizes.{shapeOf}
 use Rattle.network.specs.TorusLaws.{sizes-torus}
+use Rattle.network.specs.Routes.{target}
 use Rattle.changes.proofs.ChangeLaws.{Left, network-checked, delivered-left, moves-handed, handed-words, target-checked, target-room, moves-arrived, moved-words}
 use Rattle.changes.proofs.move_to.Statement.{statement}
 use Rattle.changes.proofs.move_to.Tie as tie
@@ -49,6 +50,7 @@ abbrev start : tie.After-pop → tie.Start
 start v = v .before .before .before
 
 push-requires : tie.Need-push-requires
+unfolding target
 push-requires c κs =
     let else = c .before .before in
     let v = else .before .before .before in
@@ -58,6 +60,7 @@ push-requires c κs =
     (target-checked k (start v .args .there) away there, target-room k (start v .args .there) away there)
 
 raise-requires-3 : tie.Need-raise-requires-3
+unfolding target
 raise-requires-3 c κs =
     let u = c .before .before .before in
     let h = u .before .before in
@@ -67,6 +70,7 @@ raise-requires-3 c κs =
     (u .push .last .0) (u .push .ensures)
 
 returns-2 : tie.Need-returns-2
+unfolding target
 returns-2 c =
     let x = c .before .before in
     let u = x .before .before .before .before in

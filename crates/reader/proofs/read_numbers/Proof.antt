@@ -1,4 +1,4 @@
--- `reader::read_numbers` meets its contract. The loop's invariant is `Gathered`: the fields before `at` are numbers, and the first five of them are
+-- `reader::read_numbers` meets its contract. The loop's invariant is `Gathered`: the fields before `at` are numbers, and the first of them are
 -- held. Assumes nothing.
 use mathlib.Core.Path.{sym, _∙_}
 use mathlib.Core.Logic.{⊎-elim}

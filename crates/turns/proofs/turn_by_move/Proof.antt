@@ -4,6 +4,7 @@ use native.Mathlib.Omega.{arith}
 use denote.Ref.{now}
 use Rattle.network.specs.Sizes.{shapeOf}
 use Rattle.network.specs.TorusLaws.{sizes-torus, sizes-nodes}
+use Rattle.network.specs.Routes.{target}
 use Rattle.near.specs.Table.{entry-within}
 use Rattle.turns.specs.Turned.{turned-passed, turned-delivered, turned-full}
 use Rattle.turns.proofs.turn_by_move.Statement.{statement}
@@ -18,6 +19,7 @@ look-up-requires c κs =
 
 -- the node that was looked up is that of the target
 move-to-requires : tie.Need-move-to-requires
+unfolding target
 move-to-requires c κs =
     let t = c .before in
     let a = t .before .before .before .before .before in
