@@ -116,6 +116,37 @@ module _ (l : List ℕ) (i : ℕ) where
   pub four-on : i + 3 < length l → four ≡ 0 → allOf (eqb 0) (drop (i + 4) l) ≡ allOf (eqb 0) (drop i l)
   four-on h e = sym (four-words h ∙ and-on _ _ (eq-eqb four 0 e))
 
+-- eight by eight, which are two fours
+module _ (l : List ℕ) (i : ℕ) where
+  abbrev eight : ℕ
+  eight = bitOr (four l i) (bitOr (bitOr (getD l (i + 4) 0) (getD l (i + 5) 0)) (bitOr (getD l (i + 6) 0) (getD l (i + 7) 0)))
+
+  eight-words : i + 7 < length l → allOf (eqb 0) (drop i l) ≡ eqb eight 0 && allOf (eqb 0) (drop (i + 8) l)
+  eight-words h =
+      let fifth : i + 4 + 1 ≡ i + 5 = omega arith in
+      let sixth : i + 4 + 2 ≡ i + 6 = omega arith in
+      let seventh : i + 4 + 3 ≡ i + 7 = omega arith in
+      let eighth : i + 4 + 4 ≡ i + 8 = omega arith in
+      four-words l i (omega arith)
+      ∙ ap (λ (t : Bool). eqb (four l i) 0 && t)
+      (four-words l (i + 4) (omega arith)
+      ∙ ap₂ (λ (a b : ℕ). behind a b (i + 4 + 3) (i + 4 + 4)) fifth sixth
+      ∙ ap₂ (behind (i + 5) (i + 6)) seventh eighth)
+      ∙ regroup (eqb (four l i) 0) (eqb y 0) (allOf (eqb 0) (drop (i + 8) l))
+      ∙ ap (λ (t : Bool). t && allOf (eqb 0) (drop (i + 8) l)) (ap₂ (λ (s t : Bool). s && t) (either-way (four l i)) (either-way y) ∙ sym (or-none (four l i) y))
+    where
+      y : ℕ
+      y = bitOr (bitOr (getD l (i + 4) 0) (getD l (i + 5) 0)) (bitOr (getD l (i + 6) 0) (getD l (i + 7) 0))
+
+      behind : ℕ → ℕ → ℕ → ℕ → Bool
+      behind a b c d = eqb (bitOr (bitOr (getD l (i + 4) 0) (getD l a 0)) (bitOr (getD l b 0) (getD l c 0))) 0 && allOf (eqb 0) (drop d l)
+
+  pub eight-stop : i + 7 < length l → (eight ≡ 0 → ⊥) → false ≡ allOf (eqb 0) (drop i l)
+  eight-stop h ne = sym (eight-words h ∙ and-stop _ _ (ne-eqb eight 0 ne))
+
+  pub eight-on : i + 7 < length l → eight ≡ 0 → allOf (eqb 0) (drop (i + 8) l) ≡ allOf (eqb 0) (drop i l)
+  eight-on h e = sym (eight-words h ∙ and-on _ _ (eq-eqb eight 0 e))
+
 -- the first i have passed, and the sum of theirs is `sum`
 pub record Left (f : ℕ → Bool) (g : ℕ → ℕ) (l : List ℕ) (i sum : ℕ) : Type 0 where
   pub tests : allOf f (drop i l) ≡ allOf f l

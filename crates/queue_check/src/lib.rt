@@ -64,8 +64,8 @@ fn pairs_zero(part: &[u64], from: usize) -> bool
     true
 }
 
-// The same, four at a time and then the rest: a network is mostly unused words, and an empty one nothing else.
-fn all_zero(part: &[u64], from: usize) -> bool
+// The same, four at a time and then the rest.
+fn fours_zero(part: &[u64], from: usize) -> bool
     requires { ⌜ from ≤ length (now part) ⌝ }
     ensures { λ r. ⌜ r ≡ allOf (eqb 0) (drop from (now (part .entry))) ⌝ }
 {
@@ -78,6 +78,24 @@ fn all_zero(part: &[u64], from: usize) -> bool
         i += 4;
     }
     pairs_zero(part, i)
+}
+
+// The same, eight at a time, as many as an empty queue can have, and then the rest: a network is mostly unused words, and an empty one nothing else.
+fn all_zero(part: &[u64], from: usize) -> bool
+    requires { ⌜ from ≤ length (now part) ⌝ }
+    ensures { λ r. ⌜ r ≡ allOf (eqb 0) (drop from (now (part .entry))) ⌝ }
+{
+    let mut i = from;
+    while i + 7 < part.len() {
+        let low = part[i] | part[i + 1] | (part[i + 2] | part[i + 3]);
+        let high = part[i + 4] | part[i + 5] | (part[i + 6] | part[i + 7]);
+        let eight = low | high;
+        if eight != 0 {
+            return false;
+        }
+        i += 8;
+    }
+    fours_zero(part, i)
 }
 
 // The packets of a queue's words, which hold no more than they have room for.

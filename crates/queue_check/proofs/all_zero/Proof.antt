@@ -5,7 +5,7 @@ use native.Mathlib.Omega.{arith}
 use lib.Dec.{eqb}
 use lib.ListN.{length, drop}
 use Rattle.base.specs.Tests.{allOf}
-use Rattle.queue_check.proofs.Tallies.{four-stop, four-on}
+use Rattle.queue_check.proofs.Tallies.{eight-stop, eight-on}
 use Rattle.queue_check.proofs.all_zero.Statement.{statement}
 use Rattle.queue_check.proofs.all_zero.Tie as tie
 
@@ -20,19 +20,19 @@ loop-holds c = (refl, c .before .pre)
 
 returns : tie.Need-returns Inv-loop μ-loop
 returns c =
-    let l = c .before .before .before .before .before .before in
-    four-stop (l .before .before .args .part .now) (l .loop .i) (c .before .before .before .before .before .loop-test .taken) (c .if1 .taken) ∙ l .loop .inv .0
+    let l = c .before .before .before .before .before .before .before .before .before .before in
+    eight-stop (l .before .before .args .part .now) (l .loop .i) (c .before .before .before .before .before .before .before .before .before .loop-test .taken) (c .if1 .taken) ∙ l .loop .inv .0
 
 loop-again : tie.Need-loop-again Inv-loop μ-loop
 loop-again c =
-    let l = c .before .before .before .before .before .before in
-    (four-on (l .before .before .args .part .now) (l .loop .i) (c .before .before .before .before .before .loop-test .taken) (c .if1 .left) ∙ l .loop .inv .0, omega arith)
+    let l = c .before .before .before .before .before .before .before .before .before .before in
+    (eight-on (l .before .before .args .part .now) (l .loop .i) (c .before .before .before .before .before .before .before .before .before .loop-test .taken) (c .if1 .left) ∙ l .loop .inv .0, omega arith)
 
-pairs-zero-requires : tie.Need-pairs-zero-requires Inv-loop μ-loop
-pairs-zero-requires c κs = c .before .loop .inv .1
+fours-zero-requires : tie.Need-fours-zero-requires Inv-loop μ-loop
+fours-zero-requires c κs = c .before .loop .inv .1
 
 returns-2 : tie.Need-returns-2 Inv-loop μ-loop
-returns-2 c = c .pairs-zero .ensures ∙ c .before .before .loop .inv .0
+returns-2 c = c .fours-zero .ensures ∙ c .before .before .loop .inv .0
 
 pub all-zero-spec : {M : Type 1} → statement M
 all-zero-spec =
@@ -53,9 +53,21 @@ all-zero-spec =
     (λ c. omega arith)
     (λ c. omega arith)
     (λ c. omega arith)
+    (λ c. omega arith)
+    (λ c. omega arith)
+    (λ c. omega arith)
+    (λ c. omega arith)
+    (λ c. omega arith)
+    (λ c. omega arith)
+    (λ c. omega arith)
+    (λ c. omega arith)
+    (λ c. omega arith)
+    (λ c. omega arith)
+    (λ c. omega arith)
+    (λ c. omega arith)
     returns
     (λ c. omega arith)
     (λ c. omega arith)
     loop-again
-    pairs-zero-requires
+    fours-zero-requires
     returns-2)
