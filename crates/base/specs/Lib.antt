@@ -5,3 +5,4 @@ pub mod Sums
 pub mod Digits
 pub mod Numbers
 pub mod Parts
+pub mod Bits

@@ -17,8 +17,9 @@ use lib.ListN.{length, getD, set, length-set, replicate, length-replicate, List�
 use lib.Pow.{pow-pos, shl-exact}
 use lib.Seq.{getD-set-same, getD-set-other}
 use Rattle.network.specs.Sizes.{queues}
-use Rattle.headset.specs.Set.{nodeHeads, heads, firstWord, firstHead, setWords, wordNodes, nodeBits, bit, bitOf, member, IsSet, Replaced, put, BitPut, Filled, United, Inserted, NodeInserted, Removed, LowestBit, Lowest}
-use Rattle.headset.proofs.WordBits.{bit-none, bit-or, bit-ones, bit-one, bit-put, one-bit, one-exact, shifted-below, shifted-from}
+use Rattle.base.specs.Bits.{bit, bit-none, bit-or, bit-ones, bit-one, one-bit, one-exact, shifted-below, shifted-from}
+use Rattle.headset.specs.Set.{nodeHeads, heads, firstWord, firstHead, setWords, wordNodes, nodeBits, bitOf, member, IsSet, Replaced, put, BitPut, Filled, United, Inserted, NodeInserted, Removed, LowestBit, Lowest}
+use Rattle.headset.proofs.WordBits.{bit-put}
 
 -- A word replaced, a bit set or cleared --------------------------------------------------------------------------------------------------
 

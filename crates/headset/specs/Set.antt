@@ -9,6 +9,7 @@ use Prim.Native.Nat.{ℕ, _+_, _*_, _/_, _%_, _-_, _^_, _<_, _≤_}
 use lib.Bits.{bitAnd, bitOr}
 use lib.Dec.{eqb, ltb}
 use lib.ListN.{length, getD}
+use Rattle.base.specs.Bits.{bit}
 use Rattle.network.specs.Sizes.{queues, mostNodes}
 
 -- the numbers of a node's heads, and of the heads of all nodes
@@ -35,10 +36,7 @@ wordNodes = 64 / nodeHeads
 abbrev pub nodeBits : ℕ
 nodeBits = 2 ^ queues - 1
 
--- bit j of the word is set; bit k of the words is; head h is a member
-unfoldable pub bit : ℕ → ℕ → Bool
-bit word j = eqb (word / 2 ^ j % 2) 1
-
+-- bit k of the words is set; head h is a member
 unfoldable pub bitOf : List ℕ → ℕ → Bool
 bitOf set k = bit (getD set (k / 64) 0) (k % 64)
 

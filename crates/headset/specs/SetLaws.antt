@@ -8,7 +8,8 @@ use native.Mathlib.Decide.{decLt}
 use native.Mathlib.Omega.{arith}
 use lib.Dec.{eqb}
 use lib.ListN.{List·getD-eq-default}
-use Rattle.headset.specs.Set.{heads, firstHead, bit, bitOf, member, IsSet, Lowest}
+use Rattle.base.specs.Bits.{bit}
+use Rattle.headset.specs.Set.{heads, firstHead, bitOf, member, IsSet, Lowest}
 
 pub none-beyond : (set : List ℕ) → IsSet set → (m : ℕ) → heads ≤ m → member set m ≡ false
 unfolding member bitOf bit

@@ -4,7 +4,6 @@ pub mod torus;
 
 use network::DESTINATION_AT;
 use network::DESTINATION_VALUES;
-use network::DIMENSIONS;
 use network::OFFSET_VALUES;
 use network::SPARE_AT;
 use network::SPARE_VALUES;
@@ -14,7 +13,7 @@ ghost use Prim.Native.Nat.{_<_, _≤_};
 ghost use lib.IntN.{natAbs};
 ghost use Rattle.base.specs.Digits.{digit, weight};
 ghost use Rattle.network.specs.Sizes.{dimensions, largestRing};
-ghost use Rattle.network.specs.Packet.{offsetValues, fields, offsetField, signed, unsigned, offset, withOffset, distance, shrunk, hop, hopsLeft, work, destination, spare, shorterWay};
+ghost use Rattle.network.specs.Packet.{offsetValues, fields, offsetField, signed, unsigned, offset, withOffset, shrunk, hop, destination, spare, shorterWay};
 ghost use Rattle.network.specs.PacketLaws.{OffsetRange};
 ghost use Rattle.network.specs.Selection.{sign};
 
@@ -115,14 +114,7 @@ pub fn with_offset(i: u64, z: i64, p: u64) -> u64
     p - offset_field(i, p) * w + unsigned(z) * w
 }
 
-// Hops left -----------------------------------------------------------------------------------------------------------------
-
-fn distance(i: u64, p: u64) -> u64
-    requires { ⌜ i < dimensions ⌝ }
-    ensures { λ r. ⌜ r ≡ distance i p ⌝ }
-{
-    nat_abs(offset(i, p))
-}
+// The way of an offset ------------------------------------------------------------------------------------------------------
 
 // Whether the hops left along dimension i go plus or minus, or there are none.
 pub fn sign(i: u64, p: u64) -> Sign
@@ -137,25 +129,6 @@ pub fn sign(i: u64, p: u64) -> Sign
     } else {
         Sign::Zero
     }
-}
-
-pub fn hops_left(p: u64) -> u64
-    ensures { λ r. ⌜ r ≡ hopsLeft p ⌝ }
-{
-    let mut hops = 0;
-    let mut i = 0;
-    while i < DIMENSIONS {
-        hops += distance(i, p);
-        i += 1;
-    }
-    hops
-}
-
-// A packet's part of the work left.
-pub fn work(p: u64) -> u64
-    ensures { λ r. ⌜ r ≡ work p ⌝ }
-{
-    hops_left(p) + 1
 }
 
 // A hop ---------------------------------------------------------------------------------------------------------------------

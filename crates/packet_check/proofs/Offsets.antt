@@ -1,20 +1,24 @@
--- An offset by how far it stands above the least that its field can stand for: its hops forward and back, its limits, a coordinate moved by it. Assumes nothing.
-use mathlib.Core.Path.{_≡_, refl, ap, sym, _∙_}
-use mathlib.Core.Logic.{inl, inr}
-use mathlib.Core.Bool.{Bool, true, false, _&&_}
+-- An offset by how far it stands above the least that its field can stand for. Order: its hops forward and back; whether it passes; its distance; a
+-- coordinate moved by it. Assumes nothing.
+use mathlib.Core.Path.{_≡_, ap, sym, _∙_}
+use mathlib.Core.Logic.{_⊎_, inl, inr}
+use mathlib.Core.Bool.{_&&_}
 use Prim.Native.Nat.{ℕ, _+_, _*_, _-_, _%_, _<_, _≤_}
-use native.Mathlib.Decide.{decLt}
+use native.Mathlib.Decide.{decLt, ℕ-discrete}
 use native.Mathlib.Omega.{arith}
-use borrow.Author.Tests.{le-ltb}
-use lib.Dec.{ltb, ltb→lt, lt→ltb}
+use lib.Dec.{T, leb, ltb, leb→le, le→leb, ltb→lt, lt→ltb}
 use Rattle.base.specs.Tests.{and-l, and-r, and-i}
-use Rattle.base.specs.Bools.{same-test, and-stop}
-use Rattle.network.specs.Sizes.{plus, minus, largestRing}
+use Rattle.base.specs.Bools.{same-test}
+use Rattle.base.specs.Bits.{bit, bit-row}
 use Rattle.base.specs.Digits.{digit}
+use Rattle.network.specs.Sizes.{shapeOf, sizesInRange, plus, minus}
 use Rattle.network.specs.Packet.{fields, offsetField, signed, forward, backward, offset, hops, offsetValues}
 use Rattle.network.specs.PacketLaws.{halfOffsets, signed-small, signed-large, hops-plus, hops-minus}
 use Rattle.packet.specs.GeometryLaws.{moved-is}
-use Rattle.packet_check.specs.PacketLimits.{OneWay}
+use Rattle.network.specs.declared.Sizes.{Sizes}
+use Rattle.packet_check.specs.PacketLimits.{limit, OneWay, within}
+use Rattle.packet_check.specs.LimitLaws.{limit-none, limit-half}
+use Rattle.packet_check.specs.Tables.{distanceAt, passing}
 
 -- half of the values more than the number that a field stands for
 signed-above : (b : ℕ) → b < offsetValues → (b + halfOffsets) % offsetValues + backward (signed b) ≡ halfOffsets + forward (signed b)
@@ -33,38 +37,64 @@ above-is i p b e small =
     ∙ signed-above b small
     ∙ ap (λ (v : ℕ). halfOffsets + v) (ap (λ (x : ℕ). forward (signed x)) e ∙ sym (hops-plus i p))
 
-module _ (forward back above f b : ℕ) where
-  pub too-far : forward ≤ f → false ≡ (ltb f forward && ltb b back)
-  too-far l = sym (and-stop _ _ (le-ltb f forward l))
+-- neither limit is 0, or one is and the other is 1
+abbrev pub Some : ℕ → ℕ → Type 0
+Some forward back = ((1 ≤ forward) × (1 ≤ back)) ⊎ (forward + back ≡ 1)
 
-  pub none-back : back ≤ b → false ≡ (ltb f forward && ltb b back)
-  none-back l = sym (ap (λ (t : Bool). ltb f forward && t) (le-ltb b back l) ∙ never (ltb f forward))
+pub one-passing : (forward back : ℕ) → Some forward back → 1 ≤ forward + back
+one-passing forward back (inl n) = let x = n .0 in omega arith
+one-passing forward back (inr n) = omega arith
+
+-- Offsets in a row: as many as both limits let pass, 0 being counted once, from the last one back on. Where a limit is 0, none passes.
+module _ (forward back a f b : ℕ) where
+  abbrev first : ℕ
+  first = halfOffsets + 1 - back
+
+  abbrev end : ℕ
+  end = halfOffsets + 1 - back + (forward + back - 1)
+
+  there : Some forward back → OneWay f b → back ≤ halfOffsets → a + b ≡ halfOffsets + f → first ≤ a → a < end → (f < forward) × (b < back)
+  there (inl n) (inl z) h e l m = let x = n .0 in let y = n .1 in (omega arith, omega arith)
+  there (inl n) (inr z) h e l m = let x = n .0 in let y = n .1 in (omega arith, omega arith)
+  there (inr n) w h e l m = absurd (let x : ⊥ = omega arith in x)
+
+  in-row : Some forward back → OneWay f b → back ≤ halfOffsets → a + b ≡ halfOffsets + f → leb first a && ltb a end ≡ ltb f forward && ltb b back
+  in-row some way h e =
+      same-test (leb first a && ltb a end) (ltb f forward && ltb b back)
+      (λ t.
+      let p = there some way h e (leb→le first a (and-l (leb first a) (ltb a end) t)) (ltb→lt a end (and-r (leb first a) (ltb a end) t)) in
+      and-i (ltb f forward) (ltb b back) (lt→ltb f forward (p .0)) (lt→ltb b back (p .1)))
+      (λ t.
+      let l = ltb→lt f forward (and-l (ltb f forward) (ltb b back) t) in
+      let m = ltb→lt b back (and-r (ltb f forward) (ltb b back) t) in
+      and-i (leb first a) (ltb a end) (le→leb first a (omega arith)) (lt→ltb a end (omega arith)))
+
+-- those of dimension i in queue q
+module _ (s : Sizes) (q i : ℕ) (t : T (sizesInRange (shapeOf s))) where
+  abbrev forwards : ℕ
+  forwards = limit (shapeOf s) q (plus i)
+
+  abbrev backs : ℕ
+  backs = limit (shapeOf s) q (minus i)
+
+  pub some-passing : Some forwards backs
+  some-passing = by (ℕ-discrete forwards 0) (ℕ-discrete backs 0)
     where
-      never : (t : Bool) → t && false ≡ false
-      never true = refl
-      never false = refl
+      by : Dec (forwards ≡ 0) → Dec (backs ≡ 0) → Some forwards backs
+      by (yes z) d = let e = limit-none (shapeOf s) q (plus i) z (minus i) (λ x. omega arith) (omega arith) in inr (omega arith)
+      by (no x) (yes z) = let e = limit-none (shapeOf s) q (minus i) z (plus i) (λ x. omega arith) (omega arith) in inr (omega arith)
+      by (no x) (no y) = inl (omega arith, omega arith)
 
-  -- both tests by one: where neither limit is 0, an offset's place above the lowest that passes is compared with how many pass
-  pub one-test : 1 ≤ forward → forward ≤ largestRing → 1 ≤ back → back ≤ largestRing → above < offsetValues → OneWay f b → above + b ≡ halfOffsets + f
-      → ltb ((above + halfOffsets + back - 1) % offsetValues) (forward + back - 1) ≡ (ltb f forward && ltb b back)
-  one-test hf lf hb lb l way e =
-      same-test (ltb shifted passing) (ltb f forward && ltb b back)
-      (λ t. let p = there way (ltb→lt shifted passing t) in and-i (ltb f forward) (ltb b back) (lt→ltb f forward (p .0)) (lt→ltb b back (p .1)))
-      (λ t. lt→ltb shifted passing (again way (ltb→lt f forward (and-l (ltb f forward) (ltb b back) t)) (ltb→lt b back (and-r (ltb f forward) (ltb b back) t))))
-    where
-      shifted : ℕ
-      shifted = (above + halfOffsets + back - 1) % offsetValues
+  pub passing-is : (a f b : ℕ) → OneWay f b → a + b ≡ halfOffsets + f → bit (passing (shapeOf s) q i) a ≡ within (shapeOf s) q i f b
+  unfolding passing within
+  passing-is a f b way e =
+      bit-row (forwards + backs - 1) (halfOffsets + 1 - backs) a ∙ in-row forwards backs a f b some-passing way (limit-half s q (minus i) t) e
 
-      passing : ℕ
-      passing = forward + back - 1
-
-      there : OneWay f b → (above + halfOffsets + back - 1) % offsetValues < forward + back - 1 → (f < forward) × (b < back)
-      there (inl z) m = (omega arith, omega arith)
-      there (inr z) m = (omega arith, omega arith)
-
-      again : OneWay f b → f < forward → b < back → (above + halfOffsets + back - 1) % offsetValues < forward + back - 1
-      again (inl z) m n = omega arith
-      again (inr z) m n = omega arith
+-- how far from 0
+pub distance-of : (a f b : ℕ) → OneWay f b → a + b ≡ halfOffsets + f → distanceAt a ≡ f + b
+unfolding distanceAt
+distance-of a f b (inl z) e = omega arith
+distance-of a f b (inr z) e = omega arith
 
 pub moved-above : (c k above f b : ℕ) → 0 < k → b ≤ k → above + b ≡ halfOffsets + f → halfOffsets < above + k → (c + above + k - halfOffsets) % k ≡ (c + (f * 1 + b * (k - 1))) % k
 moved-above c k above f b h l e m = ap (λ (n : ℕ). n % k) (same) ∙ moved-is c f b k h l

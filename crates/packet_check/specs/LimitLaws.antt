@@ -2,27 +2,23 @@
 -- are small; the limits from the clauses, and the clauses from the limits. `d` is a direction, `i` a dimension. Assumes nothing.
 use mathlib.Core.Path.{_≡_, refl, ap, sym, _∙_}
 use mathlib.Core.Logic.{_⊎_, inl, inr, _≢_}
-use mathlib.Core.List.{List}
 use mathlib.Core.Bool.{Bool, true, false, cond, not, _&&_}
 use Prim.Native.Nat.{ℕ, _+_, _/_, _%_, _<_, _≤_}
-use native.Mathlib.Nat.{lt-of-lt-of-le}
 use native.Mathlib.Decide.{ℕ-discrete, decLt}
 use native.Mathlib.Omega.{arith}
 use borrow.Author.Tests.{eq-eqb, ne-eqb, lt-ltb, le-ltb}
-use lib.ListN.{length, getD, set, replicate, length-set, length-replicate}
-use lib.Seq.{getD-set-same, getD-set-other}
 use lib.Dec.{T, ltb, eqb, ltb→lt, lt→ltb, eqb→eq}
 use Rattle.base.specs.Tests.{all-at, all-by, and-l, and-r, and-i, T-true, passed?, T-false}
 use Rattle.base.specs.Bools.{same-test}
 use Rattle.network.specs.Sizes.{Shape, shapeOf, sizesInRange, size, nodes, dimensions, directions, dimensionOf, directionOf, isEscape, isPlus, plus, minus, injectionQueue}
 use Rattle.network.specs.Packet.{destination, spare, distance, hops}
-use Rattle.network.specs.PacketLaws.{one-way, distance-is, hops-le, dimension-lt}
+use Rattle.network.specs.PacketLaws.{halfOffsets, one-way, distance-is, hops-le, dimension-lt}
 use Rattle.network.specs.Torus.{movedBy}
-use Rattle.network.specs.TorusLaws.{Torus, sizes-torus, size-pos, movedBy-lt}
+use Rattle.network.specs.TorusLaws.{Torus, sizes-torus, size-pos, inRange-size, movedBy-lt}
 use Rattle.network.specs.Check.{longest, isQueueOf, reach, opposite, spareClear, packetFits}
 use Rattle.network.specs.CheckLaws.{PacketFits, packet-of, packet-by, eq-T, reach-least, reach-other, opposite-dimension, opposite-lt}
 use Rattle.network.specs.declared.Sizes.{Sizes}
-use Rattle.packet_check.specs.PacketLimits.{limit, LimitsOf, LimitsFit, belowAlong, belowLimits, fitsWithin, NoRound}
+use Rattle.packet_check.specs.PacketLimits.{limit, within, belowAlong, belowLimits}
 
 -- The limits by the queue's direction -------------------------------------------------------------------------------------------------
 
@@ -98,64 +94,68 @@ module _ (S : Shape) (q d : ℕ) where
 half-most : (k : ℕ) → 1 ≤ k → k / 2 + 1 ≤ k
 half-most k h = omega arith
 
-pub limits-fit : (s : Sizes) (q : ℕ) (l : List ℕ) → T (sizesInRange (shapeOf s)) → LimitsOf (shapeOf s) q l → LimitsFit s l
-limits-fit s q l t of d h =
+-- none is more than the whole ring
+pub limit-size : (s : Sizes) (q d : ℕ) → T (sizesInRange (shapeOf s)) → d < directions → limit (shapeOf s) q d ≤ size (shapeOf s) (dimensionOf d)
+limit-size s q d t h =
     let m : limit (shapeOf s) q d ≤ longest (shapeOf s) (dimensionOf d) + 1 = limit-most (shapeOf s) q d in
     let k = half-most (size (shapeOf s) (dimensionOf d)) (size-pos (shapeOf s) (dimensionOf d) (sizes-torus s t) (dimension-lt d h)) in
-    let e = of d h in
     omega arith
 
--- the limits of the directions before d
-pub record LimitsTo (S : Shape) (q d : ℕ) (l : List ℕ) : Type 0 where
-  pub words : length l ≡ directions
-  pub at : (e : ℕ) → e < d → getD l e 0 ≡ limit S q e
+-- nor more than lets every offset that a ring can need pass
+pub limit-half : (s : Sizes) (q d : ℕ) → T (sizesInRange (shapeOf s)) → limit (shapeOf s) q d ≤ halfOffsets
+limit-half s q d t =
+    let m : limit (shapeOf s) q d ≤ longest (shapeOf s) (dimensionOf d) + 1 = limit-most (shapeOf s) q d in
+    let k = inRange-size (shapeOf s) (dimensionOf d) t in
+    omega arith
 
-pub limits-none : (S : Shape) (q : ℕ) → LimitsTo S q 0 (replicate directions 0)
-limits-none S q = record { words = length-replicate {A = ℕ} directions 0; at = λ e h. absurd (none e h) }
-  where
-    none : (e : ℕ) → e < 0 → ⊥
-    none e h = omega arith
+-- 0 is the limit of the queue's own direction alone, on a ring of one node; the other way it is 1 then
+module _ (S : Shape) (q d : ℕ) where
+  limit-some : directionOf q ≢ d → 1 ≤ limit S q d
+  unfolding limit
+  limit-some nd =
+      rw (ne-eqb (directionOf q) d nd) (by (eqb q injectionQueue) (eqb (dimensionOf (directionOf q)) (dimensionOf d)) (isEscape q && ltb (dimensionOf d) (dimensionOf (directionOf q))))
+    where
+      by : (a c t : Bool) → 1 ≤ cond a (longest S (dimensionOf d) + 1) (cond c 1 (cond t 1 (longest S (dimensionOf d) + 1)))
+      by true c t = omega arith
+      by false true t = omega arith
+      by false false true = omega arith
+      by false false false = omega arith
 
-pub limits-more : (S : Shape) (q d : ℕ) (l : List ℕ) (v : ℕ) → LimitsTo S q d l → d < directions → v ≡ limit S q d → LimitsTo S q (d + 1) (set l d v)
-limits-more S q d l v to h e = record { words = length-set l d v ∙ to .words; at = λ f k. each f k (ℕ-discrete f d) }
-  where
-    each : (f : ℕ) → f < d + 1 → Dec (f ≡ d) → getD (set l d v) f 0 ≡ limit S q f
-    each f k (yes s) =
-        let w = to .words in
-        ap (λ (i : ℕ). getD (set l d v) i 0) s ∙ getD-set-same l d v 0 (omega arith) ∙ e ∙ ap (limit S q) (sym s)
-    each f k (no ne) = getD-set-other l d f v 0 ne ∙ to .at f (omega arith)
+  pub limit-none : limit S q d ≡ 0 → (e : ℕ) → e ≢ d → dimensionOf e ≡ dimensionOf d → limit S q e ≡ 1
+  limit-none z e ne s = go (ℕ-discrete q injectionQueue) (ℕ-discrete (directionOf q) d)
+    where
+      go : Dec (q ≡ injectionQueue) → Dec (directionOf q ≡ d) → limit S q e ≡ 1
+      go (yes i) o = absurd (let l = limit-injection S q d i in let n : ⊥ = omega arith in n)
+      go (no i) (no nd) = absurd (let l = limit-some nd in let n : ⊥ = omega arith in n)
+      go (no i) (yes o) = limit-back S q e i (λ x. ne (sym x ∙ o)) (ap dimensionOf o ∙ sym s)
 
 -- hops that are below limits, direction by direction
-below-of : (l : List ℕ) (p : ℕ) → T (belowLimits l p) → (d : ℕ) → d < directions → hops d p < getD l d 0
-unfolding belowLimits belowAlong
-below-of l p t d h = by (ℕ-discrete d (plus (dimensionOf d)))
+below-of : (S : Shape) (q p : ℕ) → T (belowLimits S q p) → (d : ℕ) → d < directions → hops d p < limit S q d
+unfolding belowLimits belowAlong within
+below-of S q p t d h = by (ℕ-discrete d (plus (dimensionOf d)))
   where
     test : ℕ → Bool
-    test e = ltb (hops e p) (getD l e 0)
+    test e = ltb (hops e p) (limit S q e)
 
     both : T (test (plus (dimensionOf d)) && test (minus (dimensionOf d)))
     both = all-at dimensions (λ i. test (plus i) && test (minus i)) t (dimensionOf d) (dimension-lt d h)
 
-    passed : (e : ℕ) → d ≡ e → T (test e) → hops d p < getD l d 0
-    passed e s u = rw s (ltb→lt (hops e p) (getD l e 0) u)
+    passed : (e : ℕ) → d ≡ e → T (test e) → hops d p < limit S q d
+    passed e s u = rw s (ltb→lt (hops e p) (limit S q e) u)
 
-    by : Dec (d ≡ plus (dimensionOf d)) → hops d p < getD l d 0
+    by : Dec (d ≡ plus (dimensionOf d)) → hops d p < limit S q d
     by (yes e) = passed (plus (dimensionOf d)) e (and-l (test (plus (dimensionOf d))) (test (minus (dimensionOf d))) both)
     by (no ne) = passed (minus (dimensionOf d)) (omega arith) (and-r (test (plus (dimensionOf d))) (test (minus (dimensionOf d))) both)
 
-below-by : (l : List ℕ) (p : ℕ) → ((d : ℕ) → d < directions → hops d p < getD l d 0) → T (belowLimits l p)
-unfolding belowLimits belowAlong
-below-by l p h = all-by dimensions (λ i. test (plus i) && test (minus i)) (λ i k. and-i (test (plus i)) (test (minus i)) (passes (plus i) (omega arith)) (passes (minus i) (omega arith)))
+below-by : (S : Shape) (q p : ℕ) → ((d : ℕ) → d < directions → hops d p < limit S q d) → T (belowLimits S q p)
+unfolding belowLimits belowAlong within
+below-by S q p h = all-by dimensions (λ i. test (plus i) && test (minus i)) (λ i k. and-i (test (plus i)) (test (minus i)) (passes (plus i) (omega arith)) (passes (minus i) (omega arith)))
   where
     test : ℕ → Bool
-    test e = ltb (hops e p) (getD l e 0)
+    test e = ltb (hops e p) (limit S q e)
 
     passes : (d : ℕ) → d < directions → T (test d)
-    passes d k = lt→ltb (hops d p) (getD l d 0) (h d k)
-
--- below limits that fit, no ring is gone round
-pub no-round : (s : Sizes) (l : List ℕ) (p : ℕ) → LimitsFit s l → T (belowLimits l p) → NoRound s p
-no-round s l p f t d h = lt-of-lt-of-le (below-of l p t d h) (f d h)
+    passes d k = lt→ltb (hops d p) (limit S q d) (h d k)
 
 -- The limits from the clauses, and the clauses from the limits ------------------------------------------------------------------------
 
@@ -317,22 +317,20 @@ module _ (S : Shape) (n q p : ℕ) where
               omega arith
 
   -- the check of a packet is that of its limits
-  pub fits-is : (l : List ℕ) → LimitsOf S q l → Torus S → n < nodes S → packetFits S n q p ≡ fitsWithin S n l p
-  unfolding fitsWithin spareClear
-  fits-is l of torus hn =
-      same-test (packetFits S n q p) (near && (clear && there))
+  pub fits-is : Torus S → n < nodes S → packetFits S n q p ≡ spareClear p && (belowLimits S q p && eqb (destination p) (movedBy S p n))
+  unfolding spareClear
+  fits-is torus hn =
+      same-test (packetFits S n q p) (clear && (near && there))
       (λ t.
       let f = packet-of S n q p t in
-      and-i near (clear && there) (below-by l p (λ d h. let b = hops-below f d h in let e = of d h in omega arith))
-      (and-i clear there (eq-T (spare p) 0 (f .clear)) (eq-T (destination p) (movedBy S p n) (sym (f .arrives)))))
+      and-i clear (near && there) (eq-T (spare p) 0 (f .clear)) (and-i near there (below-by S q p (hops-below f)) (eq-T (destination p) (movedBy S p n) (sym (f .arrives)))))
       (λ t.
+      let u = and-r clear (near && there) t in
       packet-by S n q p
-      (clauses torus hn (λ d h. let b = below-of l p (and-l near (clear && there) t) d h in let e = of d h in omega arith)
-      (eqb→eq (spare p) 0 (and-l clear there (and-r near (clear && there) t)))
-      (sym (eqb→eq (destination p) (movedBy S p n) (and-r clear there (and-r near (clear && there) t))))))
+      (clauses torus hn (below-of S q p (and-l near there u)) (eqb→eq (spare p) 0 (and-l clear (near && there) t)) (sym (eqb→eq (destination p) (movedBy S p n) (and-r near there u)))))
     where
       near : Bool
-      near = belowLimits l p
+      near = belowLimits S q p
 
       clear : Bool
       clear = eqb (spare p) 0

@@ -1,28 +1,58 @@
--- The coordinates of the rings as a table, so that a move along one is looked up and not divided. Order: one ring; those of the first dimensions, and
--- of all. Assumes nothing.
+-- The tables by which a packet is judged without a division, a branch on a sign or a limit worked out anew: parts of one list of words, one behind the
+-- other. An offset is told by how far it stands above the least that its field can stand for. Order: the places of the parts; what they hold; a part
+-- filled; all parts. Assumes nothing.
 use mathlib.Core.Path.{_≡_}
 use mathlib.Core.List.{List}
-use Prim.Native.Nat.{ℕ, _+_, _*_, _%_, _<_}
+use Prim.Native.Nat.{ℕ, _+_, _*_, _-_, _/_, _%_, _^_, _<_}
 use lib.ListN.{length, getD}
 use Rattle.base.specs.Digits.{weight}
-use Rattle.network.specs.Sizes.{shapeOf, size, dimensions, largestRing}
+use Rattle.network.specs.Sizes.{Shape, shapeOf, size, dimensions, queues, largestRing, plus, minus}
+use Rattle.network.specs.Packet.{offsetValues}
+use Rattle.network.specs.PacketLaws.{halfOffsets}
 use Rattle.network.specs.declared.Sizes.{Sizes}
+use Rattle.packet_check.specs.PacketLimits.{limit}
 
--- three rounds of the largest ring, one behind the other for all dimensions
+-- three rounds of the largest ring, for each dimension; then a word for each offset; then one for each queue and dimension
 abbrev pub ringWords : ℕ
 ringWords = 3 * largestRing
 
+abbrev pub firstDistance : ℕ
+firstDistance = dimensions * ringWords
+
+abbrev pub firstPassing : ℕ
+firstPassing = firstDistance + offsetValues
+
 abbrev pub tableWords : ℕ
-tableWords = dimensions * ringWords
+tableWords = firstPassing + queues * dimensions
+
+-- how far from 0 the offset is that stands a above the least
+unfoldable pub distanceAt : ℕ → ℕ
+distanceAt a = (a - halfOffsets) + (halfOffsets - a)
+
+-- the offsets of dimension i that pass in queue q: bit a is set for the one that stands a above the least. They are in a row, as many as the limits
+-- of both directions let pass, 0 being counted once.
+unfoldable pub passing : Shape → ℕ → ℕ → ℕ
+passing S q i = (2 ^ (limit S q (plus i) + limit S q (minus i) - 1) - 1) * 2 ^ (halfOffsets + 1 - limit S q (minus i))
+
+-- count words from start on are g's; and they have become so, and those before them are as they were
+abbrev pub Part : List ℕ → ℕ → ℕ → (ℕ → ℕ) → Type 0
+Part tables start count g = (j : ℕ) → j < count → getD tables (start + j) 0 ≡ g j
+
+pub record Filled (before after : List ℕ) (start count : ℕ) (g : ℕ → ℕ) : Type 0 where
+  pub words : length after ≡ length before
+  pub part : Part after start count g
+  pub kept : (j : ℕ) → j < start → getD after j 0 ≡ getD before j 0
 
 -- three rounds of a ring of k nodes: the j-th word is w times the coordinate of the node that j hops lead to from coordinate 0
 abbrev pub RingTable : List ℕ → ℕ → ℕ → ℕ → Type 0
-RingTable tables start k w = (j : ℕ) → j < 3 * k → getD tables (start + j) 0 ≡ w * (j % k)
+RingTable tables start k w = Part tables start (3 * k) (λ j. w * (j % k))
 
--- each ring with the weight that its coordinate has in a node's number
-pub record TablesTo (s : Sizes) (count : ℕ) (tables : List ℕ) : Type 0 where
+-- the rings of the first dimensions, each with the weight that its coordinate has in a node's number
+abbrev pub Rings : Sizes → ℕ → List ℕ → Type 0
+Rings s count tables = (i : ℕ) → i < count → RingTable tables (i * ringWords) (size (shapeOf s) i) (weight (shapeOf s .sizes) i)
+
+pub record Tables (s : Sizes) (tables : List ℕ) : Type 0 where
   pub words : length tables ≡ tableWords
-  pub ring : (i : ℕ) → i < count → RingTable tables (i * ringWords) (size (shapeOf s) i) (weight (shapeOf s .sizes) i)
-
-abbrev pub Tables : Sizes → List ℕ → Type 0
-Tables s tables = TablesTo s dimensions tables
+  pub rings : Rings s dimensions tables
+  pub distances : Part tables firstDistance offsetValues distanceAt
+  pub passings : Part tables firstPassing (queues * dimensions) (λ j. passing (shapeOf s) (j / dimensions) (j % dimensions))

@@ -1,9 +1,11 @@
 // A packet's clauses of the check, by the hops that it has left in each direction: each is below a limit that its queue sets, and together
-// they lead to its destination; and by its spare bit. Where hops lead is looked up in a table of the rings, which is filled once for a check.
+// they lead to its destination; and by its spare bit. Where hops lead, how many there are and which offsets a queue lets pass is looked up in
+// tables, which are filled once for a check. Order: the limits of a queue; the tables; a packet.
 use network::DIMENSIONS;
 use network::DIRECTIONS;
 use network::LARGEST_RING;
 use network::OFFSET_VALUES;
+use network::QUEUES;
 use network::Sizes;
 use packet::HALF_OFFSETS;
 use packet::offset_field;
@@ -11,18 +13,19 @@ use packet::torus::Place;
 use packet::torus::size;
 use packet::torus::weight;
 ghost use mathlib.Core.Path.{_≡_};
-ghost use mathlib.Core.Bool.{_&&_};
-ghost use Prim.Native.Nat.{ℕ, _+_, _*_, _-_, _%_, _<_, _≤_};
-ghost use lib.Dec.{T, ltb};
+ghost use mathlib.Core.Bool.{cond};
+ghost use Prim.Native.Nat.{ℕ, _+_, _*_, _-_, _/_, _%_, _<_, _≤_};
+ghost use lib.Dec.{T};
 ghost use lib.ListN.{length, getD};
-ghost use Rattle.network.specs.PacketLaws.{halfOffsets};
+ghost use Rattle.base.specs.Bits.{bit};
 ghost use Rattle.base.specs.Digits.{weight};
-ghost use Rattle.network.specs.Sizes.{shapeOf, sizesInRange, size, dimensions, directions, largestRing, mostNodes, plus, minus};
-ghost use Rattle.network.specs.Packet.{offsetValues, hops};
-ghost use Rattle.network.specs.Torus.{movedBy};
+ghost use Rattle.network.specs.PacketLaws.{halfOffsets};
+ghost use Rattle.network.specs.Sizes.{shapeOf, sizesInRange, size, dimensions, directions, queues, largestRing, mostNodes, plus, minus};
+ghost use Rattle.network.specs.Packet.{offsetValues, hops, work};
+ghost use Rattle.network.specs.Check.{packetFits};
 ghost use Rattle.packet.specs.Geometry.{nodeAt, OnTorus};
-ghost use Rattle.packet_check.specs.PacketLimits.{limit, LimitsOf, LimitsFit, OneWay, belowLimits, fitsWithin, NoRound};
-ghost use Rattle.packet_check.specs.Tables.{ringWords, tableWords, RingTable, Tables};
+ghost use Rattle.packet_check.specs.PacketLimits.{limit};
+ghost use Rattle.packet_check.specs.Tables.{ringWords, firstDistance, firstPassing, tableWords, distanceAt, passing, Filled, Rings, Tables};
 
 // The limit that queue q sets for direction d. In the queue's own direction hops stay below half of the ring, the other way along its dimension
 // there are none, and in an escape queue there are none along a lower dimension. All others reach half of the ring.
@@ -50,42 +53,15 @@ fn limit(s: Sizes, q: u64, d: u64) -> u64
     1
 }
 
-// A packet of queue q has fewer hops left in direction d than word d.
-pub fn limits_of(s: Sizes, q: u64) -> [u64; DIRECTIONS as usize]
-    ensures { λ r. ⌜ LimitsOf (shapeOf s) q r ⌝ }
+// The offsets of dimension i that pass in queue q, as the bits of a word: bit a for the offset that stands a above the least. They are in a row.
+fn passing(s: Sizes, q: u64, i: u64) -> u64
+    requires { ⌜ T (sizesInRange (shapeOf s)) × (i < dimensions) ⌝ }
+    ensures { λ r. ⌜ r ≡ passing (shapeOf s) q i ⌝ }
 {
-    let mut limits = [0; DIRECTIONS as usize];
-    let mut d = 0;
-    while d < DIRECTIONS {
-        limits[d as usize] = limit(s, q, d);
-        d += 1;
-    }
-    limits
-}
-
-// How far the offset of dimension i stands above the least that its field can stand for. What is compared and added by this needs no branch on
-// the offset's sign, which packets take either way.
-fn above(i: u64, p: u64) -> u64
-    requires { ⌜ i < dimensions ⌝ }
-    ensures small { λ r. ⌜ r < offsetValues ⌝ }
-    ensures offset { λ r. ⌜ r + hops (minus i) p ≡ halfOffsets + hops (plus i) p ⌝ }
-{
-    (offset_field(i, p) + HALF_OFFSETS) % OFFSET_VALUES
-}
-
-// Whether an offset, f hops forward or b back, is below the limits of the two directions of its dimension. Where neither limit is 0, the offsets
-// that pass are forward + back - 1 numbers in a row: one comparison tells, since those below the first of them become large by the remainder.
-fn between(forward: u64, back: u64, above: u64) -> bool
-    requires { ⌜ (forward ≤ largestRing) × (back ≤ largestRing) × (above < offsetValues) ⌝ }
-    ensures { λ r. ⌜ ((f b : ℕ) → OneWay f b → above + b ≡ halfOffsets + f → r ≡ (ltb f forward && ltb b back)) ⌝ }
-{
-    if forward == 0 {
-        return false;
-    }
-    if back == 0 {
-        return false;
-    }
-    (above + HALF_OFFSETS + back - 1) % OFFSET_VALUES < forward + back - 1
+    let forward = limit(s, q, 2 * i);
+    let back = limit(s, q, 2 * i + 1);
+    let ones: u64 = (1 << (forward + back - 1)) - 1;
+    ones << (HALF_OFFSETS + 1 - back)
 }
 
 // The coordinate after c on a ring of k nodes.
@@ -99,17 +75,20 @@ fn next_on_ring(c: u64, k: u64) -> u64
     c + 1
 }
 
-// Three rounds of the largest ring, and such a part for each dimension.
-pub const RING_WORDS: u64 = 3 * LARGEST_RING;
+// The tables are parts of one array: for each dimension three rounds of its ring; the distance of each offset; and for each queue and dimension
+// the offsets that pass.
+const RING_WORDS: u64 = 3 * LARGEST_RING;
 
-pub const TABLE_WORDS: usize = (DIMENSIONS * RING_WORDS) as usize;
+const FIRST_DISTANCE: u64 = DIMENSIONS * RING_WORDS;
+
+const FIRST_PASSING: u64 = FIRST_DISTANCE + OFFSET_VALUES;
+
+pub const TABLE_WORDS: usize = (FIRST_PASSING + QUEUES * DIMENSIONS) as usize;
 
 // Fills the part of dimension i, for a ring of k nodes. The coordinate is carried along, so that nothing is divided.
 fn fill_ring(tables: &mut [u64], i: u64, k: u64, weight: u64)
     requires { ⌜ (length (now tables) ≡ tableWords) × (i < dimensions) × (1 ≤ k) × (k ≤ largestRing) × (weight ≤ mostNodes) ⌝ }
-    ensures words { λ _. ⌜ length (now (tables .exit)) ≡ tableWords ⌝ }
-    ensures ring { λ _. ⌜ RingTable (now (tables .exit)) (i * ringWords) k weight ⌝ }
-    ensures before { λ _. ⌜ ((j : ℕ) → j < i * ringWords → getD (now (tables .exit)) j 0 ≡ getD (now (tables .entry)) j 0) ⌝ }
+    ensures { λ _. ⌜ Filled (now (tables .entry)) (now (tables .exit)) (i * ringWords) (3 * k) (λ j. weight * (j % k)) ⌝ }
 {
     let mut c = 0;
     let mut j = 0;
@@ -120,10 +99,10 @@ fn fill_ring(tables: &mut [u64], i: u64, k: u64, weight: u64)
     }
 }
 
-// The tables of all rings.
-pub fn fill_tables(tables: &mut [u64], s: Sizes)
+fn fill_rings(tables: &mut [u64], s: Sizes)
     requires { ⌜ T (sizesInRange (shapeOf s)) × (length (now tables) ≡ tableWords) ⌝ }
-    ensures { λ _. ⌜ Tables s (now (tables .exit)) ⌝ }
+    ensures words { λ _. ⌜ length (now (tables .exit)) ≡ tableWords ⌝ }
+    ensures rings { λ _. ⌜ Rings s dimensions (now (tables .exit)) ⌝ }
 {
     let mut i = 0;
     while i < DIMENSIONS {
@@ -132,64 +111,102 @@ pub fn fill_tables(tables: &mut [u64], s: Sizes)
     }
 }
 
-// The coordinate c in dimension i moved by packet p's hops, times its weight in a node's number.
-fn moved(tables: &[u64], s: Sizes, i: u64, c: u64, p: u64) -> u64
-    requires { ⌜ Tables s (now tables) × T (sizesInRange (shapeOf s)) × (i < dimensions) × (c < size (shapeOf s) i) × NoRound s p ⌝ }
-    ensures { λ r. ⌜ r ≡ weight (shapeOf s .sizes) i
-        * ((c + (hops (plus i) p * 1 + hops (minus i) p * (size (shapeOf s) i - 1))) % size (shapeOf s) i) ⌝ }
+// The distance of the offset that stands a above the least.
+fn distance_at(a: u64) -> u64
+    ensures { λ r. ⌜ r ≡ distanceAt a ⌝ }
+{
+    if a < HALF_OFFSETS {
+        HALF_OFFSETS - a
+    } else {
+        a - HALF_OFFSETS
+    }
+}
+
+fn fill_distances(tables: &mut [u64])
+    requires { ⌜ length (now tables) ≡ tableWords ⌝ }
+    ensures { λ _. ⌜ Filled (now (tables .entry)) (now (tables .exit)) firstDistance offsetValues distanceAt ⌝ }
+{
+    let mut a = 0;
+    while a < OFFSET_VALUES {
+        tables[(FIRST_DISTANCE + a) as usize] = distance_at(a);
+        a += 1;
+    }
+}
+
+fn fill_passing(tables: &mut [u64], s: Sizes)
+    requires { ⌜ T (sizesInRange (shapeOf s)) × (length (now tables) ≡ tableWords) ⌝ }
+    ensures { λ _. ⌜ Filled (now (tables .entry)) (now (tables .exit)) firstPassing (queues * dimensions) (λ j. passing (shapeOf s) (j / dimensions) (j % dimensions)) ⌝ }
+{
+    let mut j = 0;
+    while j < QUEUES * DIMENSIONS {
+        tables[(FIRST_PASSING + j) as usize] = passing(s, j / DIMENSIONS, j % DIMENSIONS);
+        j += 1;
+    }
+}
+
+// All tables, one part behind the other.
+pub fn fill_tables(tables: &mut [u64], s: Sizes)
+    requires { ⌜ T (sizesInRange (shapeOf s)) × (length (now tables) ≡ tableWords) ⌝ }
+    ensures { λ _. ⌜ Tables s (now (tables .exit)) ⌝ }
+{
+    fill_rings(tables, s);
+    fill_distances(tables);
+    fill_passing(tables, s);
+}
+
+// How far the offset of dimension i stands above the least that its field can stand for. What is looked up by this needs no branch on the
+// offset's sign, which packets take either way.
+fn above(i: u64, p: u64) -> u64
+    requires { ⌜ i < dimensions ⌝ }
+    ensures small { λ r. ⌜ r < offsetValues ⌝ }
+    ensures offset { λ r. ⌜ r + hops (minus i) p ≡ halfOffsets + hops (plus i) p ⌝ }
+{
+    (offset_field(i, p) + HALF_OFFSETS) % OFFSET_VALUES
+}
+
+// Whether the offset that stands a above the least passes in queue q, for dimension i.
+fn passes(tables: &[u64], q: u64, i: u64, a: u64) -> bool
+    requires { ⌜ (length (now tables) ≡ tableWords) × (q < queues) × (i < dimensions) × (a < offsetValues) ⌝ }
+    ensures { λ r. ⌜ r ≡ bit (getD (now (tables .entry)) (firstPassing + (q * dimensions + i)) 0) a ⌝ }
+{
+    (tables[(FIRST_PASSING + (q * DIMENSIONS + i)) as usize] >> a) % 2 == 1
+}
+
+// The coordinate c in dimension i moved by the offset that stands a above the least, which is less than once round; times its weight in a
+// node's number.
+fn moved(tables: &[u64], s: Sizes, i: u64, c: u64, a: u64) -> u64
+    requires { ⌜ Tables s (now tables) × T (sizesInRange (shapeOf s)) × (i < dimensions) × (c < size (shapeOf s) i)
+        × (halfOffsets < a + size (shapeOf s) i) × (a < halfOffsets + size (shapeOf s) i) ⌝ }
+    ensures { λ r. ⌜ ((f b : ℕ) → b ≤ size (shapeOf s) i → a + b ≡ halfOffsets + f
+        → r ≡ weight (shapeOf s .sizes) i * ((c + (f * 1 + b * (size (shapeOf s) i - 1))) % size (shapeOf s) i)) ⌝ }
 {
     let k = size(s, i);
-    tables[(i * RING_WORDS + (c + above(i, p) + k - HALF_OFFSETS)) as usize]
+    tables[(i * RING_WORDS + (c + a + k - HALF_OFFSETS)) as usize]
 }
 
-// Whether its hops are below the limits.
-fn below_limits(l: [u64; DIRECTIONS as usize], p: u64) -> bool
-    requires { ⌜ ((d : ℕ) → d < directions → getD l d 0 ≤ largestRing) ⌝ }
-    ensures { λ r. ⌜ r ≡ belowLimits l p ⌝ }
+// The work that packet p has left if it may stand at the node of this place, in queue q; 0 if it may not, which no work is.
+pub fn work_if_fits(tables: &[u64], s: Sizes, place: Place, q: u64, p: u64) -> u64
+    requires { ⌜ OnTorus s place × Tables s (now tables) × (q < queues) ⌝ }
+    ensures { λ r. ⌜ r ≡ cond (packetFits (shapeOf s) (nodeAt s place) q p) (work p) 0 ⌝ }
 {
-    let mut i = 0;
-    while i < DIMENSIONS {
-        let forward = l[(2 * i) as usize];
-        let back = l[(2 * i + 1) as usize];
-        if !between(forward, back, above(i, p)) {
-            return false;
-        }
-        i += 1;
+    if packet::spare(p) != 0 {
+        return 0;
     }
-    true
-}
-
-// The node to which packet p's hops lead from the one that stands there, where they are fewer than the nodes of each ring.
-fn led_to(tables: &[u64], s: Sizes, place: Place, p: u64) -> u64
-    requires { ⌜ OnTorus s place × NoRound s p × Tables s (now tables) ⌝ }
-    ensures { λ r. ⌜ r ≡ movedBy (shapeOf s) p (nodeAt s place) ⌝ }
-{
     let at = place.at;
     let mut node = 0;
+    let mut work = 1;
     let mut i = 0;
     while i < DIMENSIONS {
-        node += moved(tables, s, i, at[i as usize], p);
+        let a = above(i, p);
+        if !passes(tables, q, i, a) {
+            return 0;
+        }
+        node += moved(tables, s, i, at[i as usize], a);
+        work += tables[(FIRST_DISTANCE + a) as usize];
         i += 1;
     }
-    node
-}
-
-// Whether packet p may stand at the node of this place, in a queue with these limits.
-pub fn packet_fits(
-    tables: &[u64],
-    s: Sizes,
-    place: Place,
-    l: [u64; DIRECTIONS as usize],
-    p: u64,
-) -> bool
-    requires { ⌜ OnTorus s place × LimitsFit s l × Tables s (now tables) ⌝ }
-    ensures { λ r. ⌜ r ≡ fitsWithin (shapeOf s) (nodeAt s place) l p ⌝ }
-{
-    if !below_limits(l, p) {
-        return false;
+    if packet::destination(p) != node {
+        return 0;
     }
-    if packet::spare(p) != 0 {
-        return false;
-    }
-    packet::destination(p) == led_to(tables, s, place, p)
+    work
 }

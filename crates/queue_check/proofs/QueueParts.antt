@@ -1,7 +1,7 @@
 -- A queue's clauses by its words: which of them fails first, or that the packets' clauses are left. Assumes nothing.
-use mathlib.Core.Path.{_≡_, refl, ap, ap₂, sym, _∙_}
-use mathlib.Core.Bool.{Bool, true, false, _&&_}
-use mathlib.Core.List.{List, [], _∷_}
+use mathlib.Core.Path.{_≡_, ap, ap₂, sym, _∙_}
+use mathlib.Core.Bool.{Bool, true, false}
+use mathlib.Core.List.{List, []}
 use Prim.Native.Nat.{ℕ, _+_, _<_, _≤_}
 use native.Mathlib.Omega.{arith}
 use borrow.Author.Tests.{le-leb, lt-leb}
@@ -11,20 +11,11 @@ use lib.Seq.{drop-drop}
 use Rattle.base.specs.Tests.{allOf}
 use Rattle.base.specs.Sums.{sumOf}
 use Rattle.base.specs.Bools.{and-stop, and-on}
-use Rattle.network.specs.Sizes.{Shape, nodes, capacity}
+use Rattle.network.specs.Sizes.{Shape, capacity}
 use Rattle.network.specs.Packet.{work}
 use Rattle.network.specs.Layout.{countOf, packetsOf, unusedOf, queueLength}
-use Rattle.network.specs.TorusLaws.{Torus}
 use Rattle.network.specs.Check.{packetFits}
-use Rattle.packet_check.specs.PacketLimits.{LimitsOf, fitsWithin}
-use Rattle.packet_check.specs.LimitLaws.{fits-is}
 use Rattle.queue_check.specs.QueueTally.{tally, partFits}
-
--- the same test of every element
-all-same : (f g : ℕ → Bool) (l : List ℕ) → ((x : ℕ) → f x ≡ g x) → allOf f l ≡ allOf g l
-unfolding allOf
-all-same f g [] h = refl
-all-same f g (x ∷ xs) h = ap₂ (λ a b. a && b) (h x) (all-same f g xs h)
 
 module _ (S : Shape) (n q : ℕ) (part : List ℕ) (long : length part ≡ queueLength S q) where
   -- it holds more than its capacity
@@ -50,12 +41,6 @@ module _ (S : Shape) (n q : ℕ) (part : List ℕ) (long : length part ≡ queue
       → partFits S n q part ≡ allOf (packetFits S n q) (packetsOf part)
   unfolding partFits
   part-packets h e = and-on _ _ (few h) ∙ and-on _ _ (ap (allOf (eqb 0)) (sym unused) ∙ e)
-
-  pub part-limits : (l : List ℕ) → LimitsOf S q l → Torus S → n < nodes S → countOf part < length part → allOf (eqb 0) (drop (countOf part + 1) part) ≡ true
-      → partFits S n q part ≡ allOf (fitsWithin S n l) (packetsOf part)
-  part-limits l of torus hn h e =
-      part-packets h e
-      ∙ all-same (packetFits S n q) (fitsWithin S n l) (packetsOf part) (λ p. fits-is S n q p l of torus hn)
 
   -- it holds nothing
   pub part-empty : countOf part ≡ 0 → countOf part < length part → allOf (eqb 0) (drop (countOf part + 1) part) ≡ true

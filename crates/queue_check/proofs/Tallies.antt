@@ -1,7 +1,8 @@
 -- Tallies. Order: a list's elements tested and summed one by one, or tested two by two; so many queues or nodes tested and summed one by one;
 -- bounds of sums; a queue's packets one by one. Assumes nothing.
 use mathlib.Core.Path.{_≡_, refl, ap, ap₂, sym, _∙_}
-use mathlib.Core.Bool.{Bool, true, false, _&&_}
+use mathlib.Core.Bool.{Bool, true, false, cond, _&&_}
+use mathlib.Core.Logic.{_≢_}
 use mathlib.Core.List.{List, [], _∷_}
 use Prim.Native.Nat.{ℕ, zero, suc, _+_, _*_, _-_, _<_, _≤_}
 use native.Mathlib.Numerals.{add-one}
@@ -246,6 +247,16 @@ work-most p = let m = hopsLeft-most p in omega arith
 
 pub works-most : (l : List ℕ) → length l ≤ largestCapacity → sumOf work l ≤ queueWork
 works-most l h = let m = of-most packetWork work l work-most in omega arith
+
+-- a packet that fails has no work told, and one that passes has some
+pub work-none : (t : Bool) (p r : ℕ) → r ≡ cond t (work p) 0 → r ≡ 0 → t ≡ false
+unfolding work
+work-none true p r e z = absurd (let n : ⊥ = omega arith in n)
+work-none false p r e z = refl
+
+pub work-some : (t : Bool) (p r : ℕ) → r ≡ cond t (work p) 0 → r ≢ 0 → (t ≡ true) × (r ≡ work p)
+work-some true p r e n = (refl, e)
+work-some false p r e n = absurd (n e)
 
 -- the packets one by one: f tests them, and w is the next one's work
 module _ (f : ℕ → Bool) (part : List ℕ) (few : countOf part < length part) where

@@ -1,6 +1,5 @@
 // The queues' clauses of the check, and the sums over their packets, in one pass over the words: from a queue's own words to all nodes.
 use network::DIMENSIONS;
-use network::DIRECTIONS;
 use network::HEADER_WORDS;
 use network::QUEUES;
 use network::Sizes;
@@ -8,8 +7,7 @@ use packet::torus::Place;
 use packet::torus::next_place;
 use packet_check::TABLE_WORDS;
 use packet_check::fill_tables;
-use packet_check::limits_of;
-use packet_check::packet_fits;
+use packet_check::work_if_fits;
 ghost use mathlib.Core.Path.{_≡_};
 ghost use mathlib.Core.Bool.{false};
 ghost use Prim.Native.Nat.{ℕ, _+_, _<_, _≤_};
@@ -17,13 +15,12 @@ ghost use lib.Dec.{eqb};
 ghost use lib.ListN.{length, drop};
 ghost use Rattle.base.specs.Tests.{allOf};
 ghost use Rattle.base.specs.Sums.{sumOf};
-ghost use Rattle.network.specs.Sizes.{shapeOf, largestCapacity};
+ghost use Rattle.network.specs.Sizes.{shapeOf, queues, largestCapacity};
 ghost use Rattle.network.specs.Packet.{work};
 ghost use Rattle.network.specs.Layout.{countOf, packetsOf, queueStart, queueLength};
-ghost use Rattle.network.specs.Check.{queuesFit, packetsHeld, workLeft};
+ghost use Rattle.network.specs.Check.{packetFits, queuesFit, packetsHeld, workLeft};
 ghost use Rattle.packet.specs.Geometry.{nodeAt, OnTorus};
 ghost use Rattle.queue.specs.Queue.{EnoughWords};
-ghost use Rattle.packet_check.specs.PacketLimits.{LimitsFit, fitsWithin};
 ghost use Rattle.packet_check.specs.Tables.{Tables};
 ghost use Rattle.queue_check.specs.QueueTally.{tally, partFits, nodeTally};
 
@@ -99,27 +96,21 @@ fn all_zero(part: &[u64], from: usize) -> bool
 }
 
 // The packets of a queue's words, which hold no more than they have room for.
-fn packets_fit(
-    part: &[u64],
-    tables: &[u64],
-    s: Sizes,
-    place: Place,
-    l: [u64; DIRECTIONS as usize],
-) -> Tally
-    requires { ⌜ OnTorus s place × LimitsFit s l × (countOf (now part) < length (now part)) × (length (now part) ≤ largestCapacity + 1)
+fn packets_fit(part: &[u64], tables: &[u64], s: Sizes, place: Place, q: u64) -> Tally
+    requires { ⌜ OnTorus s place × (q < queues) × (countOf (now part) < length (now part)) × (length (now part) ≤ largestCapacity + 1)
         × Tables s (now tables) ⌝ }
-    ensures { λ r. ⌜ r ≡ tally (allOf (fitsWithin (shapeOf s) (nodeAt s place) l) (packetsOf (now (part .entry))))
+    ensures { λ r. ⌜ r ≡ tally (allOf (packetFits (shapeOf s) (nodeAt s place) q) (packetsOf (now (part .entry))))
         (length (packetsOf (now (part .entry)))) (sumOf work (packetsOf (now (part .entry)))) ⌝ }
 {
     let count = part[0] as usize;
     let mut work = 0;
     let mut i = 0;
     while i < count {
-        let p = part[i + 1];
-        if !packet_fits(tables, s, place, l, p) {
+        let left = work_if_fits(tables, s, place, q, part[i + 1]);
+        if left == 0 {
             return unfit();
         }
-        work += packet::work(p);
+        work += left;
         i += 1;
     }
     Tally {
@@ -129,9 +120,9 @@ fn packets_fit(
     }
 }
 
-// The words of queue q of the node that stands there. Most queues are empty, and need no limits.
+// The words of queue q of the node that stands there. Most queues are empty, and have no packets to look at.
 fn queue_fits(part: &[u64], tables: &[u64], s: Sizes, place: Place, q: u64) -> Tally
-    requires { ⌜ OnTorus s place × (length (now part) ≡ queueLength (shapeOf s) q) × (length (now part) ≤ largestCapacity + 1)
+    requires { ⌜ OnTorus s place × (q < queues) × (length (now part) ≡ queueLength (shapeOf s) q) × (length (now part) ≤ largestCapacity + 1)
         × Tables s (now tables) ⌝ }
     ensures { λ r. ⌜ r ≡ tally (partFits (shapeOf s) (nodeAt s place) q (now (part .entry)))
         (length (packetsOf (now (part .entry)))) (sumOf work (packetsOf (now (part .entry)))) ⌝ }
@@ -150,7 +141,7 @@ fn queue_fits(part: &[u64], tables: &[u64], s: Sizes, place: Place, q: u64) -> T
             work: 0,
         };
     }
-    packets_fit(part, tables, s, place, limits_of(s, q))
+    packets_fit(part, tables, s, place, q)
 }
 
 // The queues of the node that stands there, whose words begin at `start`.

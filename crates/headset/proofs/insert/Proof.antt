@@ -2,7 +2,7 @@
 use native.Mathlib.Omega.{arith}
 use borrow.Author.Needs.{needs}
 use lib.Dec.{lit<}
-use Rattle.headset.proofs.WordBits.{shifted-some}
+use Rattle.base.specs.Bits.{shifted-some}
 use Rattle.headset.proofs.Sets.{inserted}
 use Rattle.headset.proofs.insert.Statement.{statement}
 use Rattle.headset.proofs.insert.Tie as tie

@@ -3,7 +3,7 @@ use native.Mathlib.Omega.{arith}
 use borrow.Author.Needs.{needs}
 use lib.Dec.{lit<}
 use Rattle.network.specs.Sizes.{queues}
-use Rattle.headset.proofs.WordBits.{shifted-some}
+use Rattle.base.specs.Bits.{shifted-some}
 use Rattle.headset.proofs.Sets.{node-inserted}
 use Rattle.headset.proofs.insert_node.Statement.{statement}
 use Rattle.headset.proofs.insert_node.Tie as tie

@@ -1,65 +1,40 @@
--- `packet_check::fill_tables` meets its contract. The loop's invariant: the rings of the dimensions before i are filled. Assumes nothing.
+-- `packet_check::fill_tables` meets its contract: a part that is filled leaves those before it. Assumes nothing.
 use borrow.Author.Needs.{needs}
-use Prim.Native.Nat.{_-_, _≤_}
+use mathlib.Core.Path.{sym, _∙_}
 use native.Mathlib.Omega.{arith}
-use Rattle.base.specs.Numbers.{weight-most}
-use Rattle.network.specs.Sizes.{shapeOf, nodes, dimensions}
-use Rattle.network.specs.TorusLaws.{sizes-torus, sizes-nodes, inRange-size, size-pos}
-use Rattle.packet_check.specs.Tables.{TablesTo}
-use Rattle.packet_check.proofs.TableLaws.{tables-none, tables-more, tables-all}
+use Rattle.packet_check.proofs.TableLaws.{part-kept, rings-kept}
 use Rattle.packet_check.proofs.fill_tables.Statement.{statement}
 use Rattle.packet_check.proofs.fill_tables.Tie as tie
 
-abbrev Inv-loop : tie.InvT-loop
-Inv-loop tables₀ s i₀ tables i = TablesTo s i tables × (i ≤ dimensions)
+fill-distances-requires : tie.Need-fill-distances-requires
+fill-distances-requires c κs = c .before .before .before .fill-rings .ensures .0
 
-abbrev μ-loop : tie.MeasureT-loop
-μ-loop tables₀ s i₀ tables i = dimensions - i
+fill-passing-requires : tie.Need-fill-passing-requires
+fill-passing-requires c κs =
+    let d = c .before .before .before in
+    let r = d .before .before .before .before in
+    (r .before .before .before .pre .0, d .fill-distances .ensures .words ∙ r .fill-rings .ensures .0)
 
-loop-holds : tie.Need-loop-holds Inv-loop μ-loop
-loop-holds c = (tables-none _ _ (c .before .pre .1), omega arith)
-
-fill-ring-requires : tie.Need-fill-ring-requires Inv-loop μ-loop
-unfolding nodes
-fill-ring-requires c κs =
-    let at = c .before .before .before .before in
-    let st = at .before .before in
-    let s = st .args .s in
-    let t = st .pre .0 in
-    let i = at .loop .i in
-    let h = c .before .before .before .loop-test .taken in
-    let torus = sizes-torus s t in
-    let e = c .before .size .ensures in
-    let f = c .weight .ensures in
-    let p = size-pos (shapeOf s) i torus h in
-    let m = inRange-size (shapeOf s) i t in
-    let w = weight-most (shapeOf s .sizes) i (torus .positive) in
-    let n = sizes-nodes s t in
-    (at .loop .inv .0 .words, h, omega arith, omega arith, omega arith)
-
-loop-again : tie.Need-loop-again Inv-loop μ-loop
-loop-again c =
-    let fill = c .before .before in
-    let at = fill .before .before .before .before .before in
-    let h = fill .before .before .before .before .loop-test .taken in (
-      tables-more _ _ _ _ _ _ (at .before .before .pre .0) (at .loop .inv .0) h (fill .fill-ring .ensures .0)
-          (fill .before .before .size .ensures) (fill .before .weight .ensures) (fill .fill-ring .ensures .1 .0) (fill .fill-ring .ensures .1 .1),
-      omega arith,
-    )
-
-same-length : tie.Need-same-length Inv-loop μ-loop
+same-length : tie.Need-same-length
 same-length c =
-    let a = c .before .loop .inv .0 .words in
-    let b = c .before .before .before .pre .1 in
-    omega arith
+    let f = c .before .before in
+    let d = f .before .before .before .before in
+    let r = d .before .before .before .before in
+    f .fill-passing .ensures .words ∙ d .fill-distances .ensures .words ∙ r .fill-rings .ensures .0 ∙ sym (r .before .before .before .pre .1)
 
-returns : tie.Need-returns Inv-loop μ-loop
+returns : tie.Need-returns
 returns c =
-    let l = c .before .loop .inv .1 in
-    let h = c .loop-test .left in
-    tables-all _ _ _ (c .before .loop .inv .0) (omega arith)
+    let f = c .before .before in
+    let d = f .before .before .before .before in
+    let r = d .before .before .before .before in
+    let t = r .before .before .before .pre .0 in
+    let filled = f .fill-passing .ensures in
+    record {
+      words = filled .words ∙ d .fill-distances .ensures .words ∙ r .fill-rings .ensures .0;
+      rings = rings-kept _ _ _ _ _ _ t (rings-kept _ _ _ _ _ _ t (r .fill-rings .ensures .1) (d .fill-distances .ensures) (omega arith)) filled (omega arith);
+      distances = part-kept _ _ _ _ _ _ _ _ (d .fill-distances .ensures .part) filled (omega arith);
+      passings = filled .part;
+    }
 
 pub fill-tables-spec : {M : Type 1} → statement M
-fill-tables-spec =
-    tie.close
-    (tie.spec Inv-loop μ-loop loop-holds (λ c κs. search needs) (λ c κs. search needs) fill-ring-requires (λ c. search needs) (λ c. search needs) loop-again same-length returns)
+fill-tables-spec = tie.close (tie.spec (λ c κs. search needs) fill-distances-requires fill-passing-requires same-length returns)

@@ -83,6 +83,7 @@ queue-fits-requires c κs =
     let q = c .before .before .before .loop .q in
     let h = c .before .before .loop-test .taken in (
       st .pre .0,
+      h,
       ap length (part (c .before)) ∙ part-length (S st) (w st) (st .pre .1) (n st) (is-node st) q h,
       subst (λ (l : List ℕ). length l ≤ largestCapacity + 1) (sym (part (c .before))) (part-small (S st) (w st) (st .pre .1) (n st) (is-node st) q h),
       st .pre .3,

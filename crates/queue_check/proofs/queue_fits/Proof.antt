@@ -9,15 +9,10 @@ use lib.Dec.{eqb}
 use lib.ListN.{drop}
 use Rattle.base.specs.Tests.{allOf}
 use Rattle.network.specs.Sizes.{Shape, shapeOf}
-use Rattle.network.specs.Layout.{countOf, packetsOf, queueLength}
+use Rattle.network.specs.Layout.{countOf, queueLength}
 use Rattle.packet.specs.Geometry.{nodeAt}
-use Rattle.network.specs.TorusLaws.{sizes-torus}
-use Rattle.packet.specs.GeometryLaws.{place-node}
-use Rattle.packet_check.specs.PacketLimits.{fitsWithin}
-use Rattle.packet_check.specs.LimitLaws.{limits-fit}
-use Rattle.queue_check.specs.QueueTally.{partFits}
 use Rattle.queue_check.specs.TallyLaws.{tally-fails, tally-same}
-use Rattle.queue_check.proofs.QueueParts.{part-over, part-used, part-limits, part-empty}
+use Rattle.queue_check.proofs.QueueParts.{part-over, part-used, part-packets, part-empty}
 use Rattle.queue_check.proofs.queue_fits.Statement.{statement}
 use Rattle.queue_check.proofs.queue_fits.Tie as tie
 
@@ -33,20 +28,20 @@ n st = nodeAt (st .args .s) (st .args .place)
 
 shared-slice-read-count : tie.Need-shared-slice-read-count
 unfolding queueLength
-shared-slice-read-count c = let l = start c .pre .1 in omega arith
+shared-slice-read-count c = let l = start c .pre .2 in omega arith
 
 returns : tie.Need-returns
 unfolding countOf
 returns c =
     let st = start (c .before .before) in
-    tally-fails _ _ _ _ (c .unfit .ensures) (part-over (S st) (n st) (st .args .q) (st .args .part .now) (st .pre .1) (c .before .if1 .taken))
+    tally-fails _ _ _ _ (c .unfit .ensures) (part-over (S st) (n st) (st .args .q) (st .args .part .now) (st .pre .2) (c .before .if1 .taken))
 
 returns-2 : tie.Need-returns-2
 unfolding countOf
 returns-2 c =
     let st = start (c .before .before .before .before) in
     tally-fails _ _ _ _ (c .unfit2 .ensures)
-    (part-used (S st) (n st) (st .args .q) (st .args .part .now) (st .pre .1) (c .before .before .before .if1 .left)
+    (part-used (S st) (n st) (st .args .q) (st .args .part .now) (st .pre .2) (c .before .before .before .if1 .left)
     (sym (c .before .before .all-zero .ensures) ∙ not-true _ (c .before .if2 .taken)))
 
 -- the unused words are 0
@@ -58,34 +53,21 @@ returns-3 : tie.Need-returns-3
 unfolding countOf
 returns-3 c =
     let st = start (c .before .before .before .before) in
-    part-empty (S st) (n st) (st .args .q) (st .args .part .now) (st .pre .1) (c .if3 .taken) (c .before .before .before .if1 .left) (zeros (c .before))
+    part-empty (S st) (n st) (st .args .q) (st .args .part .now) (st .pre .2) (c .if3 .taken) (c .before .before .before .if1 .left) (zeros (c .before))
 
 packets-fit-requires : tie.Need-packets-fit-requires
 unfolding countOf
 packets-fit-requires c κs =
-    let st = start (c .before .before .before .before .before) in (
-      st .pre .0,
-      limits-fit (st .args .s) (st .args .q) (c .limits-of .result) (st .pre .0 .sizes) (c .limits-of .ensures),
-      c .before .before .before .before .if1 .left,
-      st .pre .2,
-      st .pre .3,
-    )
-
--- it is for the packets to decide, by the limits
-decide : (c : tie.After-limits-of)
-    → partFits (S (start (c .before .before .before .before .before))) (n (start (c .before .before .before .before .before))) (start (c .before .before .before .before .before) .args .q)
-    (start (c .before .before .before .before .before) .args .part .now)
-    ≡ allOf (fitsWithin (S (start (c .before .before .before .before .before))) (n (start (c .before .before .before .before .before))) (c .limits-of .result))
-    (packetsOf (start (c .before .before .before .before .before) .args .part .now))
-unfolding countOf
-decide c =
-    let st = start (c .before .before .before .before .before) in
-    part-limits (S st) (n st) (st .args .q) (st .args .part .now) (st .pre .1) (c .limits-of .result) (c .limits-of .ensures)
-    (sizes-torus (st .args .s) (st .pre .0 .sizes)) (place-node (st .pre .0))
-    (c .before .before .before .before .if1 .left) (zeros (c .before .before))
+    let st = start (c .before .before .before .before) in
+    (st .pre .0, st .pre .1, c .before .before .before .if1 .left, st .pre .3, st .pre .4)
 
 returns-4 : tie.Need-returns-4
-returns-4 c = tally-same _ _ _ _ _ (c .packets-fit .ensures) (decide (c .before))
+unfolding countOf
+returns-4 c =
+    let e = c .before in
+    let st = start (e .before .before .before .before) in
+    tally-same _ _ _ _ _ (c .packets-fit .ensures)
+    (part-packets (S st) (n st) (st .args .q) (st .args .part .now) (st .pre .2) (e .before .before .before .if1 .left) (zeros (e .before)))
 
 pub queue-fits-spec : {M : Type 1} → statement M
 queue-fits-spec =
@@ -99,6 +81,5 @@ queue-fits-spec =
     (λ c κs. search needs)
     returns-2
     returns-3
-    (λ c κs. search needs)
     packets-fit-requires
     returns-4)
