@@ -1,9 +1,9 @@
 -- A packet judged dimension after dimension. Order: the offset of one dimension by the tables; the dimensions before i are judged; what the answer is. Assumes nothing.
-use mathlib.Core.Path.{_≡_, refl, ap, ap₂, sym, _∙_}
+use mathlib.Core.Path.{_≡_, refl, ap, sym, _∙_}
 use mathlib.Core.Logic.{_≢_}
 use mathlib.Core.Bool.{Bool, true, false, cond, _&&_}
 use mathlib.Core.List.{List}
-use Prim.Native.Nat.{ℕ, _+_, _*_, _-_, _/_, _%_, _<_, _≤_}
+use Prim.Native.Nat.{ℕ, _+_, _*_, _-_, _%_, _<_, _≤_}
 use native.Mathlib.Omega.{arith}
 use borrow.Author.Tests.{eq-eqb, ne-eqb}
 use lib.Dec.{T, eqb, ltb, ltb→lt}
@@ -25,7 +25,7 @@ use Rattle.packet.specs.Geometry.{nodeAt, OnTorus}
 use Rattle.packet.specs.GeometryLaws.{place-node}
 use Rattle.packet_check.specs.PacketLimits.{limit, within, belowAlong, belowLimits}
 use Rattle.packet_check.specs.LimitLaws.{limit-size, fits-is}
-use Rattle.packet_check.specs.Tables.{firstDistance, firstPassing, passing, Tables}
+use Rattle.packet_check.specs.Tables.{ringWords, dimensionWords, firstDistance, Tables}
 use Rattle.packet_check.proofs.Offsets.{passing-is, distance-of}
 use Rattle.packet_check.proofs.Nodes.{ledBelow, led-none, led-more, led-small, led-all}
 
@@ -33,14 +33,10 @@ use Rattle.packet_check.proofs.Nodes.{ledBelow, led-none, led-more, led
 
 -- a is how far it stands above the least
 module _ (s : Sizes) (q p i a : ℕ) (h : i < dimensions) (e : a + hops (minus i) p ≡ halfOffsets + hops (plus i) p) where
-  pub passes-is : (tables : List ℕ) → Tables s tables → T (sizesInRange (shapeOf s)) → q < queues
-      → bit (getD tables (firstPassing + (q * dimensions + i)) 0) a ≡ belowAlong (shapeOf s) q p i
+  pub passes-is : (tables : List ℕ) → Tables s tables → T (sizesInRange (shapeOf s)) → q < queues → bit (getD tables (i * dimensionWords + ringWords + q) 0) a ≡ belowAlong (shapeOf s) q p i
   unfolding belowAlong
   passes-is tables ts t l =
-      let n : (q * dimensions + i) / dimensions ≡ q = omega arith in
-      let m : (q * dimensions + i) % dimensions ≡ i = omega arith in
-      ap (λ (w : ℕ). bit w a) (ts .passings (q * dimensions + i) (omega arith) ∙ ap₂ (passing (shapeOf s)) n m)
-      ∙ passing-is s q i t a (hops (plus i) p) (hops (minus i) p) (one-way i p) e
+      ap (λ (w : ℕ). bit w a) (ts .dimension i h .passes q l) ∙ passing-is s q i t a (hops (plus i) p) (hops (minus i) p) (one-way i p) e
 
   pub distance-read : (tables : List ℕ) → Tables s tables → a < offsetValues → getD tables (firstDistance + a) 0 ≡ distance i p
   distance-read tables ts l = ts .distances a l ∙ distance-of a (hops (plus i) p) (hops (minus i) p) (one-way i p) e ∙ sym (distance-is i p)

@@ -18,7 +18,7 @@ use Rattle.packet.specs.GeometryLaws.{moved-is}
 use Rattle.network.specs.declared.Sizes.{Sizes}
 use Rattle.packet_check.specs.PacketLimits.{limit, OneWay, within}
 use Rattle.packet_check.specs.LimitLaws.{limit-none, limit-half}
-use Rattle.packet_check.specs.Tables.{distanceAt, passing}
+use Rattle.packet_check.specs.Tables.{row, passing, distanceAt}
 
 -- half of the values more than the number that a field stands for
 signed-above : (b : ℕ) → b < offsetValues → (b + halfOffsets) % offsetValues + backward (signed b) ≡ halfOffsets + forward (signed b)
@@ -38,12 +38,8 @@ above-is i p b e small =
     ∙ ap (λ (v : ℕ). halfOffsets + v) (ap (λ (x : ℕ). forward (signed x)) e ∙ sym (hops-plus i p))
 
 -- neither limit is 0, or one is and the other is 1
-abbrev pub Some : ℕ → ℕ → Type 0
+abbrev Some : ℕ → ℕ → Type 0
 Some forward back = ((1 ≤ forward) × (1 ≤ back)) ⊎ (forward + back ≡ 1)
-
-pub one-passing : (forward back : ℕ) → Some forward back → 1 ≤ forward + back
-one-passing forward back (inl n) = let x = n .0 in omega arith
-one-passing forward back (inr n) = omega arith
 
 -- Offsets in a row: as many as both limits let pass, 0 being counted once, from the last one back on. Where a limit is 0, none passes.
 module _ (forward back a f b : ℕ) where
@@ -77,7 +73,7 @@ module _ (s : Sizes) (q i : ℕ) (t : T (sizesInRange (shapeOf s))) where
   abbrev backs : ℕ
   backs = limit (shapeOf s) q (minus i)
 
-  pub some-passing : Some forwards backs
+  some-passing : Some forwards backs
   some-passing = by (ℕ-discrete forwards 0) (ℕ-discrete backs 0)
     where
       by : Dec (forwards ≡ 0) → Dec (backs ≡ 0) → Some forwards backs
@@ -86,7 +82,7 @@ module _ (s : Sizes) (q i : ℕ) (t : T (sizesInRange (shapeOf s))) where
       by (no x) (no y) = inl (omega arith, omega arith)
 
   pub passing-is : (a f b : ℕ) → OneWay f b → a + b ≡ halfOffsets + f → bit (passing (shapeOf s) q i) a ≡ within (shapeOf s) q i f b
-  unfolding passing within
+  unfolding passing row within
   passing-is a f b way e =
       bit-row (forwards + backs - 1) (halfOffsets + 1 - backs) a ∙ in-row forwards backs a f b some-passing way (limit-half s q (minus i) t) e
 

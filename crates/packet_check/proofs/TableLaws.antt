@@ -1,4 +1,4 @@
--- The tables. Order: a part filled word by word; a ring's coordinates one after the other, the rings; a coordinate moved, looked up. Assumes nothing.
+-- The tables. Order: a part filled word by word; a ring's coordinates one after the other; the parts of the dimensions; a coordinate moved, looked up. Assumes nothing.
 use mathlib.Core.Path.{_≡_, refl, ap, sym, subst, _∙_}
 use mathlib.Core.Logic.{_≢_}
 use mathlib.Core.List.{List}
@@ -11,10 +11,10 @@ use lib.ListN.{length, getD, set, length-set}
 use lib.Seq.{getD-set-same, getD-set-other}
 use Rattle.network.specs.PacketLaws.{halfOffsets}
 use Rattle.base.specs.Digits.{weight}
-use Rattle.network.specs.Sizes.{shapeOf, sizesInRange, size, dimensions}
+use Rattle.network.specs.Sizes.{shapeOf, sizesInRange, size, queues}
 use Rattle.network.specs.TorusLaws.{inRange-size}
 use Rattle.network.specs.declared.Sizes.{Sizes}
-use Rattle.packet_check.specs.Tables.{ringWords, firstDistance, Part, Filled, RingTable, Rings}
+use Rattle.packet_check.specs.Tables.{ringWords, dimensionWords, passing, Part, Filled, RingTable, DimensionPart}
 use Rattle.packet_check.proofs.Offsets.{moved-above}
 
 -- A part filled word by word ---------------------------------------------------------------------------------------------------------------
@@ -53,7 +53,7 @@ module _ (before : List ℕ) (start : ℕ) (g : ℕ → ℕ) where
 pub part-kept : (before after : List ℕ) (start count other more : ℕ) (g h : ℕ → ℕ) → Part before start count g → Filled before after other more h → start + count ≤ other → Part after start count g
 part-kept before after start count other more g h part f l j k = f .kept (start + j) (omega arith) ∙ part j k
 
--- The rings --------------------------------------------------------------------------------------------------------------------------------
+-- A ring ---------------------------------------------------------------------------------------------------------------------------------
 
 pub next-round : (c k : ℕ) → c + 1 ≡ k → 0 ≡ (c + 1) % k
 next-round c k e = sym (ap (λ (n : ℕ). n % k) e ∙ mod-self k)
@@ -68,32 +68,37 @@ carried j c k next here e = e ∙ ap (λ (n : ℕ). (n + 1) % k) here ∙ mod-ad
 pub on-ring : (j c k : ℕ) → c ≡ j % k → 1 ≤ k → c < k
 on-ring j c k e h = let l = mod-lt j h in omega arith
 
--- one ring more
-pub rings-none : (s : Sizes) (tables : List ℕ) → Rings s 0 tables
-rings-none s tables i h = absurd (none i h)
-  where
-    none : (j : ℕ) → j < 0 → ⊥
-    none j h = omega arith
+-- The parts of the dimensions --------------------------------------------------------------------------------------------------------------
 
-pub rings-more : (s : Sizes) (before tables : List ℕ) (i k w : ℕ) → T (sizesInRange (shapeOf s)) → Rings s i before → k ≡ size (shapeOf s) i → w ≡ weight (shapeOf s .sizes) i
-    → Filled before tables (i * ringWords) (3 * k) (λ j. w * (j % k)) → Rings s (i + 1) tables
-rings-more s before tables i k w t rings ek ew f m l = each (ℕ-discrete m i)
-  where
-    each : Dec (m ≡ i) → RingTable tables (m * ringWords) (size (shapeOf s) m) (weight (shapeOf s .sizes) m)
-    each (yes d) = rw (d, ← ek, ← ew) (f .part)
-    each (no n) =
-        let short = inRange-size (shapeOf s) m t in
-        part-kept before tables (m * ringWords) (3 * size (shapeOf s) m) (i * ringWords) (3 * k) _ _ (rings m (omega arith)) f (omega arith)
-
-pub rings-all : (s : Sizes) (i : ℕ) (tables : List ℕ) → Rings s i tables → dimensions ≤ i → Rings s dimensions tables
-rings-all s i tables f h j l = f j (omega arith)
-
--- rings that end before a part that is filled stay
-pub rings-kept : (s : Sizes) (before after : List ℕ) (start count : ℕ) (g : ℕ → ℕ) → T (sizesInRange (shapeOf s)) → Rings s dimensions before → Filled before after start count g
-    → firstDistance ≤ start → Rings s dimensions after
-rings-kept s before after start count g t rings f h i l =
+-- one that ends before a part that is filled stays
+pub dimension-kept : (s : Sizes) (i : ℕ) (before after : List ℕ) (start count : ℕ) (g : ℕ → ℕ) → T (sizesInRange (shapeOf s)) → DimensionPart s i before → Filled before after start count g
+    → (i + 1) * dimensionWords ≤ start → DimensionPart s i after
+dimension-kept s i before after start count g t part f h =
     let short = inRange-size (shapeOf s) i t in
-    part-kept before after (i * ringWords) (3 * size (shapeOf s) i) start count _ _ (rings i l) f (omega arith)
+    record {
+      ring = part-kept before after (i * dimensionWords) (3 * size (shapeOf s) i) start count _ g (part .ring) f (omega arith);
+      passes = part-kept before after (i * dimensionWords + ringWords) queues start count _ g (part .passes) f (omega arith);
+    }
+
+-- one more: its ring is filled, and then the offsets that pass
+pub dimension-more : (s : Sizes) (i k w : ℕ) (before between after : List ℕ) → T (sizesInRange (shapeOf s)) → ((m : ℕ) → m < i → DimensionPart s m before)
+    → k ≡ size (shapeOf s) i → w ≡ weight (shapeOf s .sizes) i → Filled before between (i * dimensionWords) (3 * k) (λ j. w * (j % k))
+    → Filled between after (i * dimensionWords + ringWords) queues (λ q. passing (shapeOf s) q i) → (m : ℕ) → m < i + 1 → DimensionPart s m after
+dimension-more s i k w before between after t parts ek ew f g m l = each (ℕ-discrete m i)
+  where
+    own : DimensionPart s i after
+    own =
+        let short = inRange-size (shapeOf s) i t in
+        record {
+          ring = part-kept between after (i * dimensionWords) (3 * size (shapeOf s) i) (i * dimensionWords + ringWords) queues _ _ (rw (← ek, ← ew) (f .part)) g (omega arith);
+          passes = g .part;
+        }
+
+    each : Dec (m ≡ i) → DimensionPart s m after
+    each (yes e) = subst (λ (n : ℕ). DimensionPart s n after) (sym e) own
+    each (no n) =
+        dimension-kept s m between after (i * dimensionWords + ringWords) queues _ t
+        (dimension-kept s m before between (i * dimensionWords) (3 * k) _ t (parts m (omega arith)) f (omega arith)) g (omega arith)
 
 -- c moved by f hops forward or b back
 pub moved-read : (tables : List ℕ) (start c k a f b w : ℕ) → c < k → a < halfOffsets + k → halfOffsets < a + k → RingTable tables start k w → b ≤ k → a + b ≡ halfOffsets + f

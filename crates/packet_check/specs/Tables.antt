@@ -3,7 +3,7 @@
 -- filled; all parts. Assumes nothing.
 use mathlib.Core.Path.{_≡_}
 use mathlib.Core.List.{List}
-use Prim.Native.Nat.{ℕ, _+_, _*_, _-_, _/_, _%_, _^_, _<_}
+use Prim.Native.Nat.{ℕ, _+_, _*_, _-_, _%_, _^_, _<_}
 use lib.ListN.{length, getD}
 use Rattle.base.specs.Digits.{weight}
 use Rattle.network.specs.Sizes.{Shape, shapeOf, size, dimensions, queues, largestRing, plus, minus}
@@ -12,27 +12,30 @@ use Rattle.network.specs.PacketLaws.{halfOffsets}
 use Rattle.network.specs.declared.Sizes.{Sizes}
 use Rattle.packet_check.specs.PacketLimits.{limit}
 
--- three rounds of the largest ring, for each dimension; then a word for each offset; then one for each queue and dimension
+-- for each dimension three rounds of the largest ring, and a word for each queue; then one for each offset
 abbrev pub ringWords : ℕ
 ringWords = 3 * largestRing
 
-abbrev pub firstDistance : ℕ
-firstDistance = dimensions * ringWords
+abbrev pub dimensionWords : ℕ
+dimensionWords = ringWords + queues
 
-abbrev pub firstPassing : ℕ
-firstPassing = firstDistance + offsetValues
+abbrev pub firstDistance : ℕ
+firstDistance = dimensions * dimensionWords
 
 abbrev pub tableWords : ℕ
-tableWords = firstPassing + queues * dimensions
+tableWords = firstDistance + offsetValues
+
+-- offsets in a row: bit a is set for the one that stands a above the least. As many as both limits let pass, 0 being counted once.
+unfoldable pub row : ℕ → ℕ → ℕ
+row forward back = (2 ^ (forward + back - 1) - 1) * 2 ^ (halfOffsets + 1 - back)
+
+-- the offsets of dimension i that pass in queue q
+unfoldable pub passing : Shape → ℕ → ℕ → ℕ
+passing S q i = row (limit S q (plus i)) (limit S q (minus i))
 
 -- how far from 0 the offset is that stands a above the least
 unfoldable pub distanceAt : ℕ → ℕ
 distanceAt a = (a - halfOffsets) + (halfOffsets - a)
-
--- the offsets of dimension i that pass in queue q: bit a is set for the one that stands a above the least. They are in a row, as many as the limits
--- of both directions let pass, 0 being counted once.
-unfoldable pub passing : Shape → ℕ → ℕ → ℕ
-passing S q i = (2 ^ (limit S q (plus i) + limit S q (minus i) - 1) - 1) * 2 ^ (halfOffsets + 1 - limit S q (minus i))
 
 -- count words from start on are g's; and they have become so, and those before them are as they were
 abbrev pub Part : List ℕ → ℕ → ℕ → (ℕ → ℕ) → Type 0
@@ -47,12 +50,12 @@ pub record Filled (before after : List ℕ) (start count : ℕ) (g : ℕ → ℕ
 abbrev pub RingTable : List ℕ → ℕ → ℕ → ℕ → Type 0
 RingTable tables start k w = Part tables start (3 * k) (λ j. w * (j % k))
 
--- the rings of the first dimensions, each with the weight that its coordinate has in a node's number
-abbrev pub Rings : Sizes → ℕ → List ℕ → Type 0
-Rings s count tables = (i : ℕ) → i < count → RingTable tables (i * ringWords) (size (shapeOf s) i) (weight (shapeOf s .sizes) i)
+-- the part of dimension i: its ring, with the weight that its coordinate has in a node's number, and the offsets that pass
+pub record DimensionPart (s : Sizes) (i : ℕ) (tables : List ℕ) : Type 0 where
+  pub ring : RingTable tables (i * dimensionWords) (size (shapeOf s) i) (weight (shapeOf s .sizes) i)
+  pub passes : Part tables (i * dimensionWords + ringWords) queues (λ q. passing (shapeOf s) q i)
 
 pub record Tables (s : Sizes) (tables : List ℕ) : Type 0 where
   pub words : length tables ≡ tableWords
-  pub rings : Rings s dimensions tables
+  pub dimension : (i : ℕ) → i < dimensions → DimensionPart s i tables
   pub distances : Part tables firstDistance offsetValues distanceAt
-  pub passings : Part tables firstPassing (queues * dimensions) (λ j. passing (shapeOf s) (j / dimensions) (j % dimensions))

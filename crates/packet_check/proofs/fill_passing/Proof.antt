@@ -1,24 +1,24 @@
--- `packet_check::fill_passing` meets its contract. The loop's invariant: the first j words of the part are filled. Assumes nothing.
+-- `packet_check::fill_passing` meets its contract. The loop's invariant: the first q words of the part are filled. Assumes nothing.
 use borrow.Author.Needs.{needs}
-use Prim.Native.Nat.{_*_, _-_, _/_, _%_, _≤_}
+use Prim.Native.Nat.{_+_, _*_, _-_, _≤_}
 use native.Mathlib.Omega.{arith}
-use Rattle.network.specs.Sizes.{shapeOf, dimensions, queues}
-use Rattle.packet_check.specs.Tables.{firstPassing, passing, Filled}
+use Rattle.network.specs.Sizes.{shapeOf, queues}
+use Rattle.packet_check.specs.Tables.{ringWords, dimensionWords, passing, Filled}
 use Rattle.packet_check.proofs.TableLaws.{filled-none, filled-more, filled-all}
 use Rattle.packet_check.proofs.fill_passing.Statement.{statement}
 use Rattle.packet_check.proofs.fill_passing.Tie as tie
 
 abbrev Inv-loop : tie.InvT-loop
-Inv-loop tables₀ s j₀ tables j = Filled tables₀ tables firstPassing j (λ m. passing (shapeOf s) (m / dimensions) (m % dimensions)) × (j ≤ queues * dimensions)
+Inv-loop tables₀ s i q₀ tables q = Filled tables₀ tables (i * dimensionWords + ringWords) q (λ m. passing (shapeOf s) m i) × (q ≤ queues)
 
 abbrev μ-loop : tie.MeasureT-loop
-μ-loop tables₀ s j₀ tables j = queues * dimensions - j
+μ-loop tables₀ s i q₀ tables q = queues - q
 
 loop-holds : tie.Need-loop-holds Inv-loop μ-loop
 loop-holds c = (filled-none _ _ _, omega arith)
 
 passing-requires : tie.Need-passing-requires Inv-loop μ-loop
-passing-requires c κs = (c .before .before .before .pre .0, omega arith)
+passing-requires c κs = (c .before .before .before .pre .0, c .before .before .before .pre .2)
 
 slice-write-tables : tie.Need-slice-write-tables Inv-loop μ-loop
 slice-write-tables c =
@@ -44,8 +44,9 @@ fill-passing-spec =
     Inv-loop
     μ-loop
     loop-holds
-    (λ c. search needs)
     passing-requires
+    (λ c. search needs)
+    (λ c. search needs)
     (λ c. search needs)
     (λ c. search needs)
     slice-write-tables

@@ -7,7 +7,7 @@ use Rattle.network.specs.PacketLaws.{halfOffsets}
 use Rattle.base.specs.Digits.{weight}
 use Rattle.network.specs.Sizes.{shapeOf, largestRing}
 use Rattle.network.specs.TorusLaws.{inRange-size}
-use Rattle.packet_check.specs.Tables.{ringWords, RingTable}
+use Rattle.packet_check.specs.Tables.{dimensionWords, RingTable}
 use Rattle.packet_check.proofs.TableLaws.{moved-read}
 use Rattle.packet_check.proofs.moved.Statement.{statement}
 use Rattle.packet_check.proofs.moved.Tie as tie
@@ -55,9 +55,9 @@ returns d =
     let p = c .before .before .pre in
     let r = ring c in
     let e = c .size .ensures in
-    let table : RingTable (a .tables .now) (a .i * ringWords) (c .size .result) (weight (shapeOf (a .s) .sizes) (a .i)) = rw e (p .0 .rings (a .i) (p .2)) in
+    let table : RingTable (a .tables .now) (a .i * dimensionWords) (c .size .result) (weight (shapeOf (a .s) .sizes) (a .i)) = rw e (p .0 .dimension (a .i) (p .2) .ring) in
     λ f b l h.
-    moved-read (a .tables .now) (a .i * ringWords) (a .c) (c .size .result) (a .a) f b _ (r .on) (r .most) (r .least) table (omega arith) h
+    moved-read (a .tables .now) (a .i * dimensionWords) (a .c) (c .size .result) (a .a) f b _ (r .on) (r .most) (r .least) table (omega arith) h
     ∙ ap (λ (k : ℕ). weight (shapeOf (a .s) .sizes) (a .i) * ((a .c + (f * 1 + b * (k - 1))) % k)) e
 
 pub moved-spec : {M : Type 1} → statement M
