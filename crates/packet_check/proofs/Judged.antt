@@ -23,7 +23,7 @@ use Rattle.network.specs.declared.Sizes.{Sizes}
 use Rattle.packet.specs.declared.torus.Place.{Place}
 use Rattle.packet.specs.Geometry.{nodeAt, OnTorus}
 use Rattle.packet.specs.GeometryLaws.{place-node}
-use Rattle.packet_check.specs.PacketLimits.{limit, within, belowAlong, belowLimits}
+use Rattle.packet_check.specs.PacketLimits.{limit, belowBoth, belowAlong, belowLimits}
 use Rattle.packet_check.specs.LimitLaws.{limit-size, fits-is}
 use Rattle.packet_check.specs.Tables.{ringWords, dimensionWords, firstDistance, Tables}
 use Rattle.packet_check.proofs.Offsets.{passing-is, distance-of}
@@ -48,7 +48,7 @@ module _ (s : Sizes) (q p i a : ℕ) (h : i < dimensions) (e : a + hops (minus i
     pub back : hops (minus i) p ≤ size (shapeOf s) i
 
   pub short : T (sizesInRange (shapeOf s)) → belowAlong (shapeOf s) q p i ≡ true → Short
-  unfolding belowAlong within
+  unfolding belowAlong belowBoth
   short t below =
       let f = ltb→lt (hops (plus i) p) (limit (shapeOf s) q (plus i)) (and-l forward backward (true-T _ below)) in
       let b = ltb→lt (hops (minus i) p) (limit (shapeOf s) q (minus i)) (and-r forward backward (true-T _ below)) in

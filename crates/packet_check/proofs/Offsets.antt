@@ -16,7 +16,7 @@ use Rattle.network.specs.Packet.{fields, offsetField, signed, forward, backward
 use Rattle.network.specs.PacketLaws.{halfOffsets, signed-small, signed-large, hops-plus, hops-minus}
 use Rattle.packet.specs.GeometryLaws.{moved-is}
 use Rattle.network.specs.declared.Sizes.{Sizes}
-use Rattle.packet_check.specs.PacketLimits.{limit, OneWay, within}
+use Rattle.packet_check.specs.PacketLimits.{limit, OneWay, belowBoth}
 use Rattle.packet_check.specs.LimitLaws.{limit-none, limit-half}
 use Rattle.packet_check.specs.Tables.{row, passing, distanceAt}
 
@@ -81,8 +81,8 @@ module _ (s : Sizes) (q i : ℕ) (t : T (sizesInRange (shapeOf s))) where
       by (no x) (yes z) = let e = limit-none (shapeOf s) q (minus i) z (plus i) (λ x. omega arith) (omega arith) in inr (omega arith)
       by (no x) (no y) = inl (omega arith, omega arith)
 
-  pub passing-is : (a f b : ℕ) → OneWay f b → a + b ≡ halfOffsets + f → bit (passing (shapeOf s) q i) a ≡ within (shapeOf s) q i f b
-  unfolding passing row within
+  pub passing-is : (a f b : ℕ) → OneWay f b → a + b ≡ halfOffsets + f → bit (passing (shapeOf s) q i) a ≡ belowBoth (shapeOf s) q i f b
+  unfolding passing row belowBoth
   passing-is a f b way e =
       bit-row (forwards + backs - 1) (halfOffsets + 1 - backs) a ∙ in-row forwards backs a f b some-passing way (limit-half s q (minus i) t) e
 

@@ -18,7 +18,7 @@ use Rattle.network.specs.TorusLaws.{Torus, sizes-torus, size-pos, inRange-size,
 use Rattle.network.specs.Check.{longest, isQueueOf, reach, opposite, spareClear, packetFits}
 use Rattle.network.specs.CheckLaws.{PacketFits, packet-of, packet-by, eq-T, reach-least, reach-other, opposite-dimension, opposite-lt}
 use Rattle.network.specs.declared.Sizes.{Sizes}
-use Rattle.packet_check.specs.PacketLimits.{limit, within, belowAlong, belowLimits}
+use Rattle.packet_check.specs.PacketLimits.{limit, belowBoth, belowAlong, belowLimits}
 
 -- The limits by the queue's direction -------------------------------------------------------------------------------------------------
 
@@ -131,7 +131,7 @@ module _ (S : Shape) (q d : ℕ) where
 
 -- hops that are below limits, direction by direction
 below-of : (S : Shape) (q p : ℕ) → T (belowLimits S q p) → (d : ℕ) → d < directions → hops d p < limit S q d
-unfolding belowLimits belowAlong within
+unfolding belowLimits belowAlong belowBoth
 below-of S q p t d h = by (ℕ-discrete d (plus (dimensionOf d)))
   where
     test : ℕ → Bool
@@ -148,7 +148,7 @@ below-of S q p t d h = by (ℕ-discrete d (plus (dimensionOf d)))
     by (no ne) = passed (minus (dimensionOf d)) (omega arith) (and-r (test (plus (dimensionOf d))) (test (minus (dimensionOf d))) both)
 
 below-by : (S : Shape) (q p : ℕ) → ((d : ℕ) → d < directions → hops d p < limit S q d) → T (belowLimits S q p)
-unfolding belowLimits belowAlong within
+unfolding belowLimits belowAlong belowBoth
 below-by S q p h = all-by dimensions (λ i. test (plus i) && test (minus i)) (λ i k. and-i (test (plus i)) (test (minus i)) (passes (plus i) (omega arith)) (passes (minus i) (omega arith)))
   where
     test : ℕ → Bool

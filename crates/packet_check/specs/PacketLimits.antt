@@ -24,12 +24,12 @@ abbrev pub OneWay : ℕ → ℕ → Type 0
 OneWay f b = (f ≡ 0) ⊎ (b ≡ 0)
 
 -- f hops forward and b back along dimension i are below the limits of queue q
-unfoldable pub within : Shape → ℕ → ℕ → ℕ → ℕ → Bool
-within S q i f b = ltb f (limit S q (plus i)) && ltb b (limit S q (minus i))
+unfoldable pub belowBoth : Shape → ℕ → ℕ → ℕ → ℕ → Bool
+belowBoth S q i f b = ltb f (limit S q (plus i)) && ltb b (limit S q (minus i))
 
 -- a packet's hops along dimension i are, and along all dimensions
 unfoldable pub belowAlong : Shape → ℕ → ℕ → ℕ → Bool
-belowAlong S q p i = within S q i (hops (plus i) p) (hops (minus i) p)
+belowAlong S q p i = belowBoth S q i (hops (plus i) p) (hops (minus i) p)
 
 unfoldable pub belowLimits : Shape → ℕ → ℕ → Bool
 belowLimits S q p = allBelow dimensions (belowAlong S q p)

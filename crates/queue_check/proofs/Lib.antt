@@ -1,4 +1,5 @@
 -- Laws that several proofs of the crate share.
 pub mod Tallies
+pub mod Zeros
 pub mod QueueParts
 pub mod Walks

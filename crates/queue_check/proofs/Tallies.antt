@@ -1,16 +1,13 @@
--- Tallies. Order: a list's elements tested and summed one by one, or tested two by two; so many queues or nodes tested and summed one by one;
--- bounds of sums; a queue's packets one by one. Assumes nothing.
+-- Tallies. Order: a list's elements tested and summed one by one; so many queues or nodes tested and summed one by one; bounds of sums;
+-- a queue's packets one by one. Assumes nothing.
 use mathlib.Core.Path.{_≡_, refl, ap, ap₂, sym, _∙_}
 use mathlib.Core.Bool.{Bool, true, false, cond, _&&_}
 use mathlib.Core.Logic.{_≢_}
 use mathlib.Core.List.{List, [], _∷_}
-use Prim.Native.Nat.{ℕ, zero, suc, _+_, _*_, _-_, _<_, _≤_}
+use Prim.Native.Nat.{ℕ, suc, _+_, _*_, _-_, _<_, _≤_}
 use native.Mathlib.Numerals.{add-one}
 use native.Mathlib.Nat.{suc-mul}
 use native.Mathlib.Omega.{arith}
-use borrow.Author.Tests.{eq-eqb, ne-eqb}
-use lib.Bits.{bitAnd, bitOr, or-add-and, and-le-r}
-use lib.Dec.{eqb, eqb·zero-suc, eqb·suc-zero}
 use lib.ListN.{length, getD, drop, drop-of-length-le}
 use lib.Seq.{drop-cons, getD-take, getD-drop}
 use Rattle.base.specs.Tests.{allBelow, allOf}
@@ -28,7 +25,7 @@ use Rattle.queue_check.specs.TallyLaws.{Passed, tally-yes, tally-no}
 -- A list's elements one by one ------------------------------------------------------------------------------------------------------------
 
 -- those from place i on, and the first of them
-all-from : (f : ℕ → Bool) (l : List ℕ) (i : ℕ) → i < length l → allOf f (drop i l) ≡ f (getD l i 0) && allOf f (drop (i + 1) l)
+pub all-from : (f : ℕ → Bool) (l : List ℕ) (i : ℕ) → i < length l → allOf f (drop i l) ≡ f (getD l i 0) && allOf f (drop (i + 1) l)
 unfolding allOf
 all-from f l i h = ap (allOf f) (drop-cons l i 0 h) ∙ ap (λ (j : ℕ). f (getD l i 0) && allOf f (drop j l)) (sym (add-one i))
 
@@ -36,117 +33,13 @@ pub sum-from : (g : ℕ → ℕ) (l : List ℕ) (i : ℕ) → i < length l → s
 unfolding sumOf
 sum-from g l i h = ap (sumOf g) (drop-cons l i 0 h) ∙ ap (λ (j : ℕ). g (getD l i 0) + sumOf g (drop j l)) (sym (add-one i))
 
-all-end : (f : ℕ → Bool) (l : List ℕ) (i : ℕ) → length l ≤ i → allOf f (drop i l) ≡ true
+pub all-end : (f : ℕ → Bool) (l : List ℕ) (i : ℕ) → length l ≤ i → allOf f (drop i l) ≡ true
 unfolding allOf
 all-end f l i h = ap (allOf f) (drop-of-length-le l h)
 
 sum-end : (g : ℕ → ℕ) (l : List ℕ) (i : ℕ) → length l ≤ i → sumOf g (drop i l) ≡ 0
 unfolding sumOf
 sum-end g l i h = ap (sumOf g) (drop-of-length-le l h)
-
--- a test for 0, either way round
-either-way : (a : ℕ) → eqb a 0 ≡ eqb 0 a
-either-way zero = refl
-either-way (suc a) = eqb·suc-zero a ∙ sym (eqb·zero-suc a)
-
--- two words are 0 when what they have in either is
-or-none : (a b : ℕ) → eqb (bitOr a b) 0 ≡ eqb 0 a && eqb 0 b
-or-none zero zero = refl
-or-none zero (suc b) = either-way (suc b)
-or-none (suc a) b =
-    ne-eqb (bitOr (suc a) b) 0 (some (bitOr (suc a) b) (bitAnd (suc a) b) (or-add-and (suc a) b) (and-le-r (suc a) b))
-    ∙ sym (and-stop _ _ (eqb·zero-suc a))
-  where
-    some : (o n : ℕ) → o + n ≡ suc a + b → n ≤ b → o ≡ 0 → ⊥
-    some o n e l z = omega arith
-
-regroup : (a b c : Bool) → a && (b && c) ≡ a && b && c
-regroup true b c = refl
-regroup false b c = refl
-
--- the words from place i on, two by two: both, and those behind them; the last one; none
-module _ (l : List ℕ) (i : ℕ) where
-  two-words : i + 1 < length l → allOf (eqb 0) (drop i l) ≡ eqb (bitOr (getD l i 0) (getD l (i + 1) 0)) 0 && allOf (eqb 0) (drop (i + 2) l)
-  two-words h =
-      all-from (eqb 0) l i (omega arith)
-      ∙ ap (λ (t : Bool). eqb 0 (getD l i 0) && t) (all-from (eqb 0) l (i + 1) h)
-      ∙ regroup (eqb 0 (getD l i 0)) (eqb 0 (getD l (i + 1) 0)) (allOf (eqb 0) (drop (i + 1 + 1) l))
-      ∙ ap₂ (λ (t : Bool) (j : ℕ). t && allOf (eqb 0) (drop j l)) (sym (or-none (getD l i 0) (getD l (i + 1) 0))) (let e : i + 1 + 1 ≡ i + 2 = omega arith in e)
-
-  pub pair-stop : i + 1 < length l → (bitOr (getD l i 0) (getD l (i + 1) 0) ≡ 0 → ⊥) → false ≡ allOf (eqb 0) (drop i l)
-  pair-stop h ne = sym (two-words h ∙ and-stop _ _ (ne-eqb (bitOr (getD l i 0) (getD l (i + 1) 0)) 0 ne))
-
-  pub pair-on : i + 1 < length l → bitOr (getD l i 0) (getD l (i + 1) 0) ≡ 0 → allOf (eqb 0) (drop (i + 2) l) ≡ allOf (eqb 0) (drop i l)
-  pair-on h e = sym (two-words h ∙ and-on _ _ (eq-eqb (bitOr (getD l i 0) (getD l (i + 1) 0)) 0 e))
-
-  pub last-word : i < length l → length l ≤ i + 1 → eqb (getD l i 0) 0 ≡ allOf (eqb 0) (drop i l)
-  last-word h n =
-      sym (all-from (eqb 0) l i h ∙ ap (λ (t : Bool). eqb 0 (getD l i 0) && t) (all-end (eqb 0) l (i + 1) n) ∙ alone (getD l i 0))
-    where
-      alone : (a : ℕ) → eqb 0 a && true ≡ eqb a 0
-      alone zero = refl
-      alone (suc a) = and-stop _ _ (eqb·zero-suc a) ∙ sym (eqb·suc-zero a)
-
-  pub no-word : length l ≤ i → true ≡ allOf (eqb 0) (drop i l)
-  no-word n = sym (all-end (eqb 0) l i n)
-
--- four by four, which are two pairs
-module _ (l : List ℕ) (i : ℕ) where
-  abbrev four : ℕ
-  four = bitOr (bitOr (getD l i 0) (getD l (i + 1) 0)) (bitOr (getD l (i + 2) 0) (getD l (i + 3) 0))
-
-  four-words : i + 3 < length l → allOf (eqb 0) (drop i l) ≡ eqb four 0 && allOf (eqb 0) (drop (i + 4) l)
-  four-words h =
-      let third : i + 2 + 1 ≡ i + 3 = omega arith in
-      let fourth : i + 2 + 2 ≡ i + 4 = omega arith in
-      two-words l i (omega arith)
-      ∙ ap (λ (t : Bool). eqb x 0 && t)
-      (two-words l (i + 2) (omega arith) ∙ ap₂ (λ (j k : ℕ). eqb (bitOr (getD l (i + 2) 0) (getD l j 0)) 0 && allOf (eqb 0) (drop k l)) third fourth)
-      ∙ regroup (eqb x 0) (eqb y 0) (allOf (eqb 0) (drop (i + 4) l))
-      ∙ ap (λ (t : Bool). t && allOf (eqb 0) (drop (i + 4) l)) (ap₂ (λ (s t : Bool). s && t) (either-way x) (either-way y) ∙ sym (or-none x y))
-    where
-      x : ℕ
-      x = bitOr (getD l i 0) (getD l (i + 1) 0)
-
-      y : ℕ
-      y = bitOr (getD l (i + 2) 0) (getD l (i + 3) 0)
-
-  pub four-stop : i + 3 < length l → (four ≡ 0 → ⊥) → false ≡ allOf (eqb 0) (drop i l)
-  four-stop h ne = sym (four-words h ∙ and-stop _ _ (ne-eqb four 0 ne))
-
-  pub four-on : i + 3 < length l → four ≡ 0 → allOf (eqb 0) (drop (i + 4) l) ≡ allOf (eqb 0) (drop i l)
-  four-on h e = sym (four-words h ∙ and-on _ _ (eq-eqb four 0 e))
-
--- eight by eight, which are two fours
-module _ (l : List ℕ) (i : ℕ) where
-  abbrev eight : ℕ
-  eight = bitOr (four l i) (bitOr (bitOr (getD l (i + 4) 0) (getD l (i + 5) 0)) (bitOr (getD l (i + 6) 0) (getD l (i + 7) 0)))
-
-  eight-words : i + 7 < length l → allOf (eqb 0) (drop i l) ≡ eqb eight 0 && allOf (eqb 0) (drop (i + 8) l)
-  eight-words h =
-      let fifth : i + 4 + 1 ≡ i + 5 = omega arith in
-      let sixth : i + 4 + 2 ≡ i + 6 = omega arith in
-      let seventh : i + 4 + 3 ≡ i + 7 = omega arith in
-      let eighth : i + 4 + 4 ≡ i + 8 = omega arith in
-      four-words l i (omega arith)
-      ∙ ap (λ (t : Bool). eqb (four l i) 0 && t)
-      (four-words l (i + 4) (omega arith)
-      ∙ ap₂ (λ (a b : ℕ). behind a b (i + 4 + 3) (i + 4 + 4)) fifth sixth
-      ∙ ap₂ (behind (i + 5) (i + 6)) seventh eighth)
-      ∙ regroup (eqb (four l i) 0) (eqb y 0) (allOf (eqb 0) (drop (i + 8) l))
-      ∙ ap (λ (t : Bool). t && allOf (eqb 0) (drop (i + 8) l)) (ap₂ (λ (s t : Bool). s && t) (either-way (four l i)) (either-way y) ∙ sym (or-none (four l i) y))
-    where
-      y : ℕ
-      y = bitOr (bitOr (getD l (i + 4) 0) (getD l (i + 5) 0)) (bitOr (getD l (i + 6) 0) (getD l (i + 7) 0))
-
-      behind : ℕ → ℕ → ℕ → ℕ → Bool
-      behind a b c d = eqb (bitOr (bitOr (getD l (i + 4) 0) (getD l a 0)) (bitOr (getD l b 0) (getD l c 0))) 0 && allOf (eqb 0) (drop d l)
-
-  pub eight-stop : i + 7 < length l → (eight ≡ 0 → ⊥) → false ≡ allOf (eqb 0) (drop i l)
-  eight-stop h ne = sym (eight-words h ∙ and-stop _ _ (ne-eqb eight 0 ne))
-
-  pub eight-on : i + 7 < length l → eight ≡ 0 → allOf (eqb 0) (drop (i + 8) l) ≡ allOf (eqb 0) (drop i l)
-  eight-on h e = sym (eight-words h ∙ and-on _ _ (eq-eqb eight 0 e))
 
 -- the first i have passed, and the sum of theirs is `sum`
 pub record Left (f : ℕ → Bool) (g : ℕ → ℕ) (l : List ℕ) (i sum : ℕ) : Type 0 where

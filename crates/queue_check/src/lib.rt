@@ -61,22 +61,6 @@ fn pairs_zero(part: &[u64], from: usize) -> bool
     true
 }
 
-// The same, four at a time and then the rest.
-fn fours_zero(part: &[u64], from: usize) -> bool
-    requires { ⌜ from ≤ length (now part) ⌝ }
-    ensures { λ r. ⌜ r ≡ allOf (eqb 0) (drop from (now (part .entry))) ⌝ }
-{
-    let mut i = from;
-    while i + 3 < part.len() {
-        let four = part[i] | part[i + 1] | (part[i + 2] | part[i + 3]);
-        if four != 0 {
-            return false;
-        }
-        i += 4;
-    }
-    pairs_zero(part, i)
-}
-
 // The same, eight at a time, as many as an empty queue can have, and then the rest: a network is mostly unused words, and an empty one nothing else.
 fn all_zero(part: &[u64], from: usize) -> bool
     requires { ⌜ from ≤ length (now part) ⌝ }
@@ -92,7 +76,7 @@ fn all_zero(part: &[u64], from: usize) -> bool
         }
         i += 8;
     }
-    fours_zero(part, i)
+    pairs_zero(part, i)
 }
 
 // The packets of a queue's words, which hold no more than they have room for.

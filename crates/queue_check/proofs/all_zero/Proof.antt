@@ -1,11 +1,13 @@
 -- `queue_check::all_zero` meets its contract. The loop's invariant: the words from place i on decide for all. Assumes nothing.
 use mathlib.Core.Path.{_≡_, refl, _∙_}
-use Prim.Native.Nat.{_-_, _≤_}
+use mathlib.Core.List.{List}
+use Prim.Native.Nat.{ℕ, _+_, _-_, _<_, _≤_}
 use native.Mathlib.Omega.{arith}
+use lib.Bits.{bitOr}
 use lib.Dec.{eqb}
-use lib.ListN.{length, drop}
+use lib.ListN.{length, getD, drop}
 use Rattle.base.specs.Tests.{allOf}
-use Rattle.queue_check.proofs.Tallies.{eight-stop, eight-on}
+use Rattle.queue_check.proofs.Zeros.{Tells, tells-one, tells-both, tells-stop, tells-on}
 use Rattle.queue_check.proofs.all_zero.Statement.{statement}
 use Rattle.queue_check.proofs.all_zero.Tie as tie
 
@@ -18,21 +20,38 @@ abbrev μ-loop : tie.MeasureT-loop
 loop-holds : tie.Need-loop-holds Inv-loop μ-loop
 loop-holds c = (refl, c .before .pre)
 
+-- what eight words tell
+module _ (l : List ℕ) (i : ℕ) (h : i + 7 < length l) where
+  one : (k : ℕ) → k < 8 → Tells l (i + k) (i + (k + 1)) (getD l (i + k) 0)
+  one k small = tells-one l (i + k) (i + (k + 1)) (omega arith) (omega arith)
+
+  eight : Tells l i (i + 8)
+      (bitOr (bitOr (bitOr (getD l i 0) (getD l (i + 1) 0)) (bitOr (getD l (i + 2) 0) (getD l (i + 3) 0)))
+      (bitOr (bitOr (getD l (i + 4) 0) (getD l (i + 5) 0)) (bitOr (getD l (i + 6) 0) (getD l (i + 7) 0))))
+  eight =
+      tells-both l _ _ _ _ _
+      (tells-both l _ _ _ _ _ (tells-both l _ _ _ _ _ (tells-one l i (i + 1) (omega arith) refl) (one 1 (omega arith))) (tells-both l _ _ _ _ _ (one 2 (omega arith)) (one 3 (omega arith))))
+      (tells-both l _ _ _ _ _ (tells-both l _ _ _ _ _ (one 4 (omega arith)) (one 5 (omega arith))) (tells-both l _ _ _ _ _ (one 6 (omega arith)) (one 7 (omega arith))))
+
 returns : tie.Need-returns Inv-loop μ-loop
 returns c =
     let l = c .before .before .before .before .before .before .before .before .before .before in
-    eight-stop (l .before .before .args .part .now) (l .loop .i) (c .before .before .before .before .before .before .before .before .before .loop-test .taken) (c .if1 .taken) ∙ l .loop .inv .0
+    tells-stop _ _ _ _ (eight (l .before .before .args .part .now) (l .loop .i) (c .before .before .before .before .before .before .before .before .before .loop-test .taken)) (c .if1 .taken)
+    ∙ l .loop .inv .0
 
 loop-again : tie.Need-loop-again Inv-loop μ-loop
 loop-again c =
-    let l = c .before .before .before .before .before .before .before .before .before .before in
-    (eight-on (l .before .before .args .part .now) (l .loop .i) (c .before .before .before .before .before .before .before .before .before .loop-test .taken) (c .if1 .left) ∙ l .loop .inv .0, omega arith)
+    let l = c .before .before .before .before .before .before .before .before .before .before in (
+      tells-on _ _ _ _ (eight (l .before .before .args .part .now) (l .loop .i) (c .before .before .before .before .before .before .before .before .before .loop-test .taken)) (c .if1 .left)
+          ∙ l .loop .inv .0,
+      omega arith,
+    )
 
-fours-zero-requires : tie.Need-fours-zero-requires Inv-loop μ-loop
-fours-zero-requires c κs = c .before .loop .inv .1
+pairs-zero-requires : tie.Need-pairs-zero-requires Inv-loop μ-loop
+pairs-zero-requires c κs = c .before .loop .inv .1
 
 returns-2 : tie.Need-returns-2 Inv-loop μ-loop
-returns-2 c = c .fours-zero .ensures ∙ c .before .before .loop .inv .0
+returns-2 c = c .pairs-zero .ensures ∙ c .before .before .loop .inv .0
 
 pub all-zero-spec : {M : Type 1} → statement M
 all-zero-spec =
@@ -69,5 +88,5 @@ all-zero-spec =
     (λ c. omega arith)
     (λ c. omega arith)
     loop-again
-    fours-zero-requires
+    pairs-zero-requires
     returns-2)
