@@ -5,9 +5,9 @@ use network::ACCEPTED_AT;
 use network::DELIVERED_AT;
 use network::FEWEST_ESCAPE;
 use network::HEADER_WORDS;
-use network::LARGEST_CAPACITY;
 use network::LARGEST_RING;
 use network::MOST_ACCEPTED;
+use network::MOST_SLOTS;
 use network::MOST_WORK;
 use network::MOVES_AT;
 use network::NO_NETWORK;
@@ -84,13 +84,13 @@ pub fn in_range(s: Sizes) -> bool
     if !rings_in_range(s) {
         return false;
     }
-    if !within(FEWEST_ESCAPE, LARGEST_CAPACITY, s.escape) {
+    if !within(FEWEST_ESCAPE, MOST_SLOTS, s.escape) {
         return false;
     }
-    if !within(1, LARGEST_CAPACITY, s.adaptive) {
+    if !within(1, MOST_SLOTS, s.adaptive) {
         return false;
     }
-    within(1, LARGEST_CAPACITY, s.injection)
+    within(1, MOST_SLOTS, s.injection)
 }
 
 // Of the sizes of the rings, along each dimension.

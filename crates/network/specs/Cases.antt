@@ -27,7 +27,7 @@ use Rattle.network.specs.Sizes.{Shape, shapeOf, sized, size, within, siz
 use Rattle.network.specs.SizesLaws.{escape-capacity}
 use Rattle.network.specs.Packet.{signed, unsigned, packetWord, tag, destination, spare, offset, withOffset, withOffsets, distance, forward, backward, hops, heading, hopsLeft, work, shrunk, hop, label, goesPlus, shorterWay}
 use Rattle.network.specs.Torus.{coordinate, stride, along, neighbour, movedBelow, movedBy}
-use Rattle.network.specs.Layout.{headerWords, shape, accepted, delivered, movesMade, raised, acceptedAt, movesAt, queueLength, nodeWords, queueStart, queueEnd, need, queueWords, queuePart, countOf, packetsOf, unusedOf, held, load, fill, putQueue, total}
+use Rattle.network.specs.Layout.{headerWords, shape, accepted, delivered, movesMade, raised, acceptedAt, movesAt, queueLength, nodeWords, queueStart, queueEnd, need, queueWords, queuePart, countOf, packetsOf, unusedOf, held, load, taken, putQueue, total}
 use Rattle.network.specs.Check.{spareClear, rightPlace, isQueueOf, reach, nearEnough, opposite, rightSign, lowerDone, packetFits, queueFits, queuesFit, hasRoom, ringHasRoom, ringsHaveRoom, packetsHeld, workLeft, countersFit, isNetwork}
 use Rattle.network.specs.Routes.{deliver, inOrder, without, incoming, incomingFirst, headings, routes, target, freeSlots, entersRing, slotsNeeded}
 use Rattle.network.specs.Selection.{selected}
@@ -724,7 +724,7 @@ module _ (w : List ℕ) (d : ℕ) (r : RingsOfTwo w d) where
       let inside = along-lt (shape w) d j n (inRange-torus (shape w) (f .in-range) refl) (r .direction) node in
       let fits = f .queue at (escapeQueue d) inside (let h = r .direction in omega arith) .few in
       let most = escape-capacity (shape w) d ∙ r .two-slots in
-      let taken = take-few (countOf part) (drop 1 part) in
+      let most-held = take-few (countOf part) (drop 1 part) in
       omega arith
 
   full-ring : (n : ℕ) → n < nodes (shape w) → inRing w d n ≡ 4 → networkRefusal w ≡ 3
@@ -834,7 +834,7 @@ delivered-here w n q s z =
 
 -- the definitions with which the rows are computed, to be unfolded by one name
 computed : Unit {0}
-unfolding next oneHop chosen outside sources inEach crossing blocked allBelow someBelow allOf elem EachBelow sumBelow sumOf product digit putDigit rotate size within sizesInRange nodes capacity signed unsigned packetWord tag destination spare offset withOffset withOffsets distance forward backward hops heading hopsLeft work shrunk hop label goesPlus shorterWay coordinate stride along neighbour movedBelow movedBy shape accepted delivered movesMade raised queueLength nodeWords queueStart queueEnd need queueWords queuePart countOf packetsOf unusedOf held load fill putQueue total spareClear rightPlace isQueueOf reach nearEnough opposite rightSign lowerDone packetFits queueFits queuesFit hasRoom ringHasRoom ringsHaveRoom packetsHeld workLeft countersFit isNetwork inOrder without incoming incomingFirst headings routes target freeSlots entersRing slotsNeeded networkRefusal makeRefusal offerRules offerRefusal head flowRules moveRules moveRefusal creditRules creditRefusal lookRules lookRefusal shapeOf emptyNetwork makeWords offered afterOffer offerWords headLeaves packetArrives afterMove moveWords firstOutput firstInQueue orElse search firstInNode firstMove firstAnswer stopped oneMore deliverNext moveNext drainFrom drained drainLedger drainAnswer
+unfolding next oneHop chosen outside sources inEach crossing blocked allBelow someBelow allOf elem EachBelow sumBelow sumOf product digit putDigit rotate size within sizesInRange nodes capacity signed unsigned packetWord tag destination spare offset withOffset withOffsets distance forward backward hops heading hopsLeft work shrunk hop label goesPlus shorterWay coordinate stride along neighbour movedBelow movedBy shape accepted delivered movesMade raised queueLength nodeWords queueStart queueEnd need queueWords queuePart countOf packetsOf unusedOf held load taken putQueue total spareClear rightPlace isQueueOf reach nearEnough opposite rightSign lowerDone packetFits queueFits queuesFit hasRoom ringHasRoom ringsHaveRoom packetsHeld workLeft countersFit isNetwork inOrder without incoming incomingFirst headings routes target freeSlots entersRing slotsNeeded networkRefusal makeRefusal offerRules offerRefusal head flowRules moveRules moveRefusal creditRules creditRefusal lookRules lookRefusal shapeOf emptyNetwork makeWords offered afterOffer offerWords headLeaves packetArrives afterMove moveWords firstOutput firstInQueue orElse search firstInNode firstMove firstAnswer stopped oneMore deliverNext moveNext drainFrom drained drainLedger drainAnswer
 computed = tt
 
 -- K5 to K7, direction by direction

@@ -10,7 +10,7 @@ use Rattle.base.specs.Sums.{sumOf}
 use Rattle.network.specs.Sizes.{Shape, size, sizesInRange, nodes, queues, directions, dimensions, dimensionOf, directionOf, isEscape, isPlus, plus, minus, injectionQueue, escapeQueue, capacity}
 use Rattle.network.specs.Packet.{destination, spare, distance, hops, work}
 use Rattle.network.specs.Torus.{along, movedBy}
-use Rattle.network.specs.Layout.{held, fill, queuePart, countOf, unusedOf, total, need, accepted, delivered, movesMade}
+use Rattle.network.specs.Layout.{held, taken, queuePart, countOf, unusedOf, total, need, accepted, delivered, movesMade}
 
 -- R74, R75: the destination is a node, and the one to which the offsets lead
 unfoldable pub rightPlace : Shape → ℕ → ℕ → Bool
@@ -60,7 +60,7 @@ queuesFit S w = allBelow (nodes S) (λ n. allBelow queues (λ q. queueFits S w n
 
 -- R80, R81: the escape ring of direction d through node n; one of its queues, found from node to node, has a free slot
 unfoldable pub hasRoom : Shape → List ℕ → ℕ → ℕ → Bool
-hasRoom S w n q = ltb (fill S w n q) (capacity S q)
+hasRoom S w n q = ltb (taken S w n q) (capacity S q)
 
 unfoldable pub ringHasRoom : Shape → List ℕ → ℕ → ℕ → Bool
 ringHasRoom S w d n = someBelow (size S (dimensionOf d)) (λ j. hasRoom S w (along S d j n) (escapeQueue d))

@@ -19,8 +19,8 @@ use Rattle.network.specs.Packet.{destination, spare, offset, withOffset,
 use Rattle.network.specs.PacketLaws.{OffsetRange, destination-with, spare-with, offset-with-same, offset-with-other, one-way, distance-is, arrived-distance, arrived-hops, landing, landing-plus, landing-minus}
 use Rattle.network.specs.Torus.{coordinate, stride, along, neighbour, movedBy}
 use Rattle.network.specs.TorusLaws.{Torus, size-pos, coordinates-eq, movedBy-lt, movedBy-here, coordinate-landing}
-use Rattle.network.specs.Layout.{held, fill, queuePart, countOf, unusedOf, need, accepted, delivered, movesMade}
-use Rattle.network.specs.LayoutLaws.{fill-length}
+use Rattle.network.specs.Layout.{held, taken, queuePart, countOf, unusedOf, need, accepted, delivered, movesMade}
+use Rattle.network.specs.LayoutLaws.{taken-length}
 use Rattle.network.specs.Check.{longest, spareClear, rightPlace, isQueueOf, reach, nearEnough, opposite, rightSign, lowerDone, packetFits, queueFits, queuesFit, hasRoom, ringHasRoom, ringsHaveRoom, packetsHeld, workLeft, mostAccepted, mostWork, countersFit, isNetwork}
 
 -- the test of an equation, as a fact and back
@@ -407,17 +407,17 @@ queue-by S w n q f =
     c = allOf (packetFits S n q) (held S w n q)
 
 -- room in a queue, as a fact and back, and by the number held
-pub has-room-of : (S : Shape) (w : List ℕ) (n q : ℕ) → T (hasRoom S w n q) → fill S w n q < capacity S q
+pub has-room-of : (S : Shape) (w : List ℕ) (n q : ℕ) → T (hasRoom S w n q) → taken S w n q < capacity S q
 unfolding hasRoom
-has-room-of S w n q t = ltb→lt (fill S w n q) (capacity S q) t
+has-room-of S w n q t = ltb→lt (taken S w n q) (capacity S q) t
 
-pub has-room-by : (S : Shape) (w : List ℕ) (n q : ℕ) → fill S w n q < capacity S q → T (hasRoom S w n q)
+pub has-room-by : (S : Shape) (w : List ℕ) (n q : ℕ) → taken S w n q < capacity S q → T (hasRoom S w n q)
 unfolding hasRoom
-has-room-by S w n q h = lt→ltb (fill S w n q) (capacity S q) h
+has-room-by S w n q h = lt→ltb (taken S w n q) (capacity S q) h
 
 pub has-room-held : (S : Shape) (w : List ℕ) (n q : ℕ) → hasRoom S w n q ≡ ltb (length (held S w n q)) (capacity S q)
 unfolding hasRoom
-has-room-held S w n q = ap (λ (k : ℕ). ltb k (capacity S q)) (fill-length S w n q)
+has-room-held S w n q = ap (λ (k : ℕ). ltb k (capacity S q)) (taken-length S w n q)
 
 -- the clauses for the words
 pub record Network (S : Shape) (w : List ℕ) : Type 0 where

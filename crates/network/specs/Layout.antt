@@ -79,8 +79,8 @@ unfoldable pub load : ℕ → ℕ → ℕ
 load q p = 1
 
 -- R20: the slots of queue q of node n that are taken, the sum of the loads of the packets that it holds
-unfoldable pub fill : Shape → List ℕ → ℕ → ℕ → ℕ
-fill S w n q = sumOf (load q) (held S w n q)
+unfoldable pub taken : Shape → List ℕ → ℕ → ℕ → ℕ
+taken S w n q = sumOf (load q) (held S w n q)
 
 -- R49: the words with the part of one queue replaced, and nothing else
 unfoldable pub putQueue : Shape → List ℕ → ℕ → ℕ → List ℕ → List ℕ

@@ -14,7 +14,7 @@ use Rattle.base.specs.Tests.{allOf, allOf-head, allOf-tail}
 use Rattle.base.specs.Sums.{sumBelow, sumOf, sumOf-append, sumOf-one, sumOf-ones, sumOf-least, sum-same, sum-change, sum-fewer, term-le, some-term}
 use Rattle.base.specs.Parts.{length-span, length-splice, getD-before, getD-span, span-splice, span-apart, drop-splice, splice-splice, span-set-before}
 use Rattle.network.specs.Sizes.{Shape, nodes, queues, escapeQueue, capacity}
-use Rattle.network.specs.Layout.{headerWords, shape, acceptedAt, deliveredAt, movesAt, accepted, delivered, movesMade, raised, queueLength, nodeWords, queueStart, queueEnd, need, queueWords, queuePart, countOf, packetsOf, unusedOf, held, load, fill, putQueue, total}
+use Rattle.network.specs.Layout.{headerWords, shape, acceptedAt, deliveredAt, movesAt, accepted, delivered, movesMade, raised, queueLength, nodeWords, queueStart, queueEnd, need, queueWords, queuePart, countOf, packetsOf, unusedOf, held, load, taken, putQueue, total}
 
 -- Where the queues stand ----------------------------------------------------------------------------------------------------------------
 
@@ -175,43 +175,43 @@ load-pos q p = let e = load-one q p in omega arith
 pub load-escape : (d p : ℕ) → load (escapeQueue d) p ≡ 1
 load-escape d p = load-one (escapeQueue d) p
 
--- the fill is the number held, which the code reads
-pub fill-length : (S : Shape) (w : List ℕ) (n q : ℕ) → fill S w n q ≡ length (held S w n q)
-unfolding fill
-fill-length S w n q = sumOf-ones (load q) (held S w n q) (load-one q)
+-- what is taken is the number held, which the code reads
+pub taken-length : (S : Shape) (w : List ℕ) (n q : ℕ) → taken S w n q ≡ length (held S w n q)
+unfolding taken
+taken-length S w n q = sumOf-ones (load q) (held S w n q) (load-one q)
 
 -- what holds of any load that is not 0: as many slots are taken as packets are held, or more, and none exactly if no packet is held
-pub length-fill : (S : Shape) (w : List ℕ) (n q : ℕ) → length (held S w n q) ≤ fill S w n q
-unfolding fill
-length-fill S w n q = sumOf-least (load q) (held S w n q) (load-pos q)
+pub length-taken : (S : Shape) (w : List ℕ) (n q : ℕ) → length (held S w n q) ≤ taken S w n q
+unfolding taken
+length-taken S w n q = sumOf-least (load q) (held S w n q) (load-pos q)
 
-pub fill-none : (S : Shape) (w : List ℕ) (n q : ℕ) → length (held S w n q) ≡ 0 → fill S w n q ≡ 0
-unfolding fill sumOf
-fill-none S w n q z = go (held S w n q) z
+pub taken-none : (S : Shape) (w : List ℕ) (n q : ℕ) → length (held S w n q) ≡ 0 → taken S w n q ≡ 0
+unfolding taken sumOf
+taken-none S w n q z = go (held S w n q) z
   where
     go : (ps : List ℕ) → length ps ≡ 0 → sumOf (load q) ps ≡ 0
     go [] e = refl
     go (p ∷ ps) e = absurd (let l : suc (length ps) ≡ 0 = e in omega arith)
 
-pub fill-some : (S : Shape) (w : List ℕ) (n q : ℕ) → length (held S w n q) ≢ 0 → fill S w n q ≢ 0
-fill-some S w n q ne z = ne (let l = length-fill S w n q in omega arith)
+pub taken-some : (S : Shape) (w : List ℕ) (n q : ℕ) → length (held S w n q) ≢ 0 → taken S w n q ≢ 0
+taken-some S w n q ne z = ne (let l = length-taken S w n q in omega arith)
 
 -- in words v against words w: where the queue is the same; where it holds one packet more, the newest; where it holds one less, the oldest
-pub fill-same : (S : Shape) (w v : List ℕ) (n q : ℕ) → held S v n q ≡ held S w n q → fill S v n q ≡ fill S w n q
-unfolding fill
-fill-same S w v n q e = ap (sumOf (load q)) e
+pub taken-same : (S : Shape) (w v : List ℕ) (n q : ℕ) → held S v n q ≡ held S w n q → taken S v n q ≡ taken S w n q
+unfolding taken
+taken-same S w v n q e = ap (sumOf (load q)) e
 
-pub fill-joined : (S : Shape) (w v : List ℕ) (n q p : ℕ) → held S v n q ≡ held S w n q ++ (p ∷ []) → fill S v n q ≡ fill S w n q + load q p
-unfolding fill
-fill-joined S w v n q p e =
+pub taken-joined : (S : Shape) (w v : List ℕ) (n q p : ℕ) → held S v n q ≡ held S w n q ++ (p ∷ []) → taken S v n q ≡ taken S w n q + load q p
+unfolding taken
+taken-joined S w v n q p e =
     let a : sumOf (load q) (held S v n q) ≡ sumOf (load q) (held S w n q) + sumOf (load q) (p ∷ []) =
     ap (sumOf (load q)) e ∙ sumOf-append (load q) (held S w n q) (p ∷ []) in
     let b : sumOf (load q) (p ∷ []) ≡ load q p = sumOf-one (load q) p in
     omega arith
 
-pub fill-left : (S : Shape) (w v : List ℕ) (n q p : ℕ) → held S w n q ≡ p ∷ held S v n q → fill S w n q ≡ load q p + fill S v n q
-unfolding fill sumOf
-fill-left S w v n q p e = ap (sumOf (load q)) e
+pub taken-left : (S : Shape) (w v : List ℕ) (n q p : ℕ) → held S w n q ≡ p ∷ held S v n q → taken S w n q ≡ load q p + taken S v n q
+unfolding taken sumOf
+taken-left S w v n q p e = ap (sumOf (load q)) e
 
 -- One queue replaced --------------------------------------------------------------------------------------------------------------------
 

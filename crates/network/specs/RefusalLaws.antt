@@ -13,7 +13,7 @@ use lib.Dec.{T, leb, ltb, eqb, eqb→eq}
 use lib.ListN.{length}
 use Rattle.base.specs.Tests.{elem, T-true, true-T}
 use Rattle.network.specs.Sizes.{Shape, sizesInRange, nodes, queues, capacity}
-use Rattle.network.specs.Layout.{shape, headerWords, need, held, load, fill}
+use Rattle.network.specs.Layout.{shape, headerWords, need, held, load, taken}
 use Rattle.network.specs.LayoutLaws.{load-one, load-pos}
 use Rattle.network.specs.Check.{isNetwork}
 use Rattle.network.specs.CheckLaws.{Network, network-of, network-by}
@@ -117,7 +117,7 @@ needed-pos q o = go (entersRing q o)
 load-needed : (q o p : ℕ) → load o p ≤ slotsNeeded q o
 load-needed q o p = let a = load-one o p in let b = needed-pos q o in omega arith
 
-pub target-takes : (S : Shape) (w : List ℕ) (n q o p : ℕ) → slotsNeeded q o ≤ freeSlots S w n o → fill S w (target S n o) o + load o p ≤ capacity S o
+pub target-takes : (S : Shape) (w : List ℕ) (n q o p : ℕ) → slotsNeeded q o ≤ freeSlots S w n o → taken S w (target S n o) o + load o p ≤ capacity S o
 target-takes S w n q o p h =
     let a = free-slots-is S w n o in
     let b = load-needed q o p in

@@ -7,7 +7,7 @@ use lib.Dec.{leb, ltb, eqb}
 use lib.ListN.{length, getD}
 use Rattle.base.specs.Tests.{elem}
 use Rattle.network.specs.Sizes.{Shape, sizesInRange, nodes, queues, injectionQueue, capacity}
-use Rattle.network.specs.Layout.{shape, headerWords, need, held, fill, accepted}
+use Rattle.network.specs.Layout.{shape, headerWords, need, held, taken, accepted}
 use Rattle.network.specs.Check.{isNetwork, mostAccepted}
 use Rattle.network.specs.Routes.{routes, deliver, freeSlots, slotsNeeded}
 
@@ -92,7 +92,7 @@ noOutput o = leb queues o
 
 -- R167: all of its slots are taken
 abbrev pub injectionIsFull : Shape → List ℕ → ℕ → Bool
-injectionIsFull S w n = eqb (fill S w n injectionQueue) (capacity S injectionQueue)
+injectionIsFull S w n = eqb (taken S w n injectionQueue) (capacity S injectionQueue)
 
 -- R168
 abbrev pub countIsSpent : List ℕ → Bool

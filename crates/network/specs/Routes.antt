@@ -8,7 +8,7 @@ use lib.ListN.{take}
 use Rattle.network.specs.Sizes.{Shape, dimensions, dimensionOf, directionOf, isEscape, injectionQueue, adaptiveQueue, escapeQueue, capacity}
 use Rattle.network.specs.Packet.{distance, heading, hopsLeft}
 use Rattle.network.specs.Torus.{neighbour}
-use Rattle.network.specs.Layout.{fill}
+use Rattle.network.specs.Layout.{taken}
 
 -- the dimensions in the order x, y, z: i, i + 1, .., so many of them
 unfoldable pub inOrder : ℕ → ℕ → List ℕ
@@ -49,7 +49,7 @@ target S n o = neighbour S (directionOf o) n
 
 -- R116: the slots of the target that are not taken
 unfoldable pub freeSlots : Shape → List ℕ → ℕ → ℕ → ℕ
-freeSlots S w n o = capacity S o - fill S w (target S n o) o
+freeSlots S w n o = capacity S o - taken S w (target S n o) o
 
 -- R151, R152: a head that goes into an escape queue enters its ring, unless it stands in the escape queue of that direction: there its queue has the
 -- output's number, and it travels in the ring already

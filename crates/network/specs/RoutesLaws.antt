@@ -14,8 +14,8 @@ use Rattle.base.specs.Tests.{elem, or-e, or-l, or-r, elem-append-r}
 use Rattle.network.specs.Sizes.{Shape, capacity, dimensions, dimensionOf, directionOf, adaptiveQueue, escapeQueue}
 use Rattle.network.specs.Packet.{distance, heading, hopsLeft}
 use Rattle.base.specs.Sums.{sumBelow, sum-zero}
-use Rattle.network.specs.Layout.{held, fill}
-use Rattle.network.specs.LayoutLaws.{fill-length}
+use Rattle.network.specs.Layout.{held, taken}
+use Rattle.network.specs.LayoutLaws.{taken-length}
 use Rattle.network.specs.Routes.{inOrder, without, incoming, incomingFirst, headings, routes, deliver, target, freeSlots}
 
 -- a member of two lists joined, or of a list mapped
@@ -275,14 +275,14 @@ escape-route q p ne = go (lowest 0 dimensions p)
         below : (i : ℕ) → i < dimensions → i < 0 + dimensions
         below i h = omega arith
 
--- the free slots of a target, by its fill, and by the number that it holds
-pub free-slots-is : (S : Shape) (w : List ℕ) (n o : ℕ) → freeSlots S w n o ≡ capacity S o - fill S w (target S n o) o
+-- the free slots of a target, by what is taken of it, and by the number that it holds
+pub free-slots-is : (S : Shape) (w : List ℕ) (n o : ℕ) → freeSlots S w n o ≡ capacity S o - taken S w (target S n o) o
 unfolding freeSlots
 free-slots-is S w n o = refl
 
 pub free-slots-held : (S : Shape) (w : List ℕ) (n o : ℕ) → freeSlots S w n o ≡ capacity S o - length (held S w (target S n o) o)
-free-slots-held S w n o = free-slots-is S w n o ∙ ap (λ (k : ℕ). capacity S o - k) (fill-length S w (target S n o) o)
+free-slots-held S w n o = free-slots-is S w n o ∙ ap (λ (k : ℕ). capacity S o - k) (taken-length S w (target S n o) o)
 
 -- where no less is taken, no more is free
-pub free-slots-fewer : (S : Shape) (w v : List ℕ) (n o : ℕ) → fill S w (target S n o) o ≤ fill S v (target S n o) o → freeSlots S v n o ≤ freeSlots S w n o
+pub free-slots-fewer : (S : Shape) (w v : List ℕ) (n o : ℕ) → taken S w (target S n o) o ≤ taken S v (target S n o) o → freeSlots S v n o ≤ freeSlots S w n o
 free-slots-fewer S w v n o l = let a = free-slots-is S w n o in let b = free-slots-is S v n o in omega arith

@@ -56,15 +56,15 @@ largestRing = 16
 abbrev pub fewestEscape : ℕ
 fewestEscape = 2
 
-abbrev pub largestCapacity : ℕ
-largestCapacity = 8
+abbrev pub mostSlots : ℕ
+mostSlots = 8
 
 -- R21 to R24: the range of each of the six
 unfoldable pub sizesInRange : Shape → Bool
 sizesInRange S =
     allOf (within 1 largestRing) (S .sizes)
-    && (within fewestEscape largestCapacity (S .escape)
-    && (within 1 largestCapacity (S .adaptive) && within 1 largestCapacity (S .injection)))
+    && (within fewestEscape mostSlots (S .escape)
+    && (within 1 mostSlots (S .adaptive) && within 1 mostSlots (S .injection)))
 
 -- R30: nodes are numbered 0 to X × Y × Z − 1
 unfoldable pub nodes : Shape → ℕ
@@ -96,3 +96,7 @@ isEscape q = ltb directions q
 
 unfoldable pub capacity : Shape → ℕ → ℕ
 capacity S q = cond (eqb q injectionQueue) (S .injection) (cond (isEscape q) (S .escape) (S .adaptive))
+
+-- no queue of a network has a larger one, and so no more words for packets
+abbrev pub largestCapacity : ℕ
+largestCapacity = mostSlots

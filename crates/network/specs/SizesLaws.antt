@@ -6,7 +6,7 @@ use native.Mathlib.Omega.{arith}
 use borrow.Author.Tests.{ne-eqb, lt-ltb}
 use lib.Dec.{T, leb, eqb, leb→le, le→leb}
 use Rattle.base.specs.Tests.{allOf, and-l, and-r, and-i}
-use Rattle.network.specs.Sizes.{Shape, within, sizesInRange, injectionQueue, escapeQueue, isEscape, directions, capacity, largestRing, fewestEscape, largestCapacity}
+use Rattle.network.specs.Sizes.{Shape, within, sizesInRange, injectionQueue, escapeQueue, isEscape, directions, capacity, largestRing, fewestEscape, mostSlots, largestCapacity}
 
 pub record Between (least most n : ℕ) : Type 0 where
   pub low : least ≤ n
@@ -22,38 +22,38 @@ between-by least most n b = and-i (leb least n) (leb n most) (le→leb least n (
 
 pub record InRange (S : Shape) : Type 0 where
   pub sizes : T (allOf (within 1 largestRing) (S .sizes))
-  pub escape : Between fewestEscape largestCapacity (S .escape)
-  pub adaptive : Between 1 largestCapacity (S .adaptive)
-  pub injection : Between 1 largestCapacity (S .injection)
+  pub escape : Between fewestEscape mostSlots (S .escape)
+  pub adaptive : Between 1 mostSlots (S .adaptive)
+  pub injection : Between 1 mostSlots (S .injection)
 
 pub range-of : (S : Shape) → T (sizesInRange S) → InRange S
 unfolding sizesInRange
 range-of S t =
     record {
       sizes = and-l a (b && (c && d)) t;
-      escape = between-of fewestEscape largestCapacity (S .escape) (and-l b (c && d) (and-r a (b && (c && d)) t));
-      adaptive = between-of 1 largestCapacity (S .adaptive) (and-l c d (and-r b (c && d) (and-r a (b && (c && d)) t)));
-      injection = between-of 1 largestCapacity (S .injection) (and-r c d (and-r b (c && d) (and-r a (b && (c && d)) t)));
+      escape = between-of fewestEscape mostSlots (S .escape) (and-l b (c && d) (and-r a (b && (c && d)) t));
+      adaptive = between-of 1 mostSlots (S .adaptive) (and-l c d (and-r b (c && d) (and-r a (b && (c && d)) t)));
+      injection = between-of 1 mostSlots (S .injection) (and-r c d (and-r b (c && d) (and-r a (b && (c && d)) t)));
     }
   where
     a : Bool
     a = allOf (within 1 largestRing) (S .sizes)
 
     b : Bool
-    b = within fewestEscape largestCapacity (S .escape)
+    b = within fewestEscape mostSlots (S .escape)
 
     c : Bool
-    c = within 1 largestCapacity (S .adaptive)
+    c = within 1 mostSlots (S .adaptive)
 
     d : Bool
-    d = within 1 largestCapacity (S .injection)
+    d = within 1 mostSlots (S .injection)
 
 pub range-by : (S : Shape) → InRange S → T (sizesInRange S)
 unfolding sizesInRange
 range-by S r =
-    and-i (allOf (within 1 largestRing) (S .sizes)) (within fewestEscape largestCapacity (S .escape) && (within 1 largestCapacity (S .adaptive) && within 1 largestCapacity (S .injection))) (r .sizes)
-    (and-i (within fewestEscape largestCapacity (S .escape)) (within 1 largestCapacity (S .adaptive) && within 1 largestCapacity (S .injection)) (between-by fewestEscape largestCapacity (S .escape) (r .escape))
-    (and-i (within 1 largestCapacity (S .adaptive)) (within 1 largestCapacity (S .injection)) (between-by 1 largestCapacity (S .adaptive) (r .adaptive)) (between-by 1 largestCapacity (S .injection) (r .injection))))
+    and-i (allOf (within 1 largestRing) (S .sizes)) (within fewestEscape mostSlots (S .escape) && (within 1 mostSlots (S .adaptive) && within 1 mostSlots (S .injection))) (r .sizes)
+    (and-i (within fewestEscape mostSlots (S .escape)) (within 1 mostSlots (S .adaptive) && within 1 mostSlots (S .injection)) (between-by fewestEscape mostSlots (S .escape) (r .escape))
+    (and-i (within 1 mostSlots (S .adaptive)) (within 1 mostSlots (S .injection)) (between-by 1 mostSlots (S .adaptive) (r .adaptive)) (between-by 1 mostSlots (S .injection) (r .injection))))
 
 -- every queue has a slot, an escape queue two, and none more than eight
 pub capacity-most : (S : Shape) (q : ℕ) → InRange S → capacity S q ≤ largestCapacity

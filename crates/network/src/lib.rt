@@ -27,7 +27,7 @@ pub const LARGEST_RING: u64 = 16;
 
 pub const FEWEST_ESCAPE: u64 = 2;
 
-pub const LARGEST_CAPACITY: u64 = 8;
+pub const MOST_SLOTS: u64 = 8;
 
 // The nodes of the largest network, of the largest size in each dimension.
 pub const MOST_NODES: u64 = 4096;

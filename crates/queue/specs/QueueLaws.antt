@@ -10,7 +10,7 @@ use lib.Dec.{T, leb, eqb, leb→le}
 use lib.ListN.{length}
 use Rattle.base.specs.Tests.{and-l, and-r, allOf, allBelow, all-at}
 use Rattle.base.specs.Parts.{span, splice}
-use Rattle.network.specs.Sizes.{Shape, shapeOf, largestCapacity, sizesInRange, nodes, queues, capacity}
+use Rattle.network.specs.Sizes.{Shape, shapeOf, mostSlots, sizesInRange, nodes, queues, capacity}
 use Rattle.network.specs.SizesLaws.{range-of}
 use Rattle.network.specs.declared.Sizes.{Sizes}
 use Rattle.network.specs.Layout.{queueLength, queueStart, queueEnd, need, queueWords, queuePart, countOf, packetsOf, unusedOf, held, putQueue}
@@ -22,9 +22,9 @@ use Rattle.queue.specs.Queue.{IsQueue, QueueAt, CheckedQueue, slots}
 -- What the sizes bound ------------------------------------------------------------------------------------------------------------------
 
 pub record SmallQueues (s : Sizes) : Type 0 where
-  pub escape : s .escape ≤ largestCapacity
-  pub adaptive : s .adaptive ≤ largestCapacity
-  pub injection : s .injection ≤ largestCapacity
+  pub escape : s .escape ≤ mostSlots
+  pub adaptive : s .adaptive ≤ mostSlots
+  pub injection : s .injection ≤ mostSlots
 
 pub small-queues : (s : Sizes) → T (sizesInRange (shapeOf s)) → SmallQueues s
 unfolding shapeOf

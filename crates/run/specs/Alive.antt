@@ -19,8 +19,8 @@ use Rattle.network.specs.Packet.{distance, hops, heading, hopsLeft}
 use Rattle.network.specs.PacketLaws.{dimension-lt, heading-lt, heading-dimension, heading-of}
 use Rattle.network.specs.Torus.{along, neighbour}
 use Rattle.network.specs.TorusLaws.{Torus, along-lt, along-add, along-zero, along-round, neighbour-lt, size-pos}
-use Rattle.network.specs.Layout.{held, fill}
-use Rattle.network.specs.LayoutLaws.{fill-none, fill-some, some-held}
+use Rattle.network.specs.Layout.{held, taken}
+use Rattle.network.specs.LayoutLaws.{taken-none, taken-some, some-held}
 use Rattle.network.specs.Check.{packetFits, packetsHeld, opposite}
 use Rattle.network.specs.CheckLaws.{PacketFits, packet-of, Network, both-zero}
 use Rattle.network.specs.Routes.{deliver, target, entersRing, slotsNeeded, freeSlots}
@@ -120,7 +120,7 @@ unfolding entersRing slotsNeeded target Room
 fits-one S w n d hd room =
     rw (free-slots-is S w n (escapeQueue d), eq-eqb (escapeQueue d) (escapeQueue d) refl, escape-direction d hd) (go (isEscape (escapeQueue d)))
   where
-    go : (b : Bool) → cond (b && false) 2 1 ≤ capacity S (escapeQueue d) - fill S w (neighbour S d n) (escapeQueue d)
+    go : (b : Bool) → cond (b && false) 2 1 ≤ capacity S (escapeQueue d) - taken S w (neighbour S d n) (escapeQueue d)
     go true = omega arith
     go false = omega arith
 
@@ -184,12 +184,12 @@ module _ (S : Shape) (w : List ℕ) (tor : Torus S) (N : Network S w) where
   into-empty : (n q e : ℕ) → n < nodes S → e < directions → Empty S w e → slotsNeeded q (escapeQueue e) ≤ freeSlots S w n (escapeQueue e)
   unfolding target entersRing slotsNeeded Empty
   into-empty n q e hn he z =
-      let a : fill S w (target S n (escapeQueue e)) (escapeQueue e) ≡ 0 =
-      fill-none S w (target S n (escapeQueue e)) (escapeQueue e)
+      let a : taken S w (target S n (escapeQueue e)) (escapeQueue e) ≡ 0 =
+      taken-none S w (target S n (escapeQueue e)) (escapeQueue e)
       (z (target S n (escapeQueue e)) (neighbour-lt S (directionOf (escapeQueue e)) n tor (rw (escape-direction e he) he) hn)) in
       let b : 2 ≤ capacity S (escapeQueue e) = two-slots e in
       rw (free-slots-is S w n (escapeQueue e))
-      (go (isEscape (escapeQueue e) && not (eqb q (escapeQueue e))) (capacity S (escapeQueue e)) (fill S w (target S n (escapeQueue e)) (escapeQueue e)) a b)
+      (go (isEscape (escapeQueue e) && not (eqb q (escapeQueue e))) (capacity S (escapeQueue e)) (taken S w (target S n (escapeQueue e)) (escapeQueue e)) a b)
     where
       go : (t : Bool) (c l : ℕ) → l ≡ 0 → 2 ≤ c → cond t 2 1 ≤ c - l
       go true c l a b = omega arith
@@ -278,10 +278,10 @@ module _ (S : Shape) (w : List ℕ) (tor : Torus S) (N : Network S w) where
       old = ring-of S w d (l .node) (N .ring d (l .node) hd (l .inside))
 
       at : ℕ → ℕ
-      at j = fill S w (along S d j (l .node)) (escapeQueue d)
+      at j = taken S w (along S d j (l .node)) (escapeQueue d)
 
       start : at 0 ≢ 0
-      start z = fill-some S w (l .node) (escapeQueue d) (l .holds) (sym (ap (λ (n : ℕ). fill S w n (escapeQueue d)) (along-zero S d (l .node) tor hd)) ∙ z)
+      start z = taken-some S w (l .node) (escapeQueue d) (l .holds) (sym (ap (λ (n : ℕ). taken S w n (escapeQueue d)) (along-zero S d (l .node) tor hd)) ∙ z)
 
       -- once round the ring and on to the free slot
       round : along S d (suc (old .steps + (k - 1))) (l .node) ≡ along S d (old .steps) (l .node)
@@ -301,7 +301,7 @@ module _ (S : Shape) (w : List ℕ) (tor : Torus S) (N : Network S w) where
       go : (i : ℕ) × (at i ≢ 0) × (at (suc i) < capacity S (escapeQueue d)) → Some S w
       go r =
           along-or-later d hd (l .later) (along S d (r .0) (l .node)) (along-lt S d (r .0) (l .node) tor hd (l .inside))
-          (λ z. r .1 (fill-none S w (along S d (r .0) (l .node)) (escapeQueue d) z))
+          (λ z. r .1 (taken-none S w (along S d (r .0) (l .node)) (escapeQueue d) z))
           (rw (one-more S d (r .0) (l .node) tor hd) (r .2))
 
   pub alive : packetsHeld S w ≢ 0 → Some S w

@@ -14,7 +14,7 @@ use Rattle.network.specs.declared.Found.{Found}
 use Rattle.network.specs.Sizes.{Shape, nodes, queues, directions, directionOf}
 use Rattle.network.specs.Torus.{neighbour}
 use Rattle.network.specs.TorusLaws.{Torus, neighbour-lt}
-use Rattle.network.specs.Layout.{held, fill}
+use Rattle.network.specs.Layout.{held, taken}
 use Rattle.network.specs.Check.{opposite}
 use Rattle.network.specs.CheckLaws.{Network, neighbour-back}
 use Rattle.network.specs.Routes.{routes, deliver, target}
@@ -68,7 +68,7 @@ permitted-before S w n q o tor N P k r t u p =
     same : held S v k r ≡ held S w k r
     same = away .same k r (p .node) (p .queue) (u .source) (u .arrival)
 
-    grown : t ≢ deliver → fill S w (target S k t) t ≤ fill S v (target S k t) t
+    grown : t ≢ deliver → taken S w (target S k t) t ≤ taken S v (target S k t) t
     grown ne =
         away .no-less (target S k t) t (target-lt S k t tor (p .node)) (p .output)
         (λ e. u .feeder (λ z. ne (sym (e .1) ∙ z)) (sym (before-is S k n q tor (ap (target S k) (e .1) ∙ sym (e .0)))))

@@ -10,8 +10,8 @@ use lib.Dec.{T}
 use lib.ListN.{length, drop}
 use Rattle.base.specs.Tests.{allOf, allOf-head, allOf-tail, allOf-append}
 use Rattle.network.specs.Sizes.{Shape, nodes, queues, capacity}
-use Rattle.network.specs.Layout.{headerWords, queueLength, queuePart, countOf, packetsOf, queueWords, held, fill, putQueue, raised}
-use Rattle.network.specs.LayoutLaws.{Fits, length-queuePart, length-packetsOf, countOf-queueWords, packetsOf-queueWords, unused-zero, fill-length, part-put-same, part-put-other, part-raised}
+use Rattle.network.specs.Layout.{headerWords, queueLength, queuePart, countOf, packetsOf, queueWords, held, taken, putQueue, raised}
+use Rattle.network.specs.LayoutLaws.{Fits, length-queuePart, length-packetsOf, countOf-queueWords, packetsOf-queueWords, unused-zero, taken-length, part-put-same, part-put-other, part-raised}
 use Rattle.network.specs.Check.{packetFits}
 use Rattle.network.specs.CheckLaws.{QueueFits}
 use Rattle.network.specs.Refusals.{head}
@@ -34,8 +34,8 @@ held-few S w n q at f =
     let l : countOf (queuePart S w n q) ≤ capacity S q = f .few in
     omega arith
 
-pub fill-few : (S : Shape) (w : List ℕ) (n q : ℕ) → Fits S w n q → QueueFits S w n q → fill S w n q ≤ capacity S q
-fill-few S w n q at f = let e = fill-length S w n q in let l = held-few S w n q at f in omega arith
+pub taken-few : (S : Shape) (w : List ℕ) (n q : ℕ) → Fits S w n q → QueueFits S w n q → taken S w n q ≤ capacity S q
+taken-few S w n q at f = let e = taken-length S w n q in let l = held-few S w n q at f in omega arith
 
 -- the same part in other words
 pub fits-part : (S : Shape) (w v : List ℕ) (n q : ℕ) → queuePart S v n q ≡ queuePart S w n q → QueueFits S w n q → QueueFits S v n q

@@ -20,15 +20,15 @@ use Rattle.network.specs.SizesLaws.{range-of, capacity-pos}
 use Rattle.network.specs.Packet.{destination, hopsLeft, work}
 use Rattle.network.specs.Torus.{along}
 use Rattle.network.specs.TorusLaws.{Torus, inRange-torus, inRange-size, inRange-nodes, along-lt}
-use Rattle.network.specs.Layout.{headerWords, shape, need, nodeWords, queueStart, queueEnd, queueWords, queuePart, packetsOf, held, fill, putQueue, raised, total, accepted, delivered, movesMade, acceptedAt, deliveredAt, movesAt}
-use Rattle.network.specs.LayoutLaws.{Fits, start-header, start-end, end-start, end-need, packetsOf-queueWords, length-fill, fill-none, fill-same, held-put-other, length-put, shape-put, accepted-put, delivered-put, movesMade-put, total-put, length-raised, held-raised, raised-same, raised-other, shape-raised, total-raised}
+use Rattle.network.specs.Layout.{headerWords, shape, need, nodeWords, queueStart, queueEnd, queueWords, queuePart, packetsOf, held, taken, putQueue, raised, total, accepted, delivered, movesMade, acceptedAt, deliveredAt, movesAt}
+use Rattle.network.specs.LayoutLaws.{Fits, start-header, start-end, end-start, end-need, packetsOf-queueWords, length-taken, taken-none, taken-same, held-put-other, length-put, shape-put, accepted-put, delivered-put, movesMade-put, total-put, length-raised, held-raised, raised-same, raised-other, shape-raised, total-raised}
 use Rattle.network.specs.Check.{reach, isQueueOf, packetFits, ringHasRoom, packetsHeld, workLeft, mostAccepted, mostWork}
 use Rattle.network.specs.CheckLaws.{PacketFits, packet-by, Network}
 use Rattle.network.specs.Refusals.{networkRefusal, makeRefusal, offerRules, offerRefusal}
 use Rattle.network.specs.RefusalLaws.{not-refused, neither, network-passed, network-passes, own-node-exactly}
 use Rattle.network.specs.OfferLaws.{ShortRings, destination-offered, spare-offered, distance-offered, work-offered, movedBy-offered, hops-offered}
 use Rattle.network.specs.Calls.{emptyNetwork, makeWords, offered, afterOffer, offerWords}
-use Rattle.run.specs.Queues.{AllFit, fill-few, fits-words, fit-put, fit-raised, allOf-newest}
+use Rattle.run.specs.Queues.{AllFit, taken-few, fits-words, fit-put, fit-raised, allOf-newest}
 use Rattle.run.specs.Rings.{Room, RingRoom, ring-of, ring-by, escape-lt}
 use Rattle.run.specs.Theorem.{torus}
 
@@ -76,8 +76,8 @@ module _ (S : Shape) (w : List ℕ) (tor : Torus S) (B : Blank S w) where
   blank-ring : (d n : ℕ) → d < directions → n < nodes S → T (ringHasRoom S w d n)
   unfolding Room
   blank-ring d n hd hn =
-      let e : fill S w (along S d 0 n) (escapeQueue d) ≡ 0 =
-      fill-none S w (along S d 0 n) (escapeQueue d) (ap length (blank-held (along S d 0 n) (escapeQueue d) (along-lt S d 0 n tor hd hn) (escape-lt d hd))) in
+      let e : taken S w (along S d 0 n) (escapeQueue d) ≡ 0 =
+      taken-none S w (along S d 0 n) (escapeQueue d) (ap length (blank-held (along S d 0 n) (escapeQueue d) (along-lt S d 0 n tor hd hn) (escape-lt d hd))) in
       let c : 0 < capacity S (escapeQueue d) = capacity-pos S (escapeQueue d) (range-of S (B .in-range)) in
       ring-by S w d n 0 tor hd (omega arith)
 
@@ -266,7 +266,7 @@ module _ (S : Shape) (w : List ℕ) (n dest tag : ℕ) (tor : Torus S) (N : Netw
       let r : RingRoom S w d m = ring-of S w d m (N .ring d m hd′ hm) in
       let same : held S after (along S d (r .steps) m) (escapeQueue d) ≡ held S w (along S d (r .steps) m) (escapeQueue d) =
       after-held (along S d (r .steps) m) (escapeQueue d) (along-lt S d (r .steps) m tor hd′ hm) (escape-lt d hd′) (λ z. positive d z) in
-      ring-by S after d m (r .steps) tor hd′ (rw (fill-same S w after (along S d (r .steps) m) (escapeQueue d) same) (r .room))
+      ring-by S after d m (r .steps) tor hd′ (rw (taken-same S w after (along S d (r .steps) m) (escapeQueue d) same) (r .room))
     where
       positive : (d : ℕ) → escapeQueue d ≡ 0 → ⊥
       positive d z = omega arith
@@ -354,15 +354,15 @@ accepting S w n dest N e =
     let (a, e₁) = not-refused (leb (nodes S) n || leb (nodes S) dest) 3 _ e in
     let (o, e₂) = not-refused (eqb n dest) 13 _ e₁ in
     let (b, e₃) = not-refused (eqb (accepted w) mostAccepted) 7 _ e₂ in
-    let (c, e₄) = not-refused (eqb (fill S w n injectionQueue) (capacity S injectionQueue)) 6 _ e₃ in
+    let (c, e₄) = not-refused (eqb (taken S w n injectionQueue) (capacity S injectionQueue)) 6 _ e₃ in
     let (x, y) = neither-of (leb (nodes S) n) (leb (nodes S) dest) a in
     let hn : n < nodes S = leb-false (nodes S) n x in
     let spent : accepted w ≢ mostAccepted = eqb-false (accepted w) mostAccepted b in
-    let full : fill S w n injectionQueue ≢ capacity S injectionQueue = eqb-false (fill S w n injectionQueue) (capacity S injectionQueue) c in
+    let full : taken S w n injectionQueue ≢ capacity S injectionQueue = eqb-false (taken S w n injectionQueue) (capacity S injectionQueue) c in
     let most : accepted w ≤ mostAccepted = N .few-accepted in
-    let few : fill S w n injectionQueue ≤ capacity S injectionQueue =
-    fill-few S w n injectionQueue (record { node = hn; queue = omega arith; long = N .long }) (N .queue n injectionQueue hn (omega arith)) in
-    let fewer : length (held S w n injectionQueue) ≤ fill S w n injectionQueue = length-fill S w n injectionQueue in
+    let few : taken S w n injectionQueue ≤ capacity S injectionQueue =
+    taken-few S w n injectionQueue (record { node = hn; queue = omega arith; long = N .long }) (N .queue n injectionQueue hn (omega arith)) in
+    let fewer : length (held S w n injectionQueue) ≤ taken S w n injectionQueue = length-taken S w n injectionQueue in
     record { node = hn; addressed = leb-false (nodes S) dest y; fewer = omega arith; free = omega arith }
   where
     neither-of : (a b : Bool) → a || b ≡ false → (a ≡ false) × (b ≡ false)

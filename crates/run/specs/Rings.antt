@@ -15,7 +15,7 @@ use Rattle.network.specs.Sizes.{Shape, size, nodes, queues, directions, dimensi
 use Rattle.network.specs.PacketLaws.{dimension-lt}
 use Rattle.network.specs.Torus.{along, neighbour}
 use Rattle.network.specs.TorusLaws.{Torus, along-lt, along-add, along-rounds, along-round, size-pos}
-use Rattle.network.specs.Layout.{load, fill}
+use Rattle.network.specs.Layout.{load, taken}
 use Rattle.network.specs.LayoutLaws.{load-escape}
 use Rattle.network.specs.Check.{hasRoom, ringHasRoom}
 use Rattle.network.specs.CheckLaws.{has-room-of, has-room-by}
@@ -25,7 +25,7 @@ use Rattle.run.specs.Queues.{same?}
 
 -- a free slot in one queue
 unfoldable pub Room : Shape → List ℕ → ℕ → ℕ → Type 0
-Room S w n q = fill S w n q < capacity S q
+Room S w n q = taken S w n q < capacity S q
 
 pub record RingRoom (S : Shape) (w : List ℕ) (d n : ℕ) : Type 0 where
   pub steps : ℕ
@@ -69,9 +69,9 @@ back-to S d n tor hd =
 -- any other queue
 pub record Shifted (S : Shape) (w v : List ℕ) (n q o : ℕ) : Type 0 where
   pub packet : ℕ
-  pub others : (m r : ℕ) → m < nodes S → r < queues → ((target S n o ≡ m) × (o ≡ r) → ⊥) → fill S v m r ≤ fill S w m r
-  pub newest : fill S v (target S n o) o ≡ fill S w (target S n o) o + load o packet
-  pub source : fill S v n q < fill S w n q
+  pub others : (m r : ℕ) → m < nodes S → r < queues → ((target S n o ≡ m) × (o ≡ r) → ⊥) → taken S v m r ≤ taken S w m r
+  pub newest : taken S v (target S n o) o ≡ taken S w (target S n o) o + load o packet
+  pub source : taken S v n q < taken S w n q
 
 -- the direction and the kind of an escape queue
 pub escape-direction : (d : ℕ) → d < directions → directionOf (escapeQueue d) ≡ d
@@ -93,7 +93,7 @@ needs-two q d ne = go (isEscape (escapeQueue d)) (escape-is d) (eqb q (escapeQue
     go false t b e = absurd t
 
 -- a ring keeps a free slot: where the move enters it, one of two stays free at the target; where it travels along it, it frees one at the source
-pub ring-kept : (S : Shape) (w v : List ℕ) (n q o : ℕ) → Torus S → n < nodes S → fill S w n q ≤ capacity S q
+pub ring-kept : (S : Shape) (w v : List ℕ) (n q o : ℕ) → Torus S → n < nodes S → taken S w n q ≤ capacity S q
     → slotsNeeded q o ≤ freeSlots S w n o → Shifted S w v n q o
     → (d m : ℕ) → d < directions → m < nodes S → T (ringHasRoom S w d m) → T (ringHasRoom S v d m)
 unfolding Room target
@@ -120,11 +120,11 @@ ring-kept S w v n q o tor hn few flow sh d m hd hm t = go (same? (target S n o) 
         ring-by S v d m (old .steps + (size S (dimensionOf d) - 1)) tor hd (rw (before, ← eq) freed)
     travels eo et (no ne) =
         let two : 2 ≤ freeSlots S w n o = rw (ap (slotsNeeded q) eo ∙ needs-two q d ne) at flow in
-        let free : freeSlots S w n o ≡ capacity S o - fill S w (target S n o) o = free-slots-is S w n o in
-        let more : fill S v (target S n o) o ≡ fill S w (target S n o) o + load o (sh .packet) = sh .newest in
+        let free : freeSlots S w n o ≡ capacity S o - taken S w (target S n o) o = free-slots-is S w n o in
+        let more : taken S v (target S n o) o ≡ taken S w (target S n o) o + load o (sh .packet) = sh .newest in
         let one : load o (sh .packet) ≡ 1 = ap (λ (r : ℕ). load r (sh .packet)) eo ∙ load-escape d (sh .packet) in
         let still : Room S v (target S n o) o =
-        roomy (capacity S o) (fill S w (target S n o) o) (fill S v (target S n o) o) (load o (sh .packet)) (freeSlots S w n o) two free more one in
+        roomy (capacity S o) (taken S w (target S n o) o) (taken S v (target S n o) o) (load o (sh .packet)) (freeSlots S w n o) two free more one in
         ring-by S v d m (old .steps) tor hd (rw (← et, ← eo) still)
       where
         roomy : (c x y l f : ℕ) → 2 ≤ f → f ≡ c - x → y ≡ x + l → l ≡ 1 → y < c

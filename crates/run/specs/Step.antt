@@ -17,8 +17,8 @@ use Rattle.network.specs.Packet.{destination, distance, hops, heading, hop, lab
 use Rattle.network.specs.PacketLaws.{arrived-label, label-hop, hops-hop-le, work-hop, hops-le, dimension-lt}
 use Rattle.network.specs.Torus.{along, neighbour}
 use Rattle.network.specs.TorusLaws.{Torus, along-lt, neighbour-lt, neighbour-apart, movedBy-here}
-use Rattle.network.specs.Layout.{headerWords, shape, need, held, load, fill, putQueue, raised, total, accepted, delivered, movesMade, acceptedAt, deliveredAt, movesAt}
-use Rattle.network.specs.LayoutLaws.{Fits, load-pos, length-fill, fill-same, fill-joined, fill-left, held-put-same, held-put-other, length-put, shape-put, accepted-put, delivered-put, movesMade-put, rest-put, fits-put, length-raised, held-raised, raised-same, raised-other, shape-raised, rest-raised, total-raised, total-put}
+use Rattle.network.specs.Layout.{headerWords, shape, need, held, load, taken, putQueue, raised, total, accepted, delivered, movesMade, acceptedAt, deliveredAt, movesAt}
+use Rattle.network.specs.LayoutLaws.{Fits, load-pos, length-taken, taken-same, taken-joined, taken-left, held-put-same, held-put-other, length-put, shape-put, accepted-put, delivered-put, movesMade-put, rest-put, fits-put, length-raised, held-raised, raised-same, raised-other, shape-raised, rest-raised, total-raised, total-put}
 use Rattle.network.specs.Check.{longest, packetFits, ringHasRoom, packetsHeld, workLeft, mostWork, reach}
 use Rattle.network.specs.CheckLaws.{PacketFits, packet-of, packet-by, Network, reach-least, eq-T}
 use Rattle.network.specs.Routes.{deliver, target, slotsNeeded, freeSlots}
@@ -27,7 +27,7 @@ use Rattle.network.specs.Refusals.{head}
 use Rattle.network.specs.RefusalLaws.{Permitted, target-takes}
 use Rattle.network.specs.Calls.{Delivery, headLeaves, packetArrives, afterMove}
 use Rattle.network.specs.Run.{isLabelled, heldWith, handedWith, hopsOf, hopsWith, atHome}
-use Rattle.run.specs.Queues.{same?, held-few, fill-few, AllFit, fit-put, fit-raised, length-rest, first-rest, allOf-rest, allOf-first, allOf-newest}
+use Rattle.run.specs.Queues.{same?, held-few, taken-few, AllFit, fit-put, fit-raised, length-rest, first-rest, allOf-rest, allOf-first, allOf-newest}
 use Rattle.run.specs.Rings.{Shifted, ring-kept, ring-of, ring-by, Room, RingRoom, escape-lt}
 use Rattle.run.specs.Hop.{Going, going, hopped-fits}
 
@@ -48,7 +48,7 @@ pub record Ran (S : Shape) (w v : List ℕ) (ds : List Delivery) (m : ℕ) : Typ
 -- what a move leaves alone: every queue but its source and its target; and of no queue but the source less is taken than before
 pub record Elsewhere (S : Shape) (w v : List ℕ) (n q o : ℕ) : Type 0 where
   pub same : (m r : ℕ) → m < nodes S → r < queues → ((n ≡ m) × (q ≡ r) → ⊥) → (o ≢ deliver → (target S n o ≡ m) × (o ≡ r) → ⊥) → held S v m r ≡ held S w m r
-  pub no-less : (m r : ℕ) → m < nodes S → r < queues → ((n ≡ m) × (q ≡ r) → ⊥) → fill S w m r ≤ fill S v m r
+  pub no-less : (m r : ℕ) → m < nodes S → r < queues → ((n ≡ m) × (q ≡ r) → ⊥) → taken S w m r ≤ taken S v m r
 
 -- no move
 pub ran-none : (S : Shape) (w : List ℕ) → Network S w → Ran S w w [] 0
@@ -143,14 +143,14 @@ unfolding work
 work-arrived p z = let e : hopsLeft p ≡ 0 = z in omega arith
 
 -- where no more of any queue is taken, each ring keeps its free slot
-ring-less : (S : Shape) (w v : List ℕ) → Torus S → ((m r : ℕ) → m < nodes S → r < queues → fill S v m r ≤ fill S w m r)
+ring-less : (S : Shape) (w v : List ℕ) → Torus S → ((m r : ℕ) → m < nodes S → r < queues → taken S v m r ≤ taken S w m r)
     → (d m : ℕ) → d < directions → m < nodes S → T (ringHasRoom S w d m) → T (ringHasRoom S v d m)
 unfolding Room
 ring-less S w v tor less d m hd hm t =
     let r : RingRoom S w d m = ring-of S w d m t in
-    let a : fill S v (along S d (r .steps) m) (escapeQueue d) ≤ fill S w (along S d (r .steps) m) (escapeQueue d) =
+    let a : taken S v (along S d (r .steps) m) (escapeQueue d) ≤ taken S w (along S d (r .steps) m) (escapeQueue d) =
     less (along S d (r .steps) m) (escapeQueue d) (along-lt S d (r .steps) m tor hd hm) (escape-lt d hd) in
-    let b : fill S w (along S d (r .steps) m) (escapeQueue d) < capacity S (escapeQueue d) = r .room in
+    let b : taken S w (along S d (r .steps) m) (escapeQueue d) < capacity S (escapeQueue d) = r .room in
     ring-by S v d m (r .steps) tor hd (native.Mathlib.Nat.lt-of-le-of-lt a b)
 
 module _ (S : Shape) (w : List ℕ) (n q : ℕ) (tor : Torus S) (N : Network S w) (hn : n < nodes S) (hq : q < queues) (holds : length (held S w n q) ≢ 0) where
@@ -198,19 +198,19 @@ module _ (S : Shape) (w : List ℕ) (n q : ℕ) (tor : Torus S) (N : Network S w
   left-other m r hm hr ne = held-put-other S w n q (drop 1 (held S w n q)) m r place few-rest hm hr ne
 
   -- its queue has less taken, by the head's load, and no queue has more
-  left-fill : fill S w n q ≡ load q (head (held S w n q)) + fill S (headLeaves S w n q) n q
-  left-fill =
-      fill-left S w (headLeaves S w n q) n q (head (held S w n q))
+  left-taken : taken S w n q ≡ load q (head (held S w n q)) + taken S (headLeaves S w n q) n q
+  left-taken =
+      taken-left S w (headLeaves S w n q) n q (head (held S w n q))
       (first-rest (held S w n q) holds ∙ ap (λ (ps : List ℕ). head (held S w n q) ∷ ps) (sym left-held))
 
-  left-less : (m r : ℕ) → m < nodes S → r < queues → fill S (headLeaves S w n q) m r ≤ fill S w m r
+  left-less : (m r : ℕ) → m < nodes S → r < queues → taken S (headLeaves S w n q) m r ≤ taken S w m r
   left-less m r hm hr = go (same? n q m r)
     where
-      go : Dec ((n ≡ m) × (q ≡ r)) → fill S (headLeaves S w n q) m r ≤ fill S w m r
+      go : Dec ((n ≡ m) × (q ≡ r)) → taken S (headLeaves S w n q) m r ≤ taken S w m r
       go (yes e) =
-          let a : fill S (headLeaves S w n q) n q ≤ fill S w n q = (let b = left-fill in omega arith) in
+          let a : taken S (headLeaves S w n q) n q ≤ taken S w n q = (let b = left-taken in omega arith) in
           rw (← e .0, ← e .1) a
-      go (no ne) = native.Mathlib.Nat.le-of-eq (fill-same S w (headLeaves S w n q) m r (left-other m r hm hr ne))
+      go (no ne) = native.Mathlib.Nat.le-of-eq (taken-same S w (headLeaves S w n q) m r (left-other m r hm hr ne))
 
   -- the header's words are there
   header : headerWords ≤ length w
@@ -261,8 +261,8 @@ module _ (S : Shape) (w : List ℕ) (n q : ℕ) (tor : Torus S) (N : Network S w
         held-raised S movesAt (raised deliveredAt (headLeaves S w n q)) m r (omega arith)
         ∙ held-raised S deliveredAt (headLeaves S w n q) m r (omega arith)
 
-    handed-less : (m r : ℕ) → m < nodes S → r < queues → fill S handed m r ≤ fill S w m r
-    handed-less m r hm hr = rw (fill-same S (headLeaves S w n q) handed m r (handed-left m r)) (left-less m r hm hr)
+    handed-less : (m r : ℕ) → m < nodes S → r < queues → taken S handed m r ≤ taken S w m r
+    handed-less m r hm hr = rw (taken-same S (headLeaves S w n q) handed m r (handed-left m r)) (left-less m r hm hr)
 
     handed-length : length handed ≡ length w
     unfolding handed
@@ -379,7 +379,7 @@ module _ (S : Shape) (w : List ℕ) (n q : ℕ) (tor : Torus S) (N : Network S w
     handed-elsewhere o =
         record {
           same = λ m r hm hr ne ne′. handed-held m r hm hr ne;
-          no-less = λ m r hm hr ne. native.Mathlib.Nat.le-of-eq (sym (fill-same S w handed m r (handed-held m r hm hr ne)));
+          no-less = λ m r hm hr ne. native.Mathlib.Nat.le-of-eq (sym (taken-same S w handed m r (handed-held m r hm hr ne)));
         }
 
   -- a hop: the packet leaves its queue and comes to the queue o of the neighbour in direction d
@@ -437,9 +437,9 @@ module _ (S : Shape) (w : List ℕ) (n q : ℕ) (tor : Torus S) (N : Network S w
     unfolding there
     joined-few =
         let a : length joined ≡ suc (length (held S w (target S n o) o)) = joined-length in
-        let b : length (held S w (target S n o) o) ≤ fill S w (target S n o) o = length-fill S w (target S n o) o in
+        let b : length (held S w (target S n o) o) ≤ taken S w (target S n o) o = length-taken S w (target S n o) o in
         let c : 0 < load o hopped = load-pos o hopped in
-        let e : fill S w (target S n o) o + load o hopped ≤ capacity S o = target-takes S w n q o hopped flow in
+        let e : taken S w (target S n o) o + load o hopped ≤ capacity S o = target-takes S w n q o hopped flow in
         omega arith
 
     joined-fit : T (allOf (packetFits S there o) joined)
@@ -491,12 +491,12 @@ module _ (S : Shape) (w : List ℕ) (n q : ℕ) (tor : Torus S) (N : Network S w
           packet = hopped;
           others =
               λ m r hm hr ne.
-              rw (fill-same S (headLeaves S w n q) moved m r (moved-held m r ∙ gone-other m r hm hr ne)) (left-less m r hm hr);
-          newest = fill-joined S w moved there o hopped (moved-held there o ∙ gone-there ∙ ap (λ (ps : List ℕ). ps ++ (hopped ∷ [])) there-held);
+              rw (taken-same S (headLeaves S w n q) moved m r (moved-held m r ∙ gone-other m r hm hr ne)) (left-less m r hm hr);
+          newest = taken-joined S w moved there o hopped (moved-held there o ∙ gone-there ∙ ap (λ (ps : List ℕ). ps ++ (hopped ∷ [])) there-held);
           source =
-              let a : fill S moved n q ≡ fill S (headLeaves S w n q) n q =
-              fill-same S (headLeaves S w n q) moved n q (moved-held n q ∙ gone-other n q hn hq (λ e. there-apart (e .0))) in
-              let b = left-fill in
+              let a : taken S moved n q ≡ taken S (headLeaves S w n q) n q =
+              taken-same S (headLeaves S w n q) moved n q (moved-held n q ∙ gone-other n q hn hq (λ e. there-apart (e .0))) in
+              let b = left-taken in
               let c = load-pos q (head (held S w n q)) in
               omega arith;
         }
@@ -509,12 +509,12 @@ module _ (S : Shape) (w : List ℕ) (n q : ℕ) (tor : Torus S) (N : Network S w
           no-less = λ m r hm hr ne. more m r hm hr ne (same? there o m r);
         }
       where
-        more : (m r : ℕ) → m < nodes S → r < queues → ((n ≡ m) × (q ≡ r) → ⊥) → Dec ((there ≡ m) × (o ≡ r)) → fill S w m r ≤ fill S moved m r
+        more : (m r : ℕ) → m < nodes S → r < queues → ((n ≡ m) × (q ≡ r) → ⊥) → Dec ((there ≡ m) × (o ≡ r)) → taken S w m r ≤ taken S moved m r
         more m r hm hr ne (yes e) =
-            let a : fill S moved there o ≡ fill S w there o + load o (moved-shifted .packet) = moved-shifted .newest in
-            let b : fill S w there o ≤ fill S moved there o = omega arith in
+            let a : taken S moved there o ≡ taken S w there o + load o (moved-shifted .packet) = moved-shifted .newest in
+            let b : taken S w there o ≤ taken S moved there o = omega arith in
             rw (← e .0, ← e .1) b
-        more m r hm hr ne (no ne′) = native.Mathlib.Nat.le-of-eq (sym (fill-same S w moved m r (moved-held m r ∙ gone-other m r hm hr ne′ ∙ left-other m r hm hr ne)))
+        more m r hm hr ne (no ne′) = native.Mathlib.Nat.le-of-eq (sym (taken-same S w moved m r (moved-held m r ∙ gone-other m r hm hr ne′ ∙ left-other m r hm hr ne)))
 
     moved-length : length moved ≡ length w
     unfolding moved gone packetArrives joined
@@ -593,7 +593,7 @@ module _ (S : Shape) (w : List ℕ) (n q : ℕ) (tor : Torus S) (N : Network S w
           in-range = N .in-range;
           long = rw moved-length (N .long);
           queue = fit-raised S movesAt gone (omega arith) gone-fit;
-          ring = λ e m he hm. ring-kept S w moved n q o tor hn (fill-few S w n q place (N .queue n q hn hq)) flow moved-shifted e m he hm (N .ring e m he hm);
+          ring = λ e m he hm. ring-kept S w moved n q o tor hn (taken-few S w n q place (N .queue n q hn hq)) flow moved-shifted e m he hm (N .ring e m he hm);
           few-accepted = rw moved-accepted (N .few-accepted);
           counted = rw (moved-delivered, moved-packets, moved-accepted) (N .counted);
           bounded =

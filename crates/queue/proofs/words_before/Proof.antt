@@ -2,7 +2,7 @@
 use Prim.Native.Nat.{_*_, _-_, _≤_}
 use borrow.Author.Needs.{needs}
 use native.Mathlib.Omega.{arith}
-use Rattle.network.specs.Sizes.{shapeOf, directions, largestCapacity, escapeQueue}
+use Rattle.network.specs.Sizes.{shapeOf, directions, mostSlots, escapeQueue}
 use Rattle.queue.specs.QueueLaws.{SmallQueues, small-queues}
 use Rattle.queue.proofs.ClosedForms.{before-none, before-few, before-many, product-small}
 use Rattle.queue.proofs.words_before.Statement.{statement}
@@ -19,10 +19,10 @@ returns c =
 add-result : tie.Need-add-result
 add-result c = omega (arith, few (c .before .before .before) .injection)
 
-adaptive : (c : tie.Then2) → (c .before .before .args .q - 1) * c .before .before .args .s .adaptive ≤ 2 * directions * largestCapacity
+adaptive : (c : tie.Then2) → (c .before .before .args .q - 1) * c .before .before .args .s .adaptive ≤ 2 * directions * mostSlots
 adaptive c =
     let a = c .before .before .args in
-    product-small (a .q - 1) (a .s .adaptive) (2 * directions) largestCapacity (omega arith) (few (c .before .before) .adaptive)
+    product-small (a .q - 1) (a .s .adaptive) (2 * directions) mostSlots (omega arith) (few (c .before .before) .adaptive)
 
 mul-result : tie.Need-mul-result
 mul-result c = omega (arith, adaptive (c .before .before))
@@ -45,10 +45,10 @@ mul-result-2 c = omega (arith, few (c .before .before .before .before) .adaptive
 add-result-4 : tie.Need-add-result-4
 add-result-4 c = let k = few (c .before .before .before .before) in omega (arith, k .injection, k .adaptive)
 
-escape : (c : tie.Else2) → (c .before .before .args .q - escapeQueue 0) * c .before .before .args .s .escape ≤ 2 * directions * largestCapacity
+escape : (c : tie.Else2) → (c .before .before .args .q - escapeQueue 0) * c .before .before .args .s .escape ≤ 2 * directions * mostSlots
 escape c =
     let a = c .before .before .args in
-    product-small (a .q - escapeQueue 0) (a .s .escape) (2 * directions) largestCapacity (omega arith) (few (c .before .before) .escape)
+    product-small (a .q - escapeQueue 0) (a .s .escape) (2 * directions) mostSlots (omega arith) (few (c .before .before) .escape)
 
 mul-result-3 : tie.Need-mul-result-3
 mul-result-3 c = omega (arith, escape (c .before .before .before))

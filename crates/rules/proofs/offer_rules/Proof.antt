@@ -8,8 +8,8 @@ use borrow.Author.Needs.{needs}
 use borrow.Author.Tests.{eq-eqb, ne-eqb, le-leb, lt-leb}
 use lib.Dec.{leb, eqb}
 use Rattle.network.specs.Sizes.{Shape, shapeOf, nodes, capacity, injectionQueue}
-use Rattle.network.specs.Layout.{accepted, fill}
-use Rattle.network.specs.LayoutLaws.{fill-length}
+use Rattle.network.specs.Layout.{accepted, taken}
+use Rattle.network.specs.LayoutLaws.{taken-length}
 use Rattle.network.specs.Check.{mostAccepted}
 use Rattle.network.specs.Refusals.{refuse, offerRules, noSuchNode, countSpent, injectionFull, ownNode}
 use Rattle.flow.specs.HeldWords.{header}
@@ -18,7 +18,7 @@ use Rattle.rules.proofs.offer_rules.Tie as tie
 
 -- by what the tests said
 tested : (S : Shape) (w : List ℕ) (n destination count held-there slots : ℕ) (a b o d e : Bool) → count ≡ nodes S
-    → held-there ≡ fill S w n injectionQueue → slots ≡ capacity S injectionQueue
+    → held-there ≡ taken S w n injectionQueue → slots ≡ capacity S injectionQueue
     → leb count n ≡ a → leb count destination ≡ b → eqb n destination ≡ o → eqb (accepted w) mostAccepted ≡ d → eqb held-there slots ≡ e
     → refuse (a || b) noSuchNode (refuse o ownNode (refuse d countSpent (refuse e injectionFull 0))) ≡ offerRules S w n destination
 unfolding offerRules
@@ -68,7 +68,7 @@ by-last c d e ed ee =
     let a = f .before .before .before .before .before .before .args in
     let count = f .before .before .before .before .nodes in
     tested (shapeOf (a .s)) (a .words .now) (a .n) (a .destination) (count .result) (held .result) (slots .result) false false false d e
-    (count .ensures) (held .ensures ∙ sym (fill-length (shapeOf (a .s)) (a .words .now) (a .n) injectionQueue)) (slots .ensures)
+    (count .ensures) (held .ensures ∙ sym (taken-length (shapeOf (a .s)) (a .words .now) (a .n) injectionQueue)) (slots .ensures)
     (lt-leb (count .result) (a .n) (f .before .before .if1 .left)) (lt-leb (count .result) (a .destination) (f .before .if2 .left))
     (ne-eqb (a .n) (a .destination) (f .if3 .left)) ed ee
 
