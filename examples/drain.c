@@ -1,6 +1,6 @@
 /*
  * The library from C: a ring of four nodes and three packets. Two offers and a
- * move are refused, and the program goes on by what the refusal says. R12 is a
+ * move are refused, and the program goes on by what the refusal says. R152 is a
  * clause of docs/RULES.md.
  */
 #include <inttypes.h>

@@ -1,7 +1,7 @@
 /*
  * bench.h - the adaptive bubble router bench, for C
  *
- * The rules are in docs/RULES.md; R12 below is a clause there.
+ * The rules are in docs/RULES.md; R30 below is a clause there.
  *
  * A network is a torus with X columns, Y rows and Z planes that moves whole
  * packets. It lives in an array of 64-bit words that you lend to each call; the
