@@ -1,5 +1,5 @@
 /*
- * bench.h - the adaptive bubble router bench, for C
+ * bench.h - the adaptive bubble router bench, for C and C++
  *
  * The rules are in docs/RULES.md; R30 below is a clause there.
  *
@@ -27,7 +27,10 @@
  *     too: a local array without an initialiser or memory fresh from malloc is
  *     not. What they contain does not matter, any may be lent;
  *   - a pointer must not be NULL and must be aligned for its type, even if the
- *     length behind it is 0;
+ *     length behind it is 0. If you have nothing to lend, as for a drain without
+ *     a ledger, lend any object of that type with length 0: `uint64_t none = 0;`
+ *     and `&none, 0`. So also for a std::vector of C++ that is empty: its data()
+ *     may be NULL;
  *   - the arrays of one call (words, ledger, fills, page, bytes, out) must not
  *     overlap;
  *   - `out` must have the number of words given for the call (BENCH_MOVE_OUT
@@ -75,14 +78,23 @@ extern "C" {
  * measured and not proved: tests/c-example holds the archive to it. */
 #define BENCH_STACK (72 * 1024)
 
+/* A cast, in the form of either language: for the macros below. */
+#ifdef __cplusplus
+#define BENCH_CAST(type, value) (static_cast<type>(value))
+#else
+#define BENCH_CAST(type, value) ((type)(value))
+#endif
+
 /* The words that a network of these sizes needs. */
 #define BENCH_WORDS(x, y, z, e, a, j) \
-    (9 + (size_t)(x) * (size_t)(y) * (size_t)(z) * \
-             (13 + (size_t)(j) + 6 * (size_t)(a) + 6 * (size_t)(e)))
+    (9 + BENCH_CAST(size_t, x) * BENCH_CAST(size_t, y) * BENCH_CAST(size_t, z) * \
+             (13 + BENCH_CAST(size_t, j) + 6 * BENCH_CAST(size_t, a) + \
+              6 * BENCH_CAST(size_t, e)))
 
 /* The bytes of a list of fills of such a network, one for each queue, and of a
  * page on which any step of its dump has room (R406, R413). */
-#define BENCH_FILLS(x, y, z) (13 * (size_t)(x) * (size_t)(y) * (size_t)(z))
+#define BENCH_FILLS(x, y, z) \
+    (13 * BENCH_CAST(size_t, x) * BENCH_CAST(size_t, y) * BENCH_CAST(size_t, z))
 #define BENCH_PAGE(x, y, z) (120 + 48 * BENCH_FILLS(x, y, z))
 
 /* The number of words of `out`, call by call. */
@@ -97,11 +109,15 @@ extern "C" {
 /* The parts of a packet word (R60 to R63): the caller's tag, the destination,
  * and the hops left in x, y and z, below 0 where they go to x-, y- or z-. Bit 15
  * of the word is 0 in a network (R69, R87). */
-#define BENCH_TAG(word) ((uint32_t)((uint64_t)(word) >> 32))
-#define BENCH_DESTINATION(word) ((uint32_t)((uint64_t)(word) >> 16 & 0xffff))
-#define BENCH_DX(word) ((int)(((uint64_t)(word) >> 10 & 0x1f) ^ 0x10) - 0x10)
-#define BENCH_DY(word) ((int)(((uint64_t)(word) >> 5 & 0x1f) ^ 0x10) - 0x10)
-#define BENCH_DZ(word) ((int)(((uint64_t)(word) & 0x1f) ^ 0x10) - 0x10)
+#define BENCH_TAG(word) BENCH_CAST(uint32_t, BENCH_CAST(uint64_t, word) >> 32)
+#define BENCH_DESTINATION(word) \
+    BENCH_CAST(uint32_t, BENCH_CAST(uint64_t, word) >> 16 & 0xffff)
+#define BENCH_DX(word) \
+    (BENCH_CAST(int, (BENCH_CAST(uint64_t, word) >> 10 & 0x1f) ^ 0x10) - 0x10)
+#define BENCH_DY(word) \
+    (BENCH_CAST(int, (BENCH_CAST(uint64_t, word) >> 5 & 0x1f) ^ 0x10) - 0x10)
+#define BENCH_DZ(word) \
+    (BENCH_CAST(int, (BENCH_CAST(uint64_t, word) & 0x1f) ^ 0x10) - 0x10)
 
 /* The refusals (R161 to R175). */
 enum {
