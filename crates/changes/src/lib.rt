@@ -55,7 +55,7 @@ pub fn accept(words: &mut [u64], s: Sizes, n: u64, destination: u64, tag: u32)
     requires { ⌜ length (held (shapeOf s) (now words) n injectionQueue) < capacity (shapeOf s) injectionQueue ⌝ }
     ensures { λ _. ⌜ now (words .exit) ≡ afterOffer (shapeOf s) (now (words .entry)) n destination tag ⌝ }
 {
-    let p = packet::torus::offered(s, n, destination, tag);
+    let p = packet::offered(s, n, destination, tag);
     queue::push(words, s, n, 0, p);
     queue::raise(words, ACCEPTED_AT);
 }
@@ -71,7 +71,7 @@ pub fn make_move(words: &mut [u64], s: Sizes, n: u64, q: u64, o: u64) -> u64
     if o == 0 {
         return move_to(words, s, n, q, o, n);
     }
-    let there = packet::torus::neighbour(s, (o - 1) % DIRECTIONS, n);
+    let there = torus::neighbour(s, (o - 1) % DIRECTIONS, n);
     move_to(words, s, n, q, o, there)
 }
 

@@ -71,7 +71,7 @@ fn drain_with(
 {
     near::fill(near, s);
     let mut ready = [0u64; SET_WORDS];
-    headset::fill(&mut ready, packet::torus::nodes(s));
+    headset::fill(&mut ready, torus::nodes(s));
     take_turns(words, s, near, &mut ready, budget, ledger)
 }
 
@@ -94,7 +94,7 @@ pub fn drain_network(words: &mut [u64], s: Sizes, budget: u32, ledger: &mut [u64
             stop: Stop::Emptied,
         };
     }
-    if packet::torus::nodes(s) <= FEW_NODES {
+    if torus::nodes(s) <= FEW_NODES {
         let mut near = [0u16; FEW_ENTRIES];
         return drain_with(words, s, &mut near, budget, ledger);
     }

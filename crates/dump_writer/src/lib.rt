@@ -58,7 +58,7 @@ fn read_fills(words: &[u64], s: Sizes, counts: &mut [u8])
     requires { ⌜ Network (shapeOf s) (now words) × (length (now counts) ≡ variablesOf (shapeOf s)) ⌝ }
     ensures { λ _. ⌜ now (counts .exit) ≡ fillsOf (shapeOf s) (now (words .entry)) ⌝ }
 {
-    let nodes = packet::torus::nodes(s) as usize;
+    let nodes = torus::nodes(s) as usize;
     let node = queue::node_words(s) as usize;
     let mut start = HEADER_WORDS;
     let mut n = 0;
@@ -252,7 +252,7 @@ fn write_network(
     ensures fills { λ _. ⌜ now (fills .exit) ≡ countsList first (movesMade (now (words .entry))) (fillsOf (shapeOf s) (now (words .entry))) (now (fills .entry)) (now (page .entry)) ⌝ }
     ensures page { λ _. ⌜ now (page .exit) ≡ countsPage first (movesMade (now (words .entry))) (fillsOf (shapeOf s) (now (words .entry))) (now (fills .entry)) (now (page .entry)) ⌝ }
 {
-    let nodes = packet::torus::nodes(s);
+    let nodes = torus::nodes(s);
     let count = (nodes * QUEUES) as usize;
     write_fills(first, words, s, &mut counts[..count], fills, page)
 }
@@ -264,7 +264,7 @@ fn write_opened(first: bool, words: &[u64], s: Sizes, fills: &mut [u8], page: &m
     ensures fills { λ _. ⌜ now (fills .exit) ≡ countsList first (movesMade (now (words .entry))) (fillsOf (shapeOf s) (now (words .entry))) (now (fills .entry)) (now (page .entry)) ⌝ }
     ensures page { λ _. ⌜ now (page .exit) ≡ countsPage first (movesMade (now (words .entry))) (fillsOf (shapeOf s) (now (words .entry))) (now (fills .entry)) (now (page .entry)) ⌝ }
 {
-    if packet::torus::nodes(s) <= FEW_NODES {
+    if torus::nodes(s) <= FEW_NODES {
         let mut counts = [0u8; FEW_VARIABLES];
         return write_network(first, words, s, &mut counts, fills, page);
     }

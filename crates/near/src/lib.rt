@@ -3,17 +3,17 @@
 use network::DIMENSIONS;
 use network::DIRECTIONS;
 use network::Sizes;
-use packet::torus::Place;
-use packet::torus::next_place;
-use packet::torus::nodes;
-use packet::torus::step_from;
+use torus::Place;
+use torus::next_place;
+use torus::nodes;
+use torus::step_from;
 ghost use mathlib.Core.Path.{_≡_};
 ghost use Prim.Native.Nat.{_+_, _*_, _<_, _≤_};
 ghost use lib.Dec.{T};
 ghost use lib.ListN.{length};
 ghost use Rattle.network.specs.Sizes.{Shape, shapeOf, sizesInRange, directions, dimensionOf, nodes, mostNodes};
 ghost use Rattle.network.specs.Torus.{coordinate, neighbour};
-ghost use Rattle.packet.specs.Geometry.{nodeAt, OnTorus};
+ghost use Rattle.torus.specs.Geometry.{nodeAt, OnTorus};
 ghost use Rattle.near.specs.Table.{Near, NearTo};
 
 // One entry more: the neighbour of node n in direction d, where its coordinate in that dimension is c.

@@ -1,19 +1,20 @@
--- The fields of a word as the code reads and writes them. Order: their weights; an offset's field; the word with an offset replaced; the word that an
--- offer starts from.
--- Assumes nothing.
+-- The fields of a word as the code reads and writes them. Order: their weights; an offset's field; the word with an offset replaced; the word of an
+-- offer, from its start to its last offset. Assumes nothing.
 use mathlib.Core.Path.{_≡_, refl, ap, ap₂, sym, _∙_}
 use Prim.Native.Nat.{ℕ, _+_, _*_, _-_, _/_, _%_, _^_, _<_, _≤_}
 use native.Mathlib.Numerals.{add-one}
 use native.Mathlib.Omega.{arith}
+use lib.Dec.{T}
 use lib.IntN.{ℤ}
-use Rattle.network.specs.Sizes.{dimensions}
+use Rattle.network.specs.Sizes.{shapeOf, sizesInRange, dimensions}
+use Rattle.network.specs.declared.Sizes.{Sizes}
 use Rattle.network.specs.PacketLaws.{OffsetRange, fields-positive, offset-values, offset-field-lt, tag-is, tag-with}
 use Rattle.base.specs.Digits.{product, digit, putDigit, weight, weight-pos, digit-weight, put-weight}
 use native.Mathlib.Nat.{zero-mul}
 use Rattle.network.specs.Packet.{offsetValues, fields, offsetField, destinationField, unsigned, withOffset, withOffsets}
-
-pub last-dimension : (i : ℕ) → i < dimensions → (i ≡ 0 → ⊥) → (i ≡ 1 → ⊥) → i ≡ 2
-last-dimension i h no-x no-y = omega arith
+use Rattle.network.specs.TorusLaws.{sizes-torus, inRange-size}
+use Rattle.network.specs.Calls.{offeredWay}
+use Rattle.network.specs.OfferLaws.{offered-range}
 
 -- the weight of an offset's field, of each dimension
 pub field-weight-x : (i : ℕ) → i ≡ 0 → offsetValues * offsetValues ≡ weight fields (offsetField i)
@@ -59,6 +60,10 @@ module _ (i p w : ℕ) (h : i < dimensions) (e : w ≡ weight fields (offsetFiel
         let u = tag-is (withOffset i z p) in
         let v = tag-is p in
         omega arith
+
+-- the way of an offer is of an offset's range
+pub sizes-way : (s : Sizes) (n destination i : ℕ) → T (sizesInRange (shapeOf s)) → i < dimensions → OffsetRange (offeredWay (shapeOf s) n destination i)
+sizes-way s n destination i t h = offered-range (shapeOf s) n destination i (sizes-torus s t) (λ j k. inRange-size (shapeOf s) j t) h
 
 -- the word of a tag and a destination, before any offset
 pub word-start : (t dest : ℕ) (offs : ℕ → ℤ) → dest < 65536

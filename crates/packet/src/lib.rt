@@ -1,21 +1,26 @@
-// The packet word in code: its offsets as signed numbers, its fields, and a hop. Every function equals the definition of its
-// name in the crate `network` (specs/Packet.antt). The torus that packets cross is in the module `torus`.
-pub mod torus;
-
+// The packet word in code: its offsets as signed numbers, its fields, a hop, and the packet of an offer. Every function equals the definition of
+// its name in the crate `network` (specs/Packet.antt, Calls.antt). The torus that packets cross is the crate `torus`.
 use network::DESTINATION_AT;
 use network::DESTINATION_VALUES;
+use network::DIMENSIONS;
 use network::OFFSET_VALUES;
 use network::SPARE_AT;
 use network::SPARE_VALUES;
 use network::Sign;
+use network::Sizes;
+use network::TAG_AT;
+use torus::coordinate;
+use torus::size;
 ghost use mathlib.Core.Path.{_≡_};
 ghost use Prim.Native.Nat.{_<_, _≤_};
+ghost use lib.Dec.{T};
 ghost use lib.IntN.{natAbs};
 ghost use Rattle.base.specs.Digits.{digit, weight};
-ghost use Rattle.network.specs.Sizes.{dimensions, largestRing};
+ghost use Rattle.network.specs.Sizes.{shapeOf, sizesInRange, dimensions, largestRing, nodes};
 ghost use Rattle.network.specs.Packet.{offsetValues, fields, offsetField, signed, unsigned, offset, withOffset, shrunk, hop, destination, spare, shorterWay};
 ghost use Rattle.network.specs.PacketLaws.{OffsetRange};
 ghost use Rattle.network.specs.Selection.{sign};
+ghost use Rattle.network.specs.Calls.{offeredWay, offered};
 
 // Signed offsets ------------------------------------------------------------------------------------------------------------
 
@@ -153,4 +158,32 @@ pub fn shorter_way(size: u64, ahead: u64, from: u64) -> i64
     } else {
         -((size - ahead) as i64)
     }
+}
+
+// The packet of an offer ----------------------------------------------------------------------------------------------------
+
+// The offset of an offer in dimension i.
+fn way(s: Sizes, i: u64, n: u64, destination: u64) -> i64
+    requires { ⌜ T (sizesInRange (shapeOf s)) × (i < dimensions) × (n < nodes (shapeOf s)) × (destination < nodes (shapeOf s)) ⌝ }
+    ensures { λ r. ⌜ r ≡ offeredWay (shapeOf s) n destination i ⌝ }
+{
+    let k = size(s, i);
+    let from = coordinate(s, i, n);
+    let to = coordinate(s, i, destination);
+    let ahead = (to + (k - from)) % k;
+    shorter_way(k, ahead, from)
+}
+
+// The packet word of an offer.
+pub fn offered(s: Sizes, n: u64, destination: u64, tag: u32) -> u64
+    requires { ⌜ T (sizesInRange (shapeOf s)) × (n < nodes (shapeOf s)) × (destination < nodes (shapeOf s)) ⌝ }
+    ensures { λ r. ⌜ r ≡ offered (shapeOf s) n destination tag ⌝ }
+{
+    let mut p = (tag as u64) * TAG_AT + destination * DESTINATION_AT;
+    let mut i = 0;
+    while i < DIMENSIONS {
+        p = with_offset(i, way(s, i, n, destination), p);
+        i += 1;
+    }
+    p
 }

@@ -20,9 +20,9 @@ use Rattle.network.specs.Torus.{movedBy}
 use Rattle.network.specs.TorusLaws.{sizes-torus}
 use Rattle.network.specs.Check.{spareClear, packetFits}
 use Rattle.network.specs.declared.Sizes.{Sizes}
-use Rattle.packet.specs.declared.torus.Place.{Place}
-use Rattle.packet.specs.Geometry.{nodeAt, OnTorus}
-use Rattle.packet.specs.GeometryLaws.{place-node}
+use Rattle.torus.specs.declared.Place.{Place}
+use Rattle.torus.specs.Geometry.{nodeAt, OnTorus}
+use Rattle.torus.specs.GeometryLaws.{place-node}
 use Rattle.packet_check.specs.PacketLimits.{limit, belowBoth, belowAlong, belowLimits}
 use Rattle.packet_check.specs.LimitLaws.{limit-size, fits-is}
 use Rattle.packet_check.specs.Tables.{ringWords, dimensionWords, firstDistance, Tables}

@@ -11,9 +11,9 @@ use Rattle.network.specs.Packet.{hops}
 use Rattle.network.specs.Torus.{coordinate, movedBy}
 use Rattle.network.specs.TorusLaws.{sizes-torus, sizes-nodes, coordinate-movedBy, movedBy-lt}
 use Rattle.network.specs.declared.Sizes.{Sizes}
-use Rattle.packet.specs.declared.torus.Place.{Place}
-use Rattle.packet.specs.Geometry.{nodeAt, OnTorus}
-use Rattle.packet.specs.GeometryLaws.{place-node, place-coordinate}
+use Rattle.torus.specs.declared.Place.{Place}
+use Rattle.torus.specs.Geometry.{nodeAt, OnTorus}
+use Rattle.torus.specs.GeometryLaws.{place-node, place-coordinate}
 
 module _ (s : Sizes) (place : Place) (p : ℕ) where
   led : ℕ

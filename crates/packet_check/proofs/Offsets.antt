@@ -14,7 +14,7 @@ use Rattle.base.specs.Digits.{digit}
 use Rattle.network.specs.Sizes.{shapeOf, sizesInRange, plus, minus}
 use Rattle.network.specs.Packet.{fields, offsetField, signed, forward, backward, offset, hops, offsetValues}
 use Rattle.network.specs.PacketLaws.{halfOffsets, signed-small, signed-large, hops-plus, hops-minus}
-use Rattle.packet.specs.GeometryLaws.{moved-is}
+use Rattle.torus.specs.GeometryLaws.{moved-is}
 use Rattle.network.specs.declared.Sizes.{Sizes}
 use Rattle.packet_check.specs.PacketLimits.{limit, OneWay, belowBoth}
 use Rattle.packet_check.specs.LimitLaws.{limit-none, limit-half}

@@ -9,9 +9,9 @@ use network::QUEUES;
 use network::Sizes;
 use packet::HALF_OFFSETS;
 use packet::offset_field;
-use packet::torus::Place;
-use packet::torus::size;
-use packet::torus::weight;
+use torus::Place;
+use torus::size;
+use torus::weight;
 ghost use mathlib.Core.Path.{_≡_};
 ghost use mathlib.Core.Bool.{cond};
 ghost use Prim.Native.Nat.{ℕ, _+_, _*_, _-_, _%_, _<_, _≤_};
@@ -23,7 +23,7 @@ ghost use Rattle.network.specs.PacketLaws.{halfOffsets};
 ghost use Rattle.network.specs.Sizes.{shapeOf, sizesInRange, size, dimensions, queues, largestRing, mostNodes, plus, minus};
 ghost use Rattle.network.specs.Packet.{offsetValues, hops, work};
 ghost use Rattle.network.specs.Check.{packetFits};
-ghost use Rattle.packet.specs.Geometry.{nodeAt, OnTorus};
+ghost use Rattle.torus.specs.Geometry.{nodeAt, OnTorus};
 ghost use Rattle.packet_check.specs.Tables.{ringWords, dimensionWords, firstDistance, tableWords, row, passing, distanceAt, Filled, Tables};
 
 // Offsets in a row, as the bits of a word: bit a for the one that stands a above the least. They are those with fewer hops forward than the one

@@ -127,7 +127,7 @@ pub fn need(s: Sizes) -> usize
     requires { ⌜ T (sizesInRange (shapeOf s)) ⌝ }
     ensures { λ r. ⌜ r ≡ need (shapeOf s) ⌝ }
 {
-    let nodes = packet::torus::nodes(s);
+    let nodes = torus::nodes(s);
     let node = node_words(s);
     HEADER_WORDS + (nodes * node) as usize
 }

@@ -19,9 +19,9 @@ use Rattle.network.specs.Layout.{headerWords, need, nodeWords, queueStart, queu
 use Rattle.network.specs.LayoutLaws.{Fits, end-next, end-length, length-queuePart}
 use Rattle.network.specs.Check.{queueFits, queuesFit, packetsHeld, workLeft}
 use Rattle.network.specs.TorusLaws.{sizes-nodes}
-use Rattle.packet.specs.declared.torus.Place.{Place}
-use Rattle.packet.specs.Geometry.{nodeAt, OnTorus, WalkTo}
-use Rattle.packet.specs.GeometryLaws.{walk-start, walk-next}
+use Rattle.torus.specs.declared.Place.{Place}
+use Rattle.torus.specs.Geometry.{nodeAt, OnTorus, WalkTo}
+use Rattle.torus.specs.GeometryLaws.{walk-start, walk-next}
 use Rattle.network.specs.declared.Sizes.{Sizes}
 use Rattle.queue.specs.Queue.{EnoughWords}
 use Rattle.queue_check.specs.declared.Tally.{Tally}

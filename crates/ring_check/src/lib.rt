@@ -80,9 +80,9 @@ fn direction_has_room(words: &[u64], s: Sizes, d: u64) -> bool
 {
     let i = d / 2;
     let node = queue::node_words(s);
-    let weight = packet::torus::weight(s, i);
-    let size = packet::torus::size(s, i);
-    let nodes = packet::torus::nodes(s);
+    let weight = torus::weight(s, i);
+    let size = torus::size(s, i);
+    let nodes = torus::nodes(s);
     let first = queue::queue_start(s, 0, FIRST_ESCAPE + d);
     let step = weight * node;
     let group = size * step;

@@ -6,8 +6,8 @@ use native.Mathlib.Omega.{arith}
 use lib.ListN.{length}
 use Rattle.network.specs.Sizes.{shapeOf, directions, nodes}
 use Rattle.network.specs.TorusLaws.{sizes-nodes}
-use Rattle.packet.specs.Geometry.{WalkTo}
-use Rattle.packet.specs.GeometryLaws.{walk-start, walk-next}
+use Rattle.torus.specs.Geometry.{WalkTo}
+use Rattle.torus.specs.GeometryLaws.{walk-start, walk-next}
 use Rattle.near.specs.Table.{NearTo, near-none}
 use Rattle.near.proofs.fill.Statement.{statement}
 use Rattle.near.proofs.fill.Tie as tie

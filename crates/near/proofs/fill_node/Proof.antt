@@ -8,7 +8,7 @@ use lib.ListN.{length, getD}
 use Rattle.network.specs.Sizes.{Shape, shapeOf, directions, dimensionOf, nodes}
 use Rattle.network.specs.PacketLaws.{dimension-lt}
 use Rattle.network.specs.Torus.{coordinate}
-use Rattle.packet.specs.GeometryLaws.{place-node, place-coordinate}
+use Rattle.torus.specs.GeometryLaws.{place-node, place-coordinate}
 use Rattle.near.specs.Table.{NearTo}
 use Rattle.near.proofs.fill_node.Statement.{statement}
 use Rattle.near.proofs.fill_node.Tie as tie

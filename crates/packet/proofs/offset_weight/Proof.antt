@@ -1,6 +1,7 @@
 -- `packet::offset_weight` meets its contract. Assumes nothing.
 use borrow.Author.Needs.{needs}
-use Rattle.packet.proofs.FieldWords.{last-dimension, field-weight-x, field-weight-y, field-weight-z}
+use Rattle.torus.specs.GeometryLaws.{last-dimension}
+use Rattle.packet.proofs.FieldWords.{field-weight-x, field-weight-y, field-weight-z}
 use Rattle.packet.proofs.offset_weight.Statement.{statement}
 use Rattle.packet.proofs.offset_weight.Tie as tie
 

@@ -9,8 +9,8 @@ use lib.ListN.{length}
 use Rattle.base.specs.Parts.{span}
 use Rattle.network.specs.Sizes.{Shape, shapeOf, nodes, queues, capacity, largestCapacity}
 use Rattle.network.specs.Layout.{queuePart}
-use Rattle.packet.specs.GeometryLaws.{place-node}
-use Rattle.packet.specs.Geometry.{nodeAt}
+use Rattle.torus.specs.GeometryLaws.{place-node}
+use Rattle.torus.specs.Geometry.{nodeAt}
 use Rattle.queue_check.specs.declared.Tally.{Tally}
 use Rattle.queue_check.specs.QueueTally.{tally}
 use Rattle.queue_check.proofs.Walks.{nodePackets, nodeWork, NodeWalk, node-start, node-end, node-part, node-tally, node-more, node-small, node-stop, node-done, part-length, part-small, part-end, fits, holds, works}

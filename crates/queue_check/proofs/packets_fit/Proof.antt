@@ -11,7 +11,7 @@ use Rattle.network.specs.Sizes.{shapeOf}
 use Rattle.network.specs.Packet.{work}
 use Rattle.network.specs.Layout.{countOf, packetsOf}
 use Rattle.network.specs.Check.{packetFits}
-use Rattle.packet.specs.Geometry.{nodeAt}
+use Rattle.torus.specs.Geometry.{nodeAt}
 use Rattle.queue_check.specs.TallyLaws.{tally-fails}
 use Rattle.queue_check.proofs.Tallies.{Left, left-start, work-none, work-some, packets-stop, packets-more, packets-small, packets-end}
 use Rattle.queue_check.proofs.packets_fit.Statement.{statement}

@@ -10,7 +10,7 @@ use lib.ListN.{drop}
 use Rattle.base.specs.Tests.{allOf}
 use Rattle.network.specs.Sizes.{Shape, shapeOf}
 use Rattle.network.specs.Layout.{countOf, queueLength}
-use Rattle.packet.specs.Geometry.{nodeAt}
+use Rattle.torus.specs.Geometry.{nodeAt}
 use Rattle.queue_check.specs.TallyLaws.{tally-fails, tally-same}
 use Rattle.queue_check.proofs.QueueParts.{part-over, part-used, part-packets, part-empty}
 use Rattle.queue_check.proofs.queue_fits.Statement.{statement}

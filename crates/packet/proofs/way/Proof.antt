@@ -1,4 +1,4 @@
--- `packet::torus::way` meets its contract. Assumes nothing.
+-- `packet::way` meets its contract. Assumes nothing.
 use mathlib.Core.Path.{_≡_, _∙_}
 use Prim.Native.Nat.{ℕ, _<_, _≤_}
 use native.Mathlib.Omega.{arith}
@@ -6,10 +6,11 @@ use borrow.Author.Needs.{needs}
 use Rattle.network.specs.Sizes.{largestRing}
 use Rattle.network.specs.Packet.{stepsAhead, shorterWay}
 use Rattle.network.specs.PacketLaws.{ahead-lt}
-use Rattle.packet.specs.GeometryLaws.{on-ring, sizes-way}
+use Rattle.torus.specs.GeometryLaws.{on-ring}
 use Rattle.packet.proofs.Numbers.{back}
-use Rattle.packet.proofs.torus.way.Statement.{statement}
-use Rattle.packet.proofs.torus.way.Tie as tie
+use Rattle.packet.proofs.FieldWords.{sizes-way}
+use Rattle.packet.proofs.way.Statement.{statement}
+use Rattle.packet.proofs.way.Tie as tie
 
 same-way : {k a b k′ a′ b′ : ℕ} → k ≡ k′ → a ≡ a′ → b ≡ b′ → shorterWay k (stepsAhead k a b) a ≡ shorterWay k′ (stepsAhead k′ a′ b′) a′
 same-way ek ea eb = cc

@@ -1,5 +1,5 @@
 -- Laws of the code's sizes and places. Order: the dimensions one by one; a coordinate by its weight; the neighbour by the weight; a node by its
--- place; the next place; a walk over all nodes; a coordinate moved; an offer's way. `s` are the code's sizes, `n` is a node. Assumes nothing.
+-- place; the next place; a walk over all nodes; a coordinate moved. `s` are the code's sizes, `n` is a node. Assumes nothing.
 use mathlib.Core.Path.{_≡_, refl, ap, ap₂, sym, subst, _∙_}
 use mathlib.Core.Bool.{cond}
 use mathlib.Core.List.{List}
@@ -16,16 +16,17 @@ use borrow.Author.Tests.{eq-eqb, ne-eqb}
 use Rattle.base.specs.Digits.{product, digit, putDigit, rotate, weight, weight-pos, digit-weight, put-weight}
 use Rattle.base.specs.Numbers.{number, weight-first, weight-next, weight-all, number-zero, number-set, number-lt, digit-number}
 use Rattle.network.specs.Sizes.{Shape, shapeOf, size, nodes, mostNodes, largestRing, dimensions, directions, dimensionOf, sizesInRange}
-use Rattle.network.specs.PacketLaws.{OffsetRange, dimension-lt}
+use Rattle.network.specs.PacketLaws.{dimension-lt}
 use Rattle.network.specs.Torus.{coordinate, stride, along, neighbour}
 use Rattle.network.specs.TorusLaws.{Torus, sizes-torus, inRange-size, size-pos, coordinate-lt, neighbour-lt}
-use Rattle.network.specs.Calls.{offeredWay}
-use Rattle.network.specs.OfferLaws.{offered-range}
 use Rattle.network.specs.declared.Sizes.{Sizes}
-use Rattle.packet.specs.declared.torus.Place.{Place}
-use Rattle.packet.specs.Geometry.{nodeAt, OnTorus, WalkTo}
+use Rattle.torus.specs.declared.Place.{Place}
+use Rattle.torus.specs.Geometry.{nodeAt, OnTorus, WalkTo}
 
 -- The dimensions one by one -----------------------------------------------------------------------------------------------------------
+
+pub last-dimension : (i : ℕ) → i < dimensions → (i ≡ 0 → ⊥) → (i ≡ 1 → ⊥) → i ≡ 2
+last-dimension i h no-x no-y = omega arith
 
 pub nodes-is : (s : Sizes) → s .x * s .y * s .z ≡ nodes (shapeOf s)
 unfolding nodes shapeOf product
@@ -315,7 +316,3 @@ moved-is c f b k h l =
     let r : b * k ≡ b * (k - 1) + b = ap (λ (x : ℕ). b * x) (let e : k ≡ suc (k - 1) = omega arith in e) ∙ mul-suc b (k - 1) in
     let t : c + f + k - b + b * k ≡ c + (f * 1 + b * (k - 1)) + k = omega arith in
     sym (add-mul-mod-self-right (c + f + k - b) b k) ∙ ap (λ (x : ℕ). x % k) t ∙ add-mod-right (c + (f * 1 + b * (k - 1))) k
-
--- the way of an offer is of an offset's range
-pub sizes-way : (s : Sizes) (n destination i : ℕ) → T (sizesInRange (shapeOf s)) → i < dimensions → OffsetRange (offeredWay (shapeOf s) n destination i)
-sizes-way s n destination i t h = offered-range (shapeOf s) n destination i (sizes-torus s t) (λ j k. inRange-size (shapeOf s) j t) h

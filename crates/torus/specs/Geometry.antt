@@ -6,7 +6,7 @@ use lib.ListN.{length, getD}
 use Rattle.base.specs.Numbers.{number}
 use Rattle.network.specs.Sizes.{shapeOf, sizesInRange, dimensions, nodes, size}
 use Rattle.network.specs.declared.Sizes.{Sizes}
-use Rattle.packet.specs.declared.torus.Place.{Place}
+use Rattle.torus.specs.declared.Place.{Place}
 
 -- R30: the node that stands there
 abbrev pub nodeAt : Sizes → Place → ℕ

@@ -1,19 +1,14 @@
-// The torus in code, for sizes in range and nodes that exist: coordinates, neighbours, places, and the packet of an
-// offer. Every function equals the definition of its name in the crate `network` (specs/Torus.antt, Calls.antt).
-use super::shorter_way;
-use super::with_offset;
-use network::DESTINATION_AT;
+// The torus in code, for sizes in range and nodes that exist: coordinates, neighbours and places. Every function but `step_from` and `next_place`
+// equals the definition of its name in the crate `network` (specs/Sizes.antt, Torus.antt).
 use network::DIMENSIONS;
 use network::Sizes;
-use network::TAG_AT;
 ghost use mathlib.Core.Path.{_≡_};
 ghost use Prim.Native.Nat.{_+_, _%_, _<_};
 ghost use lib.Dec.{T};
 ghost use Rattle.base.specs.Digits.{weight};
 ghost use Rattle.network.specs.Sizes.{shapeOf, sizesInRange, dimensions, directions, dimensionOf, nodes, size};
 ghost use Rattle.network.specs.Torus.{coordinate, neighbour};
-ghost use Rattle.network.specs.Calls.{offeredWay, offered};
-ghost use Rattle.packet.specs.Geometry.{nodeAt, OnTorus};
+ghost use Rattle.torus.specs.Geometry.{nodeAt, OnTorus};
 
 pub fn nodes(s: Sizes) -> u64
     requires { ⌜ T (sizesInRange (shapeOf s)) ⌝ }
@@ -102,30 +97,4 @@ pub fn next_place(s: Sizes, place: Place) -> Place
         i += 1;
     }
     Place { at }
-}
-
-// The offset of an offer in dimension i.
-fn way(s: Sizes, i: u64, n: u64, destination: u64) -> i64
-    requires { ⌜ T (sizesInRange (shapeOf s)) × (i < dimensions) × (n < nodes (shapeOf s)) × (destination < nodes (shapeOf s)) ⌝ }
-    ensures { λ r. ⌜ r ≡ offeredWay (shapeOf s) n destination i ⌝ }
-{
-    let k = size(s, i);
-    let from = coordinate(s, i, n);
-    let to = coordinate(s, i, destination);
-    let ahead = (to + (k - from)) % k;
-    shorter_way(k, ahead, from)
-}
-
-// The packet word of an offer.
-pub fn offered(s: Sizes, n: u64, destination: u64, tag: u32) -> u64
-    requires { ⌜ T (sizesInRange (shapeOf s)) × (n < nodes (shapeOf s)) × (destination < nodes (shapeOf s)) ⌝ }
-    ensures { λ r. ⌜ r ≡ offered (shapeOf s) n destination tag ⌝ }
-{
-    let mut p = (tag as u64) * TAG_AT + destination * DESTINATION_AT;
-    let mut i = 0;
-    while i < DIMENSIONS {
-        p = with_offset(i, way(s, i, n, destination), p);
-        i += 1;
-    }
-    p
 }

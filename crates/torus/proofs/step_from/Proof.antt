@@ -1,12 +1,12 @@
--- `packet::torus::step_from` meets its contract. Assumes nothing.
+-- `torus::step_from` meets its contract. Assumes nothing.
 use native.Mathlib.Omega.{arith}
 use native.Mathlib.Nat.{le-trans, le-of-eq}
 use borrow.Author.Needs.{needs}
 use Rattle.network.specs.Sizes.{shapeOf, dimensionOf}
 use Rattle.network.specs.TorusLaws.{sizes-torus, sizes-nodes, inRange-size}
-use Rattle.packet.specs.GeometryLaws.{Ring, within-ring, neighbour-small, step-on, step-round, step-back, step-back-round}
-use Rattle.packet.proofs.torus.step_from.Statement.{statement}
-use Rattle.packet.proofs.torus.step_from.Tie as tie
+use Rattle.torus.specs.GeometryLaws.{Ring, within-ring, neighbour-small, step-on, step-round, step-back, step-back-round}
+use Rattle.torus.proofs.step_from.Statement.{statement}
+use Rattle.torus.proofs.step_from.Tie as tie
 
 -- the start of the function, from its last call
 abbrev start : tie.After-weight → tie.Start

@@ -1,9 +1,9 @@
--- `packet::torus::nodes` meets its contract. Assumes nothing.
+-- `torus::nodes` meets its contract. Assumes nothing.
 use native.Mathlib.Omega.{arith}
 use Rattle.network.specs.TorusLaws.{sizes-nodes}
-use Rattle.packet.specs.GeometryLaws.{nodes-is, plane-most}
-use Rattle.packet.proofs.torus.nodes.Statement.{statement}
-use Rattle.packet.proofs.torus.nodes.Tie as tie
+use Rattle.torus.specs.GeometryLaws.{nodes-is, plane-most}
+use Rattle.torus.proofs.nodes.Statement.{statement}
+use Rattle.torus.proofs.nodes.Tie as tie
 
 mul-result : tie.Need-mul-result
 mul-result c = let s = c .before .args .s in omega (arith, plane-most s (c .before .pre), sizes-nodes s (c .before .pre))

@@ -1,10 +1,9 @@
--- `packet::torus::weight` meets its contract. Assumes nothing.
+-- `torus::weight` meets its contract. Assumes nothing.
 use native.Mathlib.Omega.{arith}
 use Rattle.network.specs.TorusLaws.{sizes-nodes}
-use Rattle.packet.specs.GeometryLaws.{weight-x, weight-y, weight-z, plane-most}
-use Rattle.packet.proofs.FieldWords.{last-dimension}
-use Rattle.packet.proofs.torus.weight.Statement.{statement}
-use Rattle.packet.proofs.torus.weight.Tie as tie
+use Rattle.torus.specs.GeometryLaws.{last-dimension, weight-x, weight-y, weight-z, plane-most}
+use Rattle.torus.proofs.weight.Statement.{statement}
+use Rattle.torus.proofs.weight.Tie as tie
 
 returns : tie.Need-returns
 returns c = let a = c .before .args in weight-x (a .s) (a .i) (c .if1 .taken)

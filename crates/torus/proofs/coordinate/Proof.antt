@@ -1,11 +1,11 @@
--- `packet::torus::coordinate` meets its contract. Assumes nothing.
+-- `torus::coordinate` meets its contract. Assumes nothing.
 use native.Mathlib.Omega.{arith}
 use borrow.Author.Needs.{needs}
 use Rattle.network.specs.Sizes.{shapeOf}
 use Rattle.network.specs.TorusLaws.{sizes-torus, size-pos}
-use Rattle.packet.specs.GeometryLaws.{coordinate-is, weight-some}
-use Rattle.packet.proofs.torus.coordinate.Statement.{statement}
-use Rattle.packet.proofs.torus.coordinate.Tie as tie
+use Rattle.torus.specs.GeometryLaws.{coordinate-is, weight-some}
+use Rattle.torus.proofs.coordinate.Statement.{statement}
+use Rattle.torus.proofs.coordinate.Tie as tie
 
 div-result : tie.Need-div-result
 div-result c =

@@ -1,8 +1,7 @@
--- `packet::torus::size` meets its contract. Assumes nothing.
-use Rattle.packet.specs.GeometryLaws.{size-x, size-y, size-z}
-use Rattle.packet.proofs.FieldWords.{last-dimension}
-use Rattle.packet.proofs.torus.size.Statement.{statement}
-use Rattle.packet.proofs.torus.size.Tie as tie
+-- `torus::size` meets its contract. Assumes nothing.
+use Rattle.torus.specs.GeometryLaws.{last-dimension, size-x, size-y, size-z}
+use Rattle.torus.proofs.size.Statement.{statement}
+use Rattle.torus.proofs.size.Tie as tie
 
 returns : tie.Need-returns
 returns c = let a = c .before .args in size-x (a .s) (a .i) (c .if1 .taken)

@@ -1,4 +1,4 @@
--- `packet::torus::offered` meets its contract. The loop's invariant: the offsets of the dimensions below i stand in the word. Assumes nothing.
+-- `packet::offered` meets its contract. The loop's invariant: the offsets of the dimensions below i stand in the word. Assumes nothing.
 use mathlib.Core.Path.{_≡_}
 use Prim.Native.Nat.{_-_, _*_, _≤_}
 use native.Mathlib.Omega.{arith}
@@ -8,11 +8,10 @@ use Rattle.network.specs.Sizes.{shapeOf, dimensions}
 use Rattle.network.specs.Packet.{fields, destinationField, withOffsets, packetWord}
 use Rattle.network.specs.TorusLaws.{sizes-nodes}
 use Rattle.network.specs.Calls.{offeredWay, offered}
-use Rattle.packet.specs.GeometryLaws.{sizes-way}
 use Rattle.packet.proofs.Numbers.{back, range-back}
-use Rattle.packet.proofs.FieldWords.{word-start, word-more, word-end}
-use Rattle.packet.proofs.torus.offered.Statement.{statement}
-use Rattle.packet.proofs.torus.offered.Tie as tie
+use Rattle.packet.proofs.FieldWords.{sizes-way, word-start, word-more, word-end}
+use Rattle.packet.proofs.offered.Statement.{statement}
+use Rattle.packet.proofs.offered.Tie as tie
 
 abbrev Inv-loop : tie.InvT-loop
 Inv-loop s n destination tag p₀ i₀ p i =

@@ -1,13 +1,13 @@
--- `packet::torus::next_place` meets its contract. The loop's invariant: the coordinates below i have gone round. Assumes nothing.
+-- `torus::next_place` meets its contract. The loop's invariant: the coordinates below i have gone round. Assumes nothing.
 use mathlib.Core.Path.{refl}
 use Prim.Native.Nat.{_-_}
 use native.Mathlib.Omega.{arith}
 use borrow.Author.Needs.{needs}
 use Rattle.network.specs.Sizes.{shapeOf, dimensions}
 use Rattle.network.specs.TorusLaws.{inRange-size}
-use Rattle.packet.specs.GeometryLaws.{Carrying, carry-start, carry-end, carry-more, carry-round}
-use Rattle.packet.proofs.torus.next_place.Statement.{statement}
-use Rattle.packet.proofs.torus.next_place.Tie as tie
+use Rattle.torus.specs.GeometryLaws.{Carrying, carry-start, carry-end, carry-more, carry-round}
+use Rattle.torus.proofs.next_place.Statement.{statement}
+use Rattle.torus.proofs.next_place.Tie as tie
 
 abbrev Inv-loop : tie.InvT-loop
 Inv-loop s at₀ i₀ at i = Carrying s (record { at = at₀ }) at i
