@@ -99,7 +99,7 @@ pub extern "C" fn bench_look(words: &[u64], node: u64, queue: u64, out: &mut [u6
                 return unknown;
             }
             let start = queue::queue_start(s, node, queue);
-            let count = flow::held_count(words, s, node, queue);
+            let count = queue::held_count(words, s, node, queue);
             let from = (start + 1) as u64;
             *out = [from, count];
             0

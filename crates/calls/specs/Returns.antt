@@ -18,7 +18,7 @@ use Rattle.network.specs.declared.Stop.{Stop}
 use Rattle.network.specs.Sizes.{Shape, sizesInRange, nodes, queues, capacity}
 use Rattle.network.specs.Layout.{shape, need, queueStart, queueEnd, queueLength, queuePart, countOf, packetsOf, held}
 use Rattle.network.specs.LayoutLaws.{Fits, length-queuePart, length-packetsOf, end-length}
-use Rattle.flow.specs.QueueOf.{QueueOf}
+use Rattle.queue.specs.QueueOf.{QueueOf}
 use Rattle.network.specs.CheckLaws.{Network, QueueFits}
 use Rattle.network.specs.Routes.{deliver, freeSlots}
 use Rattle.network.specs.Refusals.{networkRefusal, makeRefusal, offerRules, offerRefusal, moveRules, moveRefusal, creditRules, creditRefusal, lookRules, lookRefusal, head, elseBy}

@@ -127,7 +127,7 @@ pub fn look(words: &[u64], node: u64, queue: u64) -> &[u64]
                 return &words[0..0];
             }
             let start = queue::queue_start(s, node, queue);
-            let count = flow::held_count(words, s, node, queue);
+            let count = queue::held_count(words, s, node, queue);
             let from = start + 1;
             let to = from + count as usize;
             between(words, from, to)

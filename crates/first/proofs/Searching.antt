@@ -32,8 +32,8 @@ use Rattle.network.specs.declared.Sizes.{Sizes}
 use Rattle.queue.specs.QueueLaws.{checked-fits}
 use Rattle.routes.specs.Lines.{lines, applies, outputsFrom}
 use Rattle.routes.specs.LinesLaws.{line-taken, line-passed, lines-end, line-member}
-use Rattle.flow.specs.QueueOf.{QueueOf}
-use Rattle.flow.specs.HeldWords.{queue-checked, count-at, head-at}
+use Rattle.queue.specs.QueueOf.{QueueOf}
+use Rattle.queue.specs.HeldWords.{queue-checked, count-read, head-read}
 
 -- Numbers searched in order -----------------------------------------------------------------------------------------------------------
 
@@ -122,12 +122,12 @@ FoundFrom s w n q r j = firstOutput (shapeOf s) w n q (outputsFrom j (drop j r))
 
 module _ {s : Sizes} {w : List ℕ} {n q start : ℕ} {r : List ℕ} (k : Reading s w n q start r) where
   holds : length (held (shapeOf s) w n q) ≢ 0
-  holds z = k .some (count-at s w n q (k .queue) start (k .at) ∙ z)
+  holds z = k .some (count-read s w n q (k .queue) start (k .at) ∙ z)
 
   lines-are : outputsFrom 0 r ≡ routes q (head (held (shapeOf s) w n q))
   lines-are =
       let some : 0 < length (held (shapeOf s) w n q) = pos-of-ne-zero holds in
-      k .these ∙ ap (routes q) (head-at s w n q (k .queue) start (k .at) some)
+      k .these ∙ ap (routes q) (head-read s w n q (k .queue) start (k .at) some)
 
   among : (j : ℕ) → j < lines → j < length r
   among j h = let e = k .each in omega arith
@@ -182,7 +182,7 @@ end-at s w n q k start slots e f =
 -- a queue that holds none
 pub queue-none : (s : Sizes) (w : List ℕ) (n q start : ℕ) → QueueOf (shapeOf s) w n q → start ≡ queueStart (shapeOf s) n q → getD w start 0 ≡ 0
     → firstInQueue (shapeOf s) w n q ≡ Found.Nothing
-queue-none s w n q start k at z = empty (shapeOf s) w n q (sym (count-at s w n q k start at) ∙ z)
+queue-none s w n q start k at z = empty (shapeOf s) w n q (sym (count-read s w n q k start at) ∙ z)
 
 -- The invariants ----------------------------------------------------------------------------------------------------------------------
 

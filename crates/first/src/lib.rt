@@ -19,7 +19,7 @@ ghost use Rattle.network.specs.Sizes.{shapeOf};
 ghost use Rattle.network.specs.CheckLaws.{Network};
 ghost use Rattle.network.specs.Calls.{firstInQueue, firstMove};
 ghost use Rattle.near.specs.Table.{Near};
-ghost use Rattle.flow.specs.QueueOf.{QueueOf};
+ghost use Rattle.queue.specs.QueueOf.{QueueOf};
 
 // The first permitted move of the network. Where as many packets were delivered as accepted, none is held. The place of the words
 // goes on from queue to queue, and an empty queue costs no more than its count word.

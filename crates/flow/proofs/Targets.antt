@@ -11,8 +11,8 @@ use Rattle.network.specs.TorusLaws.{neighbour-lt, sizes-torus}
 use Rattle.network.specs.Routes.{target, freeSlots}
 use Rattle.network.specs.RoutesLaws.{free-slots-held}
 use Rattle.network.specs.declared.Sizes.{Sizes}
-use Rattle.flow.specs.QueueOf.{QueueOf}
-use Rattle.flow.specs.HeldWords.{held-few}
+use Rattle.queue.specs.QueueOf.{QueueOf}
+use Rattle.queue.specs.HeldWords.{held-few}
 
 module _ (s : Sizes) (w : List ℕ) (n o there : ℕ) (k : QueueOf (shapeOf s) w n o) (e : there ≡ target (shapeOf s) n o) where
   -- it is one of the network's

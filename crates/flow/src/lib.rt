@@ -1,42 +1,21 @@
-// The flow rule (R150 to R152), on words that have passed the check: what a queue holds, the target of an output, its free slots, and how
-// many a move needs. The contracts say each answer by the definitions of the crate `network` (specs/Layout.antt, Routes.antt, Refusals.antt).
+// The flow rule (R150 to R152), on words that have passed the check: the target of an output, its free slots, and how many a move needs. The
+// contracts say each answer by the definitions of the crate `network` (specs/Routes.antt, Refusals.antt).
 use near::look_up;
 use network::DIRECTIONS;
 use network::NO_BUBBLE;
 use network::NO_SLOT;
 use network::Sizes;
 use queue::capacity;
-use queue::queue_start;
+use queue::held_count;
 use torus::neighbour;
 ghost use mathlib.Core.Path.{_≡_};
 ghost use Prim.Native.Nat.{_<_};
 ghost use lib.Dec.{eqb, T};
-ghost use lib.ListN.{length};
-ghost use Rattle.network.specs.Layout.{held};
 ghost use Rattle.network.specs.Routes.{target, freeSlots, slotsNeeded};
-ghost use Rattle.network.specs.Refusals.{head, flowRules};
+ghost use Rattle.network.specs.Refusals.{flowRules};
 ghost use Rattle.near.specs.Table.{Near};
 ghost use Rattle.network.specs.Sizes.{shapeOf, nodes, queues, sizesInRange};
-ghost use Rattle.flow.specs.QueueOf.{QueueOf};
-
-// The number of packets that queue q of node n holds: its count word.
-pub fn held_count(words: &[u64], s: Sizes, n: u64, q: u64) -> u64
-    requires { ⌜ QueueOf (shapeOf s) (now words) n q ⌝ }
-    ensures { λ r. ⌜ r ≡ length (held (shapeOf s) (now (words .entry)) n q) ⌝ }
-{
-    let start = queue_start(s, n, q);
-    words[start]
-}
-
-// The oldest packet of queue q of node n, which holds one.
-pub fn head(words: &[u64], s: Sizes, n: u64, q: u64) -> u64
-    requires { ⌜ QueueOf (shapeOf s) (now words) n q ⌝ }
-    requires { ⌜ 0 < length (held (shapeOf s) (now words) n q) ⌝ }
-    ensures { λ r. ⌜ r ≡ head (held (shapeOf s) (now (words .entry)) n q) ⌝ }
-{
-    let start = queue_start(s, n, q);
-    words[start + 1]
-}
+ghost use Rattle.queue.specs.QueueOf.{QueueOf};
 
 // The node in the direction of output o, which is no delivery.
 pub fn target(s: Sizes, n: u64, o: u64) -> u64

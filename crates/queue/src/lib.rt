@@ -1,6 +1,6 @@
 // A queue as a part of the lent words: one word for the number held, the packets, oldest first, and zeros.
 // Order: the leaves on a queue's own words; the same at a place in more words; where the queues of a network stand;
-// the same for a queue of a network; a counter of the header.
+// what a queue of a network holds; the leaves again, for a queue of a network; a counter of the header.
 use network::DIRECTIONS;
 use network::FIRST_ESCAPE;
 use network::HEADER_WORDS;
@@ -18,6 +18,7 @@ ghost use Rattle.network.specs.Layout.{queueLength, nodeWords, queueStart, queu
 ghost use Rattle.network.specs.Refusals.{head};
 ghost use Rattle.network.specs.Calls.{packetArrives, headLeaves};
 ghost use Rattle.queue.specs.Queue.{IsQueue, QueueAt, CheckedQueue, slots};
+ghost use Rattle.queue.specs.QueueOf.{QueueOf};
 
 // The packet becomes the newest of a queue with a free slot.
 pub fn append(q: &mut [u64], p: u64)
@@ -130,6 +131,25 @@ pub fn need(s: Sizes) -> usize
     let nodes = torus::nodes(s);
     let node = node_words(s);
     HEADER_WORDS + (nodes * node) as usize
+}
+
+// The number of packets that queue q of node n holds: its count word.
+pub fn held_count(words: &[u64], s: Sizes, n: u64, q: u64) -> u64
+    requires { ⌜ QueueOf (shapeOf s) (now words) n q ⌝ }
+    ensures { λ r. ⌜ r ≡ length (held (shapeOf s) (now (words .entry)) n q) ⌝ }
+{
+    let start = queue_start(s, n, q);
+    words[start]
+}
+
+// The oldest packet of queue q of node n, which holds one.
+pub fn head(words: &[u64], s: Sizes, n: u64, q: u64) -> u64
+    requires { ⌜ QueueOf (shapeOf s) (now words) n q ⌝ }
+    requires { ⌜ 0 < length (held (shapeOf s) (now words) n q) ⌝ }
+    ensures { λ r. ⌜ r ≡ head (held (shapeOf s) (now (words .entry)) n q) ⌝ }
+{
+    let start = queue_start(s, n, q);
+    words[start + 1]
 }
 
 // The packet becomes the newest of queue q of node n, which has a free slot.

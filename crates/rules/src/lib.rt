@@ -1,8 +1,6 @@
 // The tests that each call makes after the check, in the order of R184 to R186 and R188: the number of the first that applies, or 0. Every
 // function equals the definition of its name in the crate `network` (specs/Refusals.antt).
 use flow::flow_rules;
-use flow::head;
-use flow::held_count;
 use network::ACCEPTED_AT;
 use network::COUNT_SPENT;
 use network::INJECTION_FULL;
@@ -16,6 +14,8 @@ use network::QUEUE_EMPTY;
 use network::QUEUES;
 use network::Sizes;
 use queue::capacity;
+use queue::head;
+use queue::held_count;
 use routes::is_route;
 use torus::nodes;
 ghost use mathlib.Core.Path.{_≡_};

@@ -7,7 +7,7 @@ use native.Mathlib.Omega.{arith}
 use lib.ListN.{length}
 use Rattle.network.specs.Sizes.{shapeOf}
 use Rattle.checker.specs.Opening.{broken, is-open, is-shut}
-use Rattle.flow.specs.QueueOf.{QueueOf}
+use Rattle.queue.specs.QueueOf.{QueueOf}
 use Rattle.calls.specs.Returns.{look-broken, look-rules, looks, held-end}
 use Rattle.bench_c.specs.OutLaws.{look-cleared, look-told}
 use Rattle.bench_c.proofs.bench_look.Statement.{statement}

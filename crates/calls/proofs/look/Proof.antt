@@ -8,7 +8,7 @@ use denote.Ref.{now}
 use lib.ListN.{length}
 use Rattle.network.specs.Sizes.{shapeOf}
 use Rattle.network.specs.Refusals.{lookRefusal}
-use Rattle.flow.specs.QueueOf.{QueueOf}
+use Rattle.queue.specs.QueueOf.{QueueOf}
 use Rattle.calls.specs.Returns.{look-broken, look-rules, look-refused, look-shown, looks, held-part, held-end}
 use Rattle.calls.specs.Place.{place-refused, place-shown}
 use Rattle.checker.specs.Opening.{broken, is-open, is-shut}

@@ -9,7 +9,7 @@ use borrow.Author.Tests.{eqb-true, eqb-false}
 use lib.Dec.{eqb}
 use lib.ListN.{length}
 use Rattle.routes.specs.Lines.{lines}
-use Rattle.flow.specs.HeldWords.{asked, inside-at}
+use Rattle.queue.specs.HeldWords.{asked, inside-at}
 use Rattle.first.proofs.Searching.{Reading, AtLine, found-from-first, output-lt, line-none, line-refused, line-found, lines-none, queue-none}
 use Rattle.first.proofs.first_in_queue.Statement.{statement}
 use Rattle.first.proofs.first_in_queue.Tie as tie

@@ -12,8 +12,8 @@ use Rattle.network.specs.Sizes.{shapeOf, nodes, queues}
 use Rattle.network.specs.Layout.{accepted, delivered}
 use Rattle.network.specs.Calls.{firstInQueue, firstMove}
 use Rattle.routes.specs.Lines.{lines}
-use Rattle.flow.specs.QueueOf.{QueueOf}
-use Rattle.flow.specs.HeldWords.{header, inside-at}
+use Rattle.queue.specs.QueueOf.{QueueOf}
+use Rattle.queue.specs.HeldWords.{header, inside-at}
 use Rattle.network.specs.TorusLaws.{sizes-nodes}
 use Rattle.first.proofs.Searching.{Reading, AtLine, AtQueue, AtNode, found-from-first, output-lt, line-none, line-refused, line-found, lines-none, end-at, queue-none, queues-begin, queue-next, queue-found, nodes-begin, node-next, node-found, nodes-none, nothing-held}
 use Rattle.first.proofs.first_move.Statement.{statement}

@@ -18,9 +18,9 @@ use Rattle.network.specs.Routes.{target, freeSlots, entersRing, slotsNeeded}
 use Rattle.network.specs.Refusals.{flowRules}
 use Rattle.network.specs.RefusalLaws.{flow-of, flow-by}
 use Rattle.network.specs.declared.Sizes.{Sizes}
-use Rattle.flow.specs.QueueOf.{QueueOf}
+use Rattle.queue.specs.QueueOf.{QueueOf}
 use Rattle.network.specs.TorusLaws.{sizes-nodes}
-use Rattle.flow.specs.HeldWords.{asked}
+use Rattle.queue.specs.HeldWords.{asked}
 use Rattle.near.specs.Table.{entry-within}
 use Rattle.flow.proofs.Targets.{at-target, target-few, target-free}
 use Rattle.flow.proofs.may_flow.Statement.{statement}

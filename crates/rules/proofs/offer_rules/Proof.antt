@@ -12,7 +12,7 @@ use Rattle.network.specs.Layout.{accepted, taken}
 use Rattle.network.specs.LayoutLaws.{taken-length}
 use Rattle.network.specs.Check.{mostAccepted}
 use Rattle.network.specs.Refusals.{refuse, offerRules, noSuchNode, countSpent, injectionFull, ownNode}
-use Rattle.flow.specs.HeldWords.{header}
+use Rattle.queue.specs.HeldWords.{header}
 use Rattle.rules.proofs.offer_rules.Statement.{statement}
 use Rattle.rules.proofs.offer_rules.Tie as tie
 

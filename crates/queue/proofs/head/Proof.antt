@@ -1,8 +1,8 @@
--- `flow::head` meets its contract. Assumes nothing.
+-- `queue::head` meets its contract. Assumes nothing.
 use native.Mathlib.Omega.{arith}
-use Rattle.flow.specs.HeldWords.{asked, inside-at, head-at}
-use Rattle.flow.proofs.head.Statement.{statement}
-use Rattle.flow.proofs.head.Tie as tie
+use Rattle.queue.specs.HeldWords.{asked, inside-at, head-read}
+use Rattle.queue.proofs.head.Statement.{statement}
+use Rattle.queue.proofs.head.Tie as tie
 
 queue-start-requires : tie.Need-queue-start-requires
 queue-start-requires c κs =
@@ -35,7 +35,7 @@ returns : tie.Need-returns
 returns c =
     let f = c .before .before .before in
     let a = f .args in
-    head-at (a .s) (a .words .now) (a .n) (a .q) (f .pre .0) (c .before .queue-start .result) (c .before .queue-start .ensures) (f .pre .1)
+    head-read (a .s) (a .words .now) (a .n) (a .q) (f .pre .0) (c .before .queue-start .result) (c .before .queue-start .ensures) (f .pre .1)
 
 pub head-spec : {M : Type 1} → statement M
 head-spec = tie.close (tie.spec queue-start-requires add-result mul-result shared-slice-read-result returns)

@@ -1,8 +1,8 @@
--- `flow::held_count` meets its contract. Assumes nothing.
+-- `queue::held_count` meets its contract. Assumes nothing.
 use native.Mathlib.Omega.{arith}
-use Rattle.flow.specs.HeldWords.{asked, inside-at, count-at}
-use Rattle.flow.proofs.held_count.Statement.{statement}
-use Rattle.flow.proofs.held_count.Tie as tie
+use Rattle.queue.specs.HeldWords.{asked, inside-at, count-read}
+use Rattle.queue.proofs.held_count.Statement.{statement}
+use Rattle.queue.proofs.held_count.Tie as tie
 
 queue-start-requires : tie.Need-queue-start-requires
 queue-start-requires c κs =
@@ -28,7 +28,7 @@ returns : tie.Need-returns
 returns c =
     let f = c .before .before .before in
     let a = f .args in
-    count-at (a .s) (a .words .now) (a .n) (a .q) (f .pre) (c .before .queue-start .result) (c .before .queue-start .ensures)
+    count-read (a .s) (a .words .now) (a .n) (a .q) (f .pre) (c .before .queue-start .result) (c .before .queue-start .ensures)
 
 pub held-count-spec : {M : Type 1} → statement M
 held-count-spec = tie.close (tie.spec queue-start-requires mul-result shared-slice-read-result returns)

@@ -16,9 +16,9 @@ use Rattle.network.specs.LayoutLaws.{end-start, end-length, count-word}
 use Rattle.network.specs.CheckLaws.{Network}
 use Rattle.network.specs.Refusals.{head}
 use Rattle.network.specs.declared.Sizes.{Sizes}
 use Rattle.queue.specs.Queue.{CheckedQueue}
 use Rattle.queue.specs.QueueLaws.{checked-fits, checked-count, places}
-use Rattle.flow.specs.QueueOf.{QueueOf}
+use Rattle.queue.specs.QueueOf.{QueueOf}
 
 -- the header is among the words
 pub header : (S : Shape) (w : List ℕ) → Network S w → 8 ≤ length w
@@ -66,12 +66,12 @@ module _ (s : Sizes) (w : List ℕ) (n q : ℕ) (k : QueueOf (shapeOf s) w n q) 
   pub inside-at : (start : ℕ) → start ≡ queueStart (shapeOf s) n q → start + 1 < length w
   inside-at start e = let i = inside (shapeOf s) w n q queue-checked in omega arith
 
-  pub count-at : (start : ℕ) → start ≡ queueStart (shapeOf s) n q → getD w start 0 ≡ length (held (shapeOf s) w n q)
-  count-at start e = ap (λ (i : ℕ). getD w i 0) e ∙ count-word (shapeOf s) w n q (checked-fits (shapeOf s) w n q queue-checked) (queue-checked .count)
+  pub count-read : (start : ℕ) → start ≡ queueStart (shapeOf s) n q → getD w start 0 ≡ length (held (shapeOf s) w n q)
+  count-read start e = ap (λ (i : ℕ). getD w i 0) e ∙ count-word (shapeOf s) w n q (checked-fits (shapeOf s) w n q queue-checked) (queue-checked .count)
 
-  pub head-at : (start : ℕ) → start ≡ queueStart (shapeOf s) n q → 0 < length (held (shapeOf s) w n q)
+  pub head-read : (start : ℕ) → start ≡ queueStart (shapeOf s) n q → 0 < length (held (shapeOf s) w n q)
       → getD w (start + 1) 0 ≡ head (held (shapeOf s) w n q)
-  head-at start e h = ap (λ (i : ℕ). getD w (i + 1) 0) e ∙ head-word (shapeOf s) w n q queue-checked h
+  head-read start e h = ap (λ (i : ℕ). getD w (i + 1) 0) e ∙ head-word (shapeOf s) w n q queue-checked h
 
   pub held-few : length (held (shapeOf s) w n q) ≤ capacity (shapeOf s) q
   held-few = let e = checked-count (shapeOf s) w n q queue-checked in let f = queue-checked .count in omega arith
