@@ -8,12 +8,12 @@ use network::Sizes;
 ghost use mathlib.Core.Path.{_≡_};
 ghost use mathlib.Core.List.{_++_};
 ghost use mathlib.Core.Logic.{_≢_};
-ghost use Prim.Native.Nat.{_<_, _≤_};
+ghost use Prim.Native.Nat.{_-_, _^_, _<_, _≤_};
 ghost use lib.Dec.{T};
-ghost use lib.ListN.{length, drop};
+ghost use lib.ListN.{length, getD, drop};
 ghost use Rattle.network.specs.Sizes.{shapeOf, sizesInRange, nodes, capacity, injectionQueue};
 ghost use Rattle.network.specs.Routes.{target};
-ghost use Rattle.network.specs.Layout.{need, held};
+ghost use Rattle.network.specs.Layout.{need, held, raised};
 ghost use Rattle.network.specs.CheckLaws.{Network};
 ghost use Rattle.network.specs.Refusals.{head};
 ghost use Rattle.network.specs.RefusalLaws.{Permitted};
@@ -29,6 +29,16 @@ fn clear(words: &mut [u64], n: usize)
         words[i] = 0;
         i += 1;
     }
+}
+
+// One word rises by one, as a counter of the header does.
+fn raise(words: &mut [u64], at: usize)
+    requires { ⌜ at < length (now words) ⌝ }
+    requires { ⌜ getD (now words) at 0 < 2 ^ 64 - 1 ⌝ }
+    ensures { λ _. ⌜ now (words .exit) ≡ raised at (now (words .entry)) ⌝ }
+{
+    let count = words[at];
+    words[at] = count + 1;
 }
 
 // Make: an empty network of these sizes, all counts 0; the words behind it stay as they are.
@@ -57,7 +67,7 @@ pub fn accept(words: &mut [u64], s: Sizes, n: u64, destination: u64, tag: u32)
 {
     let p = packet::offered(s, n, destination, tag);
     queue::push(words, s, n, 0, p);
-    queue::raise(words, ACCEPTED_AT);
+    raise(words, ACCEPTED_AT);
 }
 
 // Move: the head of queue q of node n leaves. It is handed out, or becomes the newest packet of its target after a hop.
@@ -85,12 +95,12 @@ pub fn move_to(words: &mut [u64], s: Sizes, n: u64, q: u64, o: u64, there: u64) 
 {
     let p = queue::pop(words, s, n, q);
     if o == 0 {
-        queue::raise(words, DELIVERED_AT);
-        queue::raise(words, MOVES_AT);
+        raise(words, DELIVERED_AT);
+        raise(words, MOVES_AT);
         return p;
     }
     let hopped = packet::hop((o - 1) % DIRECTIONS / 2, p);
     queue::push(words, s, there, o, hopped);
-    queue::raise(words, MOVES_AT);
+    raise(words, MOVES_AT);
     p
 }

@@ -1,5 +1,5 @@
 -- Laws of Queue.antt. Order: what the sizes bound; what the check of a network says of a queue, and what that says of its words; a queue
--- replaced at its place; what stays when a queue is replaced or a counter raised. Assumes nothing.
+-- replaced at its place; what stays when a queue is replaced. Assumes nothing.
 use mathlib.Core.Path.{_≡_, ap, ap₂, sym, _∙_, subst}
 use mathlib.Core.Bool.{Bool, _&&_}
 use mathlib.Core.List.{List}

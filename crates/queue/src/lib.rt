@@ -1,6 +1,6 @@
 // A queue as a part of the lent words: one word for the number held, the packets, oldest first, and zeros.
 // Order: the leaves on a queue's own words; the same at a place in more words; where the queues of a network stand;
-// what a queue of a network holds; the leaves again, for a queue of a network; a counter of the header.
+// what a queue of a network holds; the leaves again, for a queue of a network.
 use network::DIRECTIONS;
 use network::FIRST_ESCAPE;
 use network::HEADER_WORDS;
@@ -8,13 +8,13 @@ use network::QUEUES;
 use network::Sizes;
 ghost use mathlib.Core.Path.{_≡_};
 ghost use mathlib.Core.List.{[], _∷_, _++_};
-ghost use Prim.Native.Nat.{_-_, _^_, _<_};
+ghost use Prim.Native.Nat.{_<_};
 ghost use lib.Dec.{T};
-ghost use lib.ListN.{length, getD, drop};
+ghost use lib.ListN.{length, drop};
 ghost use Rattle.base.specs.Sums.{sumBelow};
 ghost use Rattle.base.specs.Parts.{span, splice};
 ghost use Rattle.network.specs.Sizes.{shapeOf, sizesInRange, nodes, queues, capacity};
-ghost use Rattle.network.specs.Layout.{queueLength, nodeWords, queueStart, queueEnd, need, queueWords, packetsOf, countOf, held, raised};
+ghost use Rattle.network.specs.Layout.{queueLength, nodeWords, queueStart, queueEnd, need, queueWords, packetsOf, countOf, held};
 ghost use Rattle.network.specs.Refusals.{head};
 ghost use Rattle.network.specs.Calls.{packetArrives, headLeaves};
 ghost use Rattle.queue.specs.Queue.{IsQueue, QueueAt, CheckedQueue, slots};
@@ -173,14 +173,4 @@ pub fn pop(words: &mut [u64], s: Sizes, n: u64, q: u64) -> u64
     let start = queue_start(s, n, q);
     let end = queue_end(s, n, q);
     remove_at(words, start, end)
-}
-
-// One word rises by one, as a counter of the header does.
-pub fn raise(words: &mut [u64], at: usize)
-    requires { ⌜ at < length (now words) ⌝ }
-    requires { ⌜ getD (now words) at 0 < 2 ^ 64 - 1 ⌝ }
-    ensures { λ _. ⌜ now (words .exit) ≡ raised at (now (words .entry)) ⌝ }
-{
-    let count = words[at];
-    words[at] = count + 1;
 }

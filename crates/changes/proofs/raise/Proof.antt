@@ -1,9 +1,9 @@
--- `queue::raise` meets its contract. Assumes nothing.
+-- `changes::raise` meets its contract. Assumes nothing.
 use mathlib.Core.Path.{refl}
 use Rattle.network.specs.Layout.{raised}
 use borrow.Author.Needs.{needs}
-use Rattle.queue.proofs.raise.Statement.{statement}
-use Rattle.queue.proofs.raise.Tie as tie
+use Rattle.changes.proofs.raise.Statement.{statement}
+use Rattle.changes.proofs.raise.Tie as tie
 
 returns : tie.Need-returns
 unfolding raised
