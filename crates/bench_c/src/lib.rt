@@ -4,7 +4,7 @@
 pub mod outs;
 
 use checker::Opened;
-use network::Sizes;
+use network::sized;
 ghost use mathlib.Core.Path.{_≡_};
 ghost use lib.ListN.{length};
 ghost use Rattle.network.specs.Sizes.{shapeOf, sized};
@@ -27,14 +27,7 @@ pub extern "C" fn bench_make(
     ensures answer { λ r. ⌜ r ≡ makeRefusal (shapeOf (sized x y z e a j)) (now (words .entry)) ⌝ }
     ensures words { λ _. ⌜ now (words .exit) ≡ makeWords (shapeOf (sized x y z e a j)) (now (words .entry)) ⌝ }
 {
-    let s = Sizes {
-        x: x,
-        y: y,
-        z: z,
-        escape: e,
-        adaptive: a,
-        injection: j,
-    };
+    let s = sized(x, y, z, e, a, j);
     calls::make(words, s)
 }
 

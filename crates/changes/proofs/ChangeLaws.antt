@@ -18,7 +18,7 @@ use Rattle.network.specs.CheckLaws.{Network, network-by}
 use Rattle.network.specs.Routes.{deliver, target}
 use Rattle.network.specs.Refusals.{head}
 use Rattle.network.specs.RefusalLaws.{Permitted}
-use Rattle.network.specs.Calls.{emptyNetwork, offered, afterOffer, headLeaves, packetArrives, afterMove}
+use Rattle.network.specs.Calls.{emptyHeader, emptyNetwork, offered, afterOffer, headLeaves, packetArrives, afterMove}
 use Rattle.run.specs.Queues.{held-few, length-rest}
 use Rattle.run.specs.Step.{Ahead, ahead}
 use Rattle.queue.specs.Queue.{CheckedQueue}
@@ -31,7 +31,7 @@ use Rattle.queue.specs.QueueLaws.{checked, checked-put, checked-fits}
 pub empty-words : (s : Sizes) (n : ℕ) (w v : List ℕ) → n ≡ need (shapeOf s) → v ≡ replicate n 0 ++ drop n w
     → set (set (set (set (set (set v 0 (s .x)) 1 (s .y)) 2 (s .z)) 3 (s .escape)) 4 (s .adaptive)) 5 (s .injection)
     ≡ emptyNetwork (shapeOf s) ++ drop (need (shapeOf s)) w
-unfolding emptyNetwork need shapeOf
+unfolding emptyHeader emptyNetwork need shapeOf
 empty-words s n w v en ev =
     ap (λ (l : List ℕ). set (set (set (set (set (set l 0 (s .x)) 1 (s .y)) 2 (s .z)) 3 (s .escape)) 4 (s .adaptive)) 5 (s .injection))
     (ev

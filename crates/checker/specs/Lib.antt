@@ -1,2 +1,2 @@
 -- What `open` answers.
-pub mod Opening
+pub mod Opened

@@ -14,6 +14,7 @@ use network::NO_NETWORK;
 use network::SHORT_STORE;
 use network::Sizes;
 use network::WRONG_SIZE;
+use network::sized;
 use queue_check::queues_fit;
 use ring_check::rings_have_room;
 ghost use mathlib.Core.Path.{_≡_};
@@ -25,7 +26,7 @@ ghost use Rattle.network.specs.Layout.{headerWords};
 ghost use Rattle.network.specs.Check.{packetsHeld, workLeft, countersFit, isNetwork};
 ghost use Rattle.network.specs.Refusals.{networkRefusal};
 ghost use Rattle.queue.specs.Queue.{EnoughWords};
-ghost use Rattle.checker.specs.Opening.{sizesIn, opened};
+ghost use Rattle.checker.specs.Opened.{sizesIn, opened};
 
 // The number of the first test that refuses the words, 0 if they are a network.
 pub fn network_refusal(words: &[u64]) -> u64
@@ -68,14 +69,7 @@ fn sizes_of(words: &[u64]) -> Sizes
     requires { ⌜ headerWords ≤ length (now words) ⌝ }
     ensures { λ r. ⌜ r ≡ sizesIn (now (words .entry)) ⌝ }
 {
-    Sizes {
-        x: words[0],
-        y: words[1],
-        z: words[2],
-        escape: words[3],
-        adaptive: words[4],
-        injection: words[5],
-    }
+    sized(words[0], words[1], words[2], words[3], words[4], words[5])
 }
 
 pub fn in_range(s: Sizes) -> bool

@@ -16,7 +16,7 @@ use Rattle.base.specs.Tests.{and-r, T-true, true-T}
 use Rattle.network.specs.Sizes.{queues}
 use Rattle.sheet.specs.Output.{written, Room, Put}
 use Rattle.sheet.specs.Puts.{put-length}
-use Rattle.waveform.specs.Dump.{mostVariables, opening, closing, variableLine, variableLines}
+use Rattle.waveform.specs.Dump.{mostVariables, variablesBegin, variablesEnd, variableLine, variableLines}
 use Rattle.waveform.specs.DumpLaws.{variableLines-more}
 use Rattle.waveform.specs.Lengths.{variable-length}
 use Rattle.waveform.specs.Reading.{startsWith, variablesFrom, variablesIn, behindVariables, areNames, readNames}
@@ -126,39 +126,39 @@ module _ (bs : List ℕ) where
   unfolding readNames
   no-names e = rw e refl
 
-  pub names-first : startsWith opening bs ≡ false → noNames ≡ readNames bs
+  pub names-first : startsWith variablesBegin bs ≡ false → noNames ≡ readNames bs
   unfolding areNames
   names-first e = no-names (rw e refl)
 
-  module _ {counted : Counted} (k : CountedOf bs (length opening) counted) where
+  module _ {counted : Counted} (k : CountedOf bs (length variablesBegin) counted) where
     names-by : areNames bs
-        ≡ (startsWith opening bs && (not (eqb (counted .count) 0) && (eqb (counted .count % queues) 0 && startsWith closing (drop (counted .end) bs))))
+        ≡ (startsWith variablesBegin bs && (not (eqb (counted .count) 0) && (eqb (counted .count % queues) 0 && startsWith variablesEnd (drop (counted .end) bs))))
     unfolding areNames
     names-by =
-        let e : behindVariables bs ≡ counted .end = ap (λ n. length opening + length (variableLines 0 n)) (sym (k .count)) ∙ sym (k .end) in
-        ap₂ (λ n m. startsWith opening bs && (not (eqb n 0) && (eqb (n % queues) 0 && startsWith closing (drop m bs)))) (sym (k .count)) e
+        let e : behindVariables bs ≡ counted .end = ap (λ n. length variablesBegin + length (variableLines 0 n)) (sym (k .count)) ∙ sym (k .end) in
+        ap₂ (λ n m. startsWith variablesBegin bs && (not (eqb n 0) && (eqb (n % queues) 0 && startsWith variablesEnd (drop m bs)))) (sym (k .count)) e
 
     pub names-none : counted .count ≡ 0 → noNames ≡ readNames bs
-    names-none e = no-names (names-by ∙ rw (eq-eqb (counted .count) 0 e) (and-false (startsWith opening bs)))
+    names-none e = no-names (names-by ∙ rw (eq-eqb (counted .count) 0 e) (and-false (startsWith variablesBegin bs)))
 
     pub names-part : counted .count % queues ≢ 0 → noNames ≡ readNames bs
     names-part f =
         no-names
         (names-by
-        ∙ rw (ne-eqb (counted .count % queues) 0 f, and-false (not (eqb (counted .count) 0))) (and-false (startsWith opening bs)))
+        ∙ rw (ne-eqb (counted .count % queues) 0 f, and-false (not (eqb (counted .count) 0))) (and-false (startsWith variablesBegin bs)))
 
-    pub names-last : startsWith closing (drop (counted .end) bs) ≡ false → noNames ≡ readNames bs
+    pub names-last : startsWith variablesEnd (drop (counted .end) bs) ≡ false → noNames ≡ readNames bs
     names-last e =
         no-names
         (names-by
-        ∙ rw (e, and-false (eqb (counted .count % queues) 0), and-false (not (eqb (counted .count) 0))) (and-false (startsWith opening bs)))
+        ∙ rw (e, and-false (eqb (counted .count % queues) 0), and-false (not (eqb (counted .count) 0))) (and-false (startsWith variablesBegin bs)))
 
-    pub names-found : startsWith opening bs ≡ true → counted .count ≢ 0 → counted .count % queues ≡ 0 → startsWith closing (drop (counted .end) bs) ≡ true
-        → record { good = true; count = counted .count; length = counted .end + length closing } ≡ readNames bs
+    pub names-found : startsWith variablesBegin bs ≡ true → counted .count ≢ 0 → counted .count % queues ≡ 0 → startsWith variablesEnd (drop (counted .end) bs) ≡ true
+        → record { good = true; count = counted .count; length = counted .end + length variablesEnd } ≡ readNames bs
     unfolding readNames
     names-found s some whole e =
         let t : areNames bs ≡ true = names-by ∙ rw (s, ne-eqb (counted .count) 0 some, eq-eqb (counted .count % queues) 0 whole, e) refl in
-        let n : counted .end ≡ behindVariables bs = k .end ∙ ap (λ n. length opening + length (variableLines 0 n)) (k .count) in
+        let n : counted .end ≡ behindVariables bs = k .end ∙ ap (λ n. length variablesBegin + length (variableLines 0 n)) (k .count) in
         rw (t, k .count, n) refl
 
 pub names-within : (bs : List ℕ) → readNames bs .length ≤ length bs
@@ -167,11 +167,11 @@ names-within bs = go (areNames bs) refl
   where
     go : (b : Bool) → areNames bs ≡ b → readNames bs .length ≤ length bs
     go true e =
-        let last = startsWith closing (drop (behindVariables bs) bs) in
+        let last = startsWith variablesEnd (drop (behindVariables bs) bs) in
         let whole = eqb (variablesIn bs % queues) 0 in
         let some = not (eqb (variablesIn bs) 0) in
-        let t = and-r whole last (and-r some (whole && last) (and-r (startsWith opening bs) (some && (whole && last)) (true-T (areNames bs) e))) in
-        let l = starts-long closing (drop (behindVariables bs) bs) (T-true last t) in
+        let t = and-r whole last (and-r some (whole && last) (and-r (startsWith variablesBegin bs) (some && (whole && last)) (true-T (areNames bs) e))) in
+        let l = starts-long variablesEnd (drop (behindVariables bs) bs) (T-true last t) in
         let d = length-drop (behindVariables bs) bs in
         rw e (omega arith)
     go false e = rw e (omega arith)

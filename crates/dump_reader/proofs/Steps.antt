@@ -16,7 +16,7 @@ use Rattle.network.specs.Refusals.{refuse, badLine, shortPage}
 use Rattle.waveform.specs.declared.TimeStamp.{TimeStamp}
 use Rattle.waveform.specs.declared.Names.{Names}
 use Rattle.waveform.specs.declared.StepRead.{StepRead}
-use Rattle.waveform.specs.Dump.{valuesOpening, valuesClosing}
+use Rattle.waveform.specs.Dump.{valuesBegin, valuesEnd}
 use Rattle.waveform.specs.Reading.{startsWith, readStamp, run, needed, readNames, Step, behindNames, behindStamp, applied}
 use Rattle.waveform.specs.Reading.{readLater, headerStamp, headerValues, tellsAll, readHeader, readStep}
 use Rattle.waveform.specs.StartLaws.{starts-long}
@@ -31,7 +31,7 @@ use Rattle.dump_reader.proofs.Headers.{names-within}
 -- values that tell every variable, test by test
 module _ (count : ℕ) (bs : List ℕ) {r : Run} (f : RunOf bs r) where
   tells-by : tellsAll count bs
-      ≡ (eqb (r .named) count && (eqb (r .needed) count && (startsWith valuesClosing (drop (r .length) bs) && eqb (r .length + length valuesClosing) (length bs))))
+      ≡ (eqb (r .named) count && (eqb (r .needed) count && (startsWith valuesEnd (drop (r .length) bs) && eqb (r .length + length valuesEnd) (length bs))))
   unfolding tellsAll
   tells-by = rw (f .named, f .needed, f .length) refl
 
@@ -41,11 +41,11 @@ module _ (count : ℕ) (bs : List ℕ) {r : Run} (f : RunOf bs r) where
   pub tells-needed : r .needed ≢ count → false ≡ tellsAll count bs
   tells-needed n = sym (tells-by ∙ rw (ne-eqb (r .needed) count n) (and-false (eqb (r .named) count)))
 
-  pub tells-end : startsWith valuesClosing (drop (r .length) bs) ≡ false → false ≡ tellsAll count bs
+  pub tells-end : startsWith valuesEnd (drop (r .length) bs) ≡ false → false ≡ tellsAll count bs
   tells-end e = sym (tells-by ∙ rw (e, and-false (eqb (r .needed) count)) (and-false (eqb (r .named) count)))
 
-  pub tells-last : r .named ≡ count → r .needed ≡ count → startsWith valuesClosing (drop (r .length) bs) ≡ true
-      → eqb (r .length + length valuesClosing) (length bs) ≡ tellsAll count bs
+  pub tells-last : r .named ≡ count → r .needed ≡ count → startsWith valuesEnd (drop (r .length) bs) ≡ true
+      → eqb (r .length + length valuesEnd) (length bs) ≡ tellsAll count bs
   tells-last n m e = sym (tells-by ∙ rw (eq-eqb (r .named) count n, eq-eqb (r .needed) count m, e) refl)
 
 -- so many changes, and a list as long
@@ -54,7 +54,7 @@ unfolding tellsAll
 tells-count count bs e =
     let named = eqb (length (run bs .changes)) count in
     let long = eqb (needed (run bs .changes)) count in
-    let end = startsWith valuesClosing (drop (run bs .length) bs) && eqb (run bs .length + length valuesClosing) (length bs) in
+    let end = startsWith valuesEnd (drop (run bs .length) bs) && eqb (run bs .length + length valuesEnd) (length bs) in
     let t = true-T (tellsAll count bs) e in (
       eqb-true (length (run bs .changes)) count (T-true named (and-l named (long && end) t)),
       eqb-true (needed (run bs .changes)) count (T-true long (and-l long end (and-r named (long && end) t))),
@@ -151,38 +151,38 @@ module _ (bs : List ℕ) {names : Names} (n : names ≡ readNames bs) where
     header-by : readHeader bs .good
         ≡ (names .good
         && (stamp .good
-        && (startsWith valuesOpening (drop (names .length + stamp .length) bs)
-        && tellsAll (names .count) (drop (names .length + stamp .length + length valuesOpening) bs))))
+        && (startsWith valuesBegin (drop (names .length + stamp .length) bs)
+        && tellsAll (names .count) (drop (names .length + stamp .length + length valuesBegin) bs))))
     unfolding readHeader headerValues
     header-by =
         ap₂
         (λ (m : Names) (t : TimeStamp).
-        m .good && (t .good && (startsWith valuesOpening (behindStamp (behindNames bs)) && tellsAll (m .count) (drop (length valuesOpening) (behindStamp (behindNames bs))))))
+        m .good && (t .good && (startsWith valuesBegin (behindStamp (behindNames bs)) && tellsAll (m .count) (drop (length valuesBegin) (behindStamp (behindNames bs))))))
         (sym n)
         (sym stamp-is)
-        ∙ ap (λ l. names .good && (stamp .good && (startsWith valuesOpening l && tellsAll (names .count) (drop (length valuesOpening) l)))) stamp-behind
-        ∙ ap (λ l. names .good && (stamp .good && (startsWith valuesOpening (drop (names .length + stamp .length) bs) && tellsAll (names .count) l)))
-        (drop-drop (length valuesOpening) (names .length + stamp .length) bs)
+        ∙ ap (λ l. names .good && (stamp .good && (startsWith valuesBegin l && tellsAll (names .count) (drop (length valuesBegin) l)))) stamp-behind
+        ∙ ap (λ l. names .good && (stamp .good && (startsWith valuesBegin (drop (names .length + stamp .length) bs) && tellsAll (names .count) l)))
+        (drop-drop (length valuesBegin) (names .length + stamp .length) bs)
 
-    pub header-opening : startsWith valuesOpening (drop (names .length + stamp .length) bs) ≡ false → HeaderOf bs noStep
-    header-opening e = no-step bs (readHeader bs) (header-by ∙ rw (e, and-false (stamp .good)) (and-false (names .good)))
+    pub header-dumpvars : startsWith valuesBegin (drop (names .length + stamp .length) bs) ≡ false → HeaderOf bs noStep
+    header-dumpvars e = no-step bs (readHeader bs) (header-by ∙ rw (e, and-false (stamp .good)) (and-false (names .good)))
 
-    module _ (o : startsWith valuesOpening (drop (names .length + stamp .length) bs) ≡ true) where
-      pub values-place : names .length + stamp .length + length valuesOpening ≤ length bs
+    module _ (o : startsWith valuesBegin (drop (names .length + stamp .length) bs) ≡ true) where
+      pub values-place : names .length + stamp .length + length valuesBegin ≤ length bs
       values-place =
-          let l = starts-long valuesOpening (drop (names .length + stamp .length) bs) o in
+          let l = starts-long valuesBegin (drop (names .length + stamp .length) bs) o in
           let d = length-drop (names .length + stamp .length) bs in
           omega arith
 
-      module _ {t : Bool} (a : t ≡ tellsAll (names .count) (onward bs (names .length + stamp .length + length valuesOpening))) where
-        tells-there : t ≡ tellsAll (names .count) (drop (names .length + stamp .length + length valuesOpening) bs)
-        tells-there = a ∙ ap (tellsAll (names .count)) (onward-drop bs (names .length + stamp .length + length valuesOpening))
+      module _ {t : Bool} (a : t ≡ tellsAll (names .count) (onward bs (names .length + stamp .length + length valuesBegin))) where
+        tells-there : t ≡ tellsAll (names .count) (drop (names .length + stamp .length + length valuesBegin) bs)
+        tells-there = a ∙ ap (tellsAll (names .count)) (onward-drop bs (names .length + stamp .length + length valuesBegin))
 
         pub header-values : t ≡ false → HeaderOf bs noStep
         header-values e =
             no-step bs (readHeader bs)
             (header-by
-            ∙ rw (sym tells-there ∙ e, and-false (startsWith valuesOpening (drop (names .length + stamp .length) bs)), and-false (stamp .good))
+            ∙ rw (sym tells-there ∙ e, and-false (startsWith valuesBegin (drop (names .length + stamp .length) bs)), and-false (stamp .good))
             (and-false (names .good)))
 
         pub header-found : names .good ≡ true → stamp .good ≡ true → t ≡ true
@@ -193,13 +193,13 @@ module _ (bs : List ℕ) {names : Names} (n : names ≡ readNames bs) where
               time = stamp .time;
               named = names .count;
               needed = names .count;
-              values = names .length + stamp .length + length valuesOpening;
+              values = names .length + stamp .length + length valuesBegin;
             })
         unfolding readHeader headerValues
         header-found g h e =
-            let (l, m) = tells-count (names .count) (drop (names .length + stamp .length + length valuesOpening) bs) (sym tells-there ∙ e) in
-            let v : drop (names .length + stamp .length + length valuesOpening) bs ≡ headerValues bs
-            = sym (ap (drop (length valuesOpening)) stamp-behind ∙ drop-drop (length valuesOpening) (names .length + stamp .length) bs) in
+            let (l, m) = tells-count (names .count) (drop (names .length + stamp .length + length valuesBegin) bs) (sym tells-there ∙ e) in
+            let v : drop (names .length + stamp .length + length valuesBegin) bs ≡ headerValues bs
+            = sym (ap (drop (length valuesBegin)) stamp-behind ∙ drop-drop (length valuesBegin) (names .length + stamp .length) bs) in
             record {
               good = sym (header-by ∙ rw (g, h, o, sym tells-there ∙ e) refl);
               header = λ t. refl;

@@ -38,13 +38,13 @@ const LARGEST_VARIABLE: u64 = MOST_VARIABLES as u64 - 1;
 const LINE_ROOM: usize = 32;
 
 // R402: how many the fixed bytes before and behind the variables are, and before and behind the values.
-const OPENING_BYTES: usize = 48;
+const VARIABLES_BEGIN_BYTES: usize = 48;
 
-const CLOSING_BYTES: usize = 35;
+const VARIABLES_END_BYTES: usize = 35;
 
-const VALUES_OPENING_BYTES: usize = 10;
+const VALUES_BEGIN_BYTES: usize = 10;
 
-const VALUES_CLOSING_BYTES: usize = 5;
+const VALUES_END_BYTES: usize = 5;
 
 // Whether the bytes begin with this one, which is not 0.
 fn begins(bytes: &[u8], byte: u8) -> bool
@@ -272,7 +272,7 @@ fn read_names(bytes: &[u8]) -> Names
     ) {
         return no_names();
     }
-    let counted = count_variables(bytes, OPENING_BYTES);
+    let counted = count_variables(bytes, VARIABLES_BEGIN_BYTES);
     if counted.count == 0 {
         return no_names();
     }
@@ -285,7 +285,7 @@ fn read_names(bytes: &[u8]) -> Names
     Names {
         good: true,
         count: counted.count,
-        length: counted.end + CLOSING_BYTES,
+        length: counted.end + VARIABLES_END_BYTES,
     }
 }
 
@@ -303,7 +303,7 @@ fn tells_all(bytes: &[u8], count: usize) -> bool
     if !starts_with(bytes, run.length, b"$end\n") {
         return false;
     }
-    run.length + VALUES_CLOSING_BYTES == bytes.len()
+    run.length + VALUES_END_BYTES == bytes.len()
 }
 
 // A step as it was parsed, and where its values begin.
@@ -366,11 +366,11 @@ fn read_header(bytes: &[u8]) -> Parsed
     if !stamp.good {
         return no_step();
     }
-    let opening = start + stamp.length;
-    if !starts_with(bytes, opening, b"$dumpvars\n") {
+    let dumpvars = start + stamp.length;
+    if !starts_with(bytes, dumpvars, b"$dumpvars\n") {
         return no_step();
     }
-    let values = opening + VALUES_OPENING_BYTES;
+    let values = dumpvars + VALUES_BEGIN_BYTES;
     if !tells_all(&bytes[values..], names.count) {
         return no_step();
     }

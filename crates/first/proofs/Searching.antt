@@ -98,13 +98,13 @@ module _ (S : Shape) (w : List ℕ) (n q : ℕ) where
 
   -- a route of a head that is there is permitted exactly when the flow rule lets it pass
   flow-passes : (o : ℕ) → n < nodes S → q < queues → length (held S w n q) ≢ 0 → T (elem o (routes q (head (held S w n q))))
-      → flowRules S w n q o ≡ 0 → moveRules S w n q o ≡ 0
+      → flowRules S w n q o (head (held S w n q)) ≡ 0 → moveRules S w n q o ≡ 0
   flow-passes o hn hq some t e =
       permitted-by S w n q o
-      (record { node = hn; queue = hq; output = route-lt q (head (held S w n q)) o t; holds = some; route = t; room = flow-of S w n q o e })
+      (record { node = hn; queue = hq; output = route-lt q (head (held S w n q)) o t; holds = some; route = t; room = flow-of S w n q o (head (held S w n q)) e })
 
-  flow-refuses : (o : ℕ) → flowRules S w n q o ≢ 0 → moveRules S w n q o ≢ 0
-  flow-refuses o ne z = ne (flow-by S w n q o (permitted-of S w n q o z .room))
+  flow-refuses : (o : ℕ) → flowRules S w n q o (head (held S w n q)) ≢ 0 → moveRules S w n q o ≢ 0
+  flow-refuses o ne z = ne (flow-by S w n q o (head (held S w n q)) (permitted-of S w n q o z .room))
 
 -- A queue as the code reads it --------------------------------------------------------------------------------------------------------
 
@@ -124,10 +124,12 @@ module _ {s : Sizes} {w : List ℕ} {n q start : ℕ} {r : List ℕ} (k : Readin
   holds : length (held (shapeOf s) w n q) ≢ 0
   holds z = k .some (count-read s w n q (k .queue) start (k .at) ∙ z)
 
+  -- the word behind the number held
+  the-head : getD w (start + 1) 0 ≡ head (held (shapeOf s) w n q)
+  the-head = head-read s w n q (k .queue) start (k .at) (pos-of-ne-zero holds)
+
   lines-are : outputsFrom 0 r ≡ routes q (head (held (shapeOf s) w n q))
-  lines-are =
-      let some : 0 < length (held (shapeOf s) w n q) = pos-of-ne-zero holds in
-      k .these ∙ ap (routes q) (head-read s w n q (k .queue) start (k .at) some)
+  lines-are = k .these ∙ ap (routes q) the-head
 
   among : (j : ℕ) → j < lines → j < length r
   among j h = let e = k .each in omega arith
@@ -148,21 +150,22 @@ module _ {s : Sizes} {w : List ℕ} {n q start : ℕ} {r : List ℕ} (k : Readin
   pub line-none : (j : ℕ) → j < lines → applies j (getD r j 0) ≡ false → FoundFrom s w n q r j → FoundFrom s w n q r (j + 1)
   line-none j h a inv = ap (firstOutput (shapeOf s) w n q) (sym (line-passed r j (among j h) a)) ∙ inv
 
-  pub line-refused : (j : ℕ) → j < lines → applies j (getD r j 0) ≡ true → flowRules (shapeOf s) w n q (getD r j 0) ≢ 0 → FoundFrom s w n q r j
+  pub line-refused : (j : ℕ) → j < lines → applies j (getD r j 0) ≡ true → flowRules (shapeOf s) w n q (getD r j 0) (getD w (start + 1) 0) ≢ 0 → FoundFrom s w n q r j
       → FoundFrom s w n q r (j + 1)
   line-refused j h a ne inv =
       sym
       (ap (firstOutput (shapeOf s) w n q) (line-taken r j (among j h) a)
-      ∙ output-on (shapeOf s) w n q (getD r j 0) (outputsFrom (j + 1) (drop (j + 1) r)) (flow-refuses (shapeOf s) w n q (getD r j 0) ne))
+      ∙ output-on (shapeOf s) w n q (getD r j 0) (outputsFrom (j + 1) (drop (j + 1) r)) (flow-refuses (shapeOf s) w n q (getD r j 0) (λ z. ne (ap (flowRules (shapeOf s) w n q (getD r j 0)) the-head ∙ z))))
       ∙ inv
 
-  pub line-found : (j : ℕ) → j < lines → applies j (getD r j 0) ≡ true → flowRules (shapeOf s) w n q (getD r j 0) ≡ 0 → FoundFrom s w n q r j
+  pub line-found : (j : ℕ) → j < lines → applies j (getD r j 0) ≡ true → flowRules (shapeOf s) w n q (getD r j 0) (getD w (start + 1) 0) ≡ 0 → FoundFrom s w n q r j
       → firstInQueue (shapeOf s) w n q ≡ Found.Move n q (getD r j 0)
   line-found j h a e inv =
       sym inv
       ∙ ap (firstOutput (shapeOf s) w n q) (line-taken r j (among j h) a)
       ∙ output-found (shapeOf s) w n q (getD r j 0) (outputsFrom (j + 1) (drop (j + 1) r))
-      (flow-passes (shapeOf s) w n q (getD r j 0) (k .queue .node) (k .queue .queue) holds (is-route j h a) e)
+      (flow-passes (shapeOf s) w n q (getD r j 0) (k .queue .node) (k .queue .queue) holds (is-route j h a)
+      (ap (flowRules (shapeOf s) w n q (getD r j 0)) (sym the-head) ∙ e))
 
   pub lines-none : (j : ℕ) → j ≤ lines → lines ≤ j → FoundFrom s w n q r j → firstInQueue (shapeOf s) w n q ≡ Found.Nothing
   lines-none j h l inv =

@@ -39,11 +39,12 @@ pub fn first_move(words: &[u64], s: Sizes) -> Found
     'search: for n in 0..total {
         for q in 0..QUEUES {
             if words[start] != 0 {
-                let outputs = routes(q, words[start + 1]);
+                let p = words[start + 1];
+                let outputs = routes(q, p);
                 for k in 0..LINES {
                     let o = outputs[k as usize];
                     if applies(k, o) {
-                        if flow_rules(words, s, n, q, o) == 0 {
+                        if flow_rules(words, s, n, q, o, p) == 0 {
                             found = true;
                             node = n;
                             queue = q;
@@ -78,11 +79,12 @@ pub fn first_in_queue(words: &[u64], s: Sizes, near: &[u16], n: u64, q: u64) -> 
     if words[start] == 0 {
         return Found::Nothing;
     }
-    let outputs = routes(q, words[start + 1]);
+    let p = words[start + 1];
+    let outputs = routes(q, p);
     for k in 0..LINES {
         let output = outputs[k as usize];
         if applies(k, output) {
-            if may_flow(words, s, near, n, q, output) {
+            if may_flow(words, s, near, n, q, output, p) {
                 return Found::Move {
                     node: n,
                     queue: q,

@@ -36,10 +36,10 @@ pub fn free_slots(words: &[u64], s: Sizes, n: u64, o: u64) -> u64
     slots - held_count(words, s, m, o)
 }
 
-// A head of an adaptive queue that goes into the escape queue of the same direction enters the ring: only the escape queue
-// itself is on it.
-pub fn slots_needed(q: u64, o: u64) -> u64
-    ensures { λ r. ⌜ r ≡ slotsNeeded q o ⌝ }
+// The free slots that packet p of queue q needs at output o. A head of an adaptive queue that goes into the escape queue of the same
+// direction enters the ring: only the escape queue itself is on it. Every packet takes one slot (R20), so nothing is read of p.
+pub fn slots_needed(q: u64, o: u64, p: u64) -> u64
+    ensures { λ r. ⌜ r ≡ slotsNeeded q o p ⌝ }
 {
     if o <= DIRECTIONS {
         return 1;
@@ -50,10 +50,10 @@ pub fn slots_needed(q: u64, o: u64) -> u64
     2
 }
 
-// The refusal of a head of queue q whose route is output o, by the slots of its target.
-pub fn flow_rules(words: &[u64], s: Sizes, n: u64, q: u64, o: u64) -> u64
+// The refusal of packet p, a head of queue q of node n, whose route is output o, by the slots of its target.
+pub fn flow_rules(words: &[u64], s: Sizes, n: u64, q: u64, o: u64, p: u64) -> u64
     requires { ⌜ QueueOf (shapeOf s) (now words) n o ⌝ }
-    ensures { λ r. ⌜ r ≡ flowRules (shapeOf s) (now (words .entry)) n q o ⌝ }
+    ensures { λ r. ⌜ r ≡ flowRules (shapeOf s) (now (words .entry)) n q o p ⌝ }
 {
     if o == 0 {
         return 0;
@@ -62,18 +62,18 @@ pub fn flow_rules(words: &[u64], s: Sizes, n: u64, q: u64, o: u64) -> u64
     if free == 0 {
         return NO_SLOT;
     }
-    if free < slots_needed(q, o) {
+    if free < slots_needed(q, o, p) {
         return NO_BUBBLE;
     }
     0
 }
 
-// Whether the flow rule lets a head of queue q of node n go by output o, which is one of its routes. The target's node comes out
-// of a table.
-pub fn may_flow(words: &[u64], s: Sizes, near: &[u16], n: u64, q: u64, o: u64) -> bool
+// Whether the flow rule lets packet p, a head of queue q of node n, go by output o, which is one of its routes. The target's node
+// comes out of a table.
+pub fn may_flow(words: &[u64], s: Sizes, near: &[u16], n: u64, q: u64, o: u64, p: u64) -> bool
     requires { ⌜ QueueOf (shapeOf s) (now words) n o ⌝ }
     requires { ⌜ Near (shapeOf s) (now near) ⌝ }
-    ensures { λ r. ⌜ r ≡ eqb (flowRules (shapeOf s) (now (words .entry)) n q o) 0 ⌝ }
+    ensures { λ r. ⌜ r ≡ eqb (flowRules (shapeOf s) (now (words .entry)) n q o p) 0 ⌝ }
 {
     if o == 0 {
         return true;
@@ -81,5 +81,5 @@ pub fn may_flow(words: &[u64], s: Sizes, near: &[u16], n: u64, q: u64, o: u64) -
     let there = look_up(near, (o - 1) % DIRECTIONS, n);
     let slots = capacity(s, o);
     let held = held_count(words, s, there, o);
-    held + slots_needed(q, o) <= slots
+    held + slots_needed(q, o, p) <= slots
 }

@@ -25,9 +25,13 @@ unlessRefused refusal after before = cond (eqb refusal 0) after before
 
 -- Make --------------------------------------------------------------------------------------------------------------------------------
 
--- R91, R92: no packet in any queue, the three counters 0
+-- R42, R92: the header of an empty network: its six sizes, the three counters 0
+unfoldable pub emptyHeader : Shape → List ℕ
+emptyHeader S = S .sizes ++ (S .escape ∷ S .adaptive ∷ S .injection ∷ 0 ∷ 0 ∷ 0 ∷ [])
+
+-- R91: no packet in any queue
 unfoldable pub emptyNetwork : Shape → List ℕ
-emptyNetwork S = S .sizes ++ (S .escape ∷ S .adaptive ∷ S .injection ∷ 0 ∷ 0 ∷ 0 ∷ replicate (nodes S * nodeWords S) 0)
+emptyNetwork S = emptyHeader S ++ replicate (nodes S * nodeWords S) 0
 
 -- R48: what lies behind the last node stays
 unfoldable pub makeWords : Shape → List ℕ → List ℕ

@@ -33,12 +33,12 @@ use Rattle.network.specs.Routes.{deliver, inOrder, without, incoming, in
 use Rattle.network.specs.Selection.{selected}
 use Rattle.network.specs.SelectionLaws.{selection-routes}
 use Rattle.network.specs.Refusals.{refuse, noRoute, noSlot, noBubble, networkRefusal, makeRefusal, offerRules, offerRefusal, head, flowRules, moveRules, moveRefusal, creditRules, creditRefusal, lookRules, lookRefusal}
-use Rattle.network.specs.Calls.{Progress, emptyNetwork, makeWords, offeredSteps, offered, afterOffer, offerWords, headLeaves, packetArrives, afterMove, moveWords, moveAnswer, firstOutput, firstInQueue, orElse, search, firstInNode, firstMove, firstAnswer, stopped, oneMore, deliverNext, moveNext, drainFrom, drained, drainLedger, drainAnswer}
+use Rattle.network.specs.Calls.{Progress, emptyHeader, emptyNetwork, makeWords, offeredSteps, offered, afterOffer, offerWords, headLeaves, packetArrives, afterMove, moveWords, moveAnswer, firstOutput, firstInQueue, orElse, search, firstInNode, firstMove, firstAnswer, stopped, oneMore, deliverNext, moveNext, drainFrom, drained, drainLedger, drainAnswer}
 use Rattle.network.specs.PacketLaws.{hops-hop-le, arrived-distance, spare-is}
 use Rattle.network.specs.TorusLaws.{Torus, size-pos, along-lt, inRange-torus, inRange-size, inRange-nodes, sizes-torus}
 use Rattle.network.specs.OfferLaws.{ShortRings, offset-nearer, offset-halfway}
 use Rattle.network.specs.CheckLaws.{Network, PacketFits, packet-of, reach-least, halfway-fits, own-fits, network-of, has-room-held}
-use Rattle.network.specs.RoutesLaws.{Onward, route-of, arrived-route, free-slots-held}
+use Rattle.network.specs.RoutesLaws.{Onward, route-of, arrived-route, free-slots-held, needed-escape}
 use Rattle.network.specs.RefusalLaws.{elseBy-zero, network-passed, network-passes, own-node-exactly, no-node-first, permitted-by}
 
 -- a packet with tag 0, this destination and these offsets dx, dy and dz
@@ -565,7 +565,7 @@ module _ (w : List ℕ) (r : T (sizesInRange (shape w))) where
 
 -- where a packet stands, Move's first four tests of its own do not apply
 past-holds : (w : List ℕ) (n q o : ℕ) → Standing w n q → o < queues
-    → moveRefusal w n q o ≡ refuse (not (elem o (routes q (headOf w n q)))) noRoute (flowRules (shape w) w n q o)
+    → moveRefusal w n q o ≡ refuse (not (elem o (routes q (headOf w n q)))) noRoute (flowRules (shape w) w n q o (headOf w n q))
 unfolding moveRules
 past-holds w n q o s h =
     by-rules w n q o _ (s .passes)
@@ -576,20 +576,12 @@ module _ (w : List ℕ) (n q d : ℕ) (s : Entering w n q d) where
   free : (count : ℕ) → ahead w n d ≡ count → freeSlots (shape w) w n (escapeQueue d) ≡ 2 - count
   free count e = free-slots-held (shape w) w n (escapeQueue d) ∙ ap₂ (λ (a b : ℕ). a - b) (escape-capacity (shape w) d ∙ s .two-slots) e
 
-  needed : slotsNeeded q (escapeQueue d) ≡ cond (eqb q (escapeQueue d)) 1 2
-  unfolding entersRing slotsNeeded
-  needed = rw (lt-ltb directions (escapeQueue d) (omega arith)) (go (eqb q (escapeQueue d)))
-    where
-      go : (own : Bool) → _≡_ {A = ℕ} (cond (true && not own) 2 1) (cond own 1 2)
-      go true = refl
-      go false = refl
-
   entered : (count : ℕ) → ahead w n d ≡ count
       → moveRefusal w n q (escapeQueue d) ≡ refuse (eqb (2 - count) 0) noSlot (refuse (ltb (2 - count) (cond (eqb q (escapeQueue d)) 1 2)) noBubble 0)
   unfolding flowRules
   entered count e =
       past-holds w n q (escapeQueue d) (s .standing) (let h = s .direction in omega arith)
-      ∙ rw (T-true (elem (escapeQueue d) (routes q (headOf w n q))) (s .route), ne-eqb (escapeQueue d) deliver (λ z. nonzero d z), free count e, needed)
+      ∙ rw (T-true (elem (escapeQueue d) (routes q (headOf w n q))) (s .route), ne-eqb (escapeQueue d) deliver (λ z. nonzero d z), free count e, needed-escape q d (headOf w n q))
     where
       nonzero : (d : ℕ) → escapeQueue d ≡ 0 → ⊥
       nonzero d z = omega arith
@@ -834,7 +826,7 @@ delivered-here w n q s z =
 
 -- the definitions with which the rows are computed, to be unfolded by one name
 computed : Unit {0}
-unfolding next oneHop chosen outside sources inEach crossing blocked allBelow someBelow allOf elem EachBelow sumBelow sumOf product digit putDigit rotate size within sizesInRange nodes capacity signed unsigned packetWord tag destination spare offset withOffset withOffsets distance forward backward hops heading hopsLeft work shrunk hop label goesPlus shorterWay coordinate stride along neighbour movedBelow movedBy shape accepted delivered movesMade raised queueLength nodeWords queueStart queueEnd need queueWords queuePart countOf packetsOf unusedOf held load taken putQueue total spareClear rightPlace isQueueOf reach nearEnough opposite rightSign lowerDone packetFits queueFits queuesFit hasRoom ringHasRoom ringsHaveRoom packetsHeld workLeft countersFit isNetwork inOrder without incoming incomingFirst headings routes target freeSlots entersRing slotsNeeded networkRefusal makeRefusal offerRules offerRefusal head flowRules moveRules moveRefusal creditRules creditRefusal lookRules lookRefusal shapeOf emptyNetwork makeWords offered afterOffer offerWords headLeaves packetArrives afterMove moveWords firstOutput firstInQueue orElse search firstInNode firstMove firstAnswer stopped oneMore deliverNext moveNext drainFrom drained drainLedger drainAnswer
+unfolding next oneHop chosen outside sources inEach crossing blocked allBelow someBelow allOf elem EachBelow sumBelow sumOf product digit putDigit rotate size within sizesInRange nodes capacity signed unsigned packetWord tag destination spare offset withOffset withOffsets distance forward backward hops heading hopsLeft work shrunk hop label goesPlus shorterWay coordinate stride along neighbour movedBelow movedBy shape accepted delivered movesMade raised queueLength nodeWords queueStart queueEnd need queueWords queuePart countOf packetsOf unusedOf held load taken putQueue total spareClear rightPlace isQueueOf reach nearEnough opposite rightSign lowerDone packetFits queueFits queuesFit hasRoom ringHasRoom ringsHaveRoom packetsHeld workLeft countersFit isNetwork inOrder without incoming incomingFirst headings routes target freeSlots entersRing slotsNeeded networkRefusal makeRefusal offerRules offerRefusal head flowRules moveRules moveRefusal creditRules creditRefusal lookRules lookRefusal shapeOf emptyHeader emptyNetwork makeWords offered afterOffer offerWords headLeaves packetArrives afterMove moveWords firstOutput firstInQueue orElse search firstInNode firstMove firstAnswer stopped oneMore deliverNext moveNext drainFrom drained drainLedger drainAnswer
 computed = tt
 
 -- K5 to K7, direction by direction

@@ -13,7 +13,7 @@ use lib.Seq.{length-take-le, getD-set-same, getD-set-other, drop-set-lt, take-ap
 use Rattle.base.specs.Tests.{allOf, allOf-head, allOf-tail}
 use Rattle.base.specs.Sums.{sumBelow, sumOf, sumOf-append, sumOf-one, sumOf-ones, sumOf-least, sum-same, sum-change, sum-fewer, term-le, some-term}
 use Rattle.base.specs.Parts.{length-span, length-splice, getD-before, getD-span, span-splice, span-apart, drop-splice, splice-splice, span-set-before}
-use Rattle.network.specs.Sizes.{Shape, nodes, queues, escapeQueue, capacity}
+use Rattle.network.specs.Sizes.{Shape, nodes, queues, directions, capacity}
 use Rattle.network.specs.Layout.{headerWords, shape, acceptedAt, deliveredAt, movesAt, accepted, delivered, movesMade, raised, queueLength, nodeWords, queueStart, queueEnd, need, queueWords, queuePart, countOf, packetsOf, unusedOf, held, load, taken, putQueue, total}
 
 -- Where the queues stand ----------------------------------------------------------------------------------------------------------------
@@ -172,8 +172,8 @@ pub load-pos : (q p : ℕ) → 0 < load q p
 load-pos q p = let e = load-one q p in omega arith
 
 -- so a packet that enters a ring by two free slots leaves one of them free
-pub load-escape : (d p : ℕ) → load (escapeQueue d) p ≡ 1
-load-escape d p = load-one (escapeQueue d) p
+pub load-escape : (q p : ℕ) → directions < q → load q p ≡ 1
+load-escape q p h = load-one q p
 
 -- what is taken is the number held, which the code reads
 pub taken-length : (S : Shape) (w : List ℕ) (n q : ℕ) → taken S w n q ≡ length (held S w n q)

@@ -14,11 +14,11 @@ use lib.ListN.{length}
 use Rattle.base.specs.Tests.{elem, T-true, true-T}
 use Rattle.network.specs.Sizes.{Shape, sizesInRange, nodes, queues, capacity}
 use Rattle.network.specs.Layout.{shape, headerWords, need, held, load, taken}
-use Rattle.network.specs.LayoutLaws.{load-one, load-pos}
+use Rattle.network.specs.LayoutLaws.{load-pos}
 use Rattle.network.specs.Check.{isNetwork}
 use Rattle.network.specs.CheckLaws.{Network, network-of, network-by}
-use Rattle.network.specs.Routes.{routes, deliver, target, freeSlots, entersRing, slotsNeeded}
-use Rattle.network.specs.RoutesLaws.{free-slots-is}
+use Rattle.network.specs.Routes.{routes, deliver, target, freeSlots, slotsNeeded}
+use Rattle.network.specs.RoutesLaws.{free-slots-is, load-needed, needed-pos}
 use Rattle.network.specs.Refusals.{refuse, elseBy, networkRefusal, countIsSpent, injectionIsFull, offerRules, head, flowRules, moveRules, shortStore, wrongSize, noNetwork, noSuchNode, noSuchQueue, noSuchOutput, injectionFull, countSpent, queueEmpty, noRoute, noSlot, noBubble, ownNode}
 
 -- a test that would refuse by k + 1 did not apply, and the later ones say 0
@@ -95,50 +95,41 @@ pub record Permitted (S : Shape) (w : List ℕ) (n q o : ℕ) : Type 0 where
   pub output : o < queues
   pub holds : length (held S w n q) ≢ 0
   pub route : T (elem o (routes q (head (held S w n q))))
-  pub room : o ≢ deliver → slotsNeeded q o ≤ freeSlots S w n o
+  pub room : o ≢ deliver → slotsNeeded q o (head (held S w n q)) ≤ freeSlots S w n o
 
--- the flow rules let an output pass exactly when it delivers or as many slots are free as it needs
-pub flow-of : (S : Shape) (w : List ℕ) (n q o : ℕ) → flowRules S w n q o ≡ 0 → o ≢ deliver → slotsNeeded q o ≤ freeSlots S w n o
+-- the flow rules let a packet pass by an output exactly when it delivers or as many slots are free as the packet needs there
+pub flow-of : (S : Shape) (w : List ℕ) (n q o p : ℕ) → flowRules S w n q o p ≡ 0 → o ≢ deliver → slotsNeeded q o p ≤ freeSlots S w n o
 unfolding flowRules
-flow-of S w n q o e ne =
+flow-of S w n q o p e ne =
     let (a, r₁) = not-refused (eqb (freeSlots S w n o) 0) 10 _ (rw (ne-eqb o deliver ne) at e) in
-    let (b, r₂) = not-refused (ltb (freeSlots S w n o) (slotsNeeded q o)) 11 _ r₁ in
-    ltb-false (freeSlots S w n o) (slotsNeeded q o) b
+    let (b, r₂) = not-refused (ltb (freeSlots S w n o) (slotsNeeded q o p)) 11 _ r₁ in
+    ltb-false (freeSlots S w n o) (slotsNeeded q o p) b
 
-needed-pos : (q o : ℕ) → 0 < slotsNeeded q o
-unfolding slotsNeeded
-needed-pos q o = go (entersRing q o)
-  where
-    go : (b : Bool) → 0 < cond b 2 1
-    go true = omega arith
-    go false = omega arith
-
--- a move needs no less than its packet takes: where as much is free as it needs, the target takes the packet
-load-needed : (q o p : ℕ) → load o p ≤ slotsNeeded q o
-load-needed q o p = let a = load-one o p in let b = needed-pos q o in omega arith
-
-pub target-takes : (S : Shape) (w : List ℕ) (n q o p : ℕ) → slotsNeeded q o ≤ freeSlots S w n o → taken S w (target S n o) o + load o p ≤ capacity S o
+-- where as much is free as a packet needs, the target takes it
+pub target-takes : (S : Shape) (w : List ℕ) (n q o p : ℕ) → slotsNeeded q o p ≤ freeSlots S w n o → taken S w (target S n o) o + load o p ≤ capacity S o
 target-takes S w n q o p h =
     let a = free-slots-is S w n o in
     let b = load-needed q o p in
     let c = load-pos o p in
     omega arith
 
-pub flow-by : (S : Shape) (w : List ℕ) (n q o : ℕ) → (o ≢ deliver → slotsNeeded q o ≤ freeSlots S w n o) → flowRules S w n q o ≡ 0
+pub flow-by : (S : Shape) (w : List ℕ) (n q o p : ℕ) → (o ≢ deliver → slotsNeeded q o p ≤ freeSlots S w n o) → flowRules S w n q o p ≡ 0
 unfolding flowRules
-flow-by S w n q o h = go (ℕ-discrete o deliver)
+flow-by S w n q o p h = go (ℕ-discrete o deliver)
   where
     free : ℕ
     free = freeSlots S w n o
 
-    go : Dec (o ≡ deliver) → cond (eqb o deliver) 0 (refuse (eqb free 0) noSlot (refuse (ltb free (slotsNeeded q o)) noBubble 0)) ≡ 0
+    needed : ℕ
+    needed = slotsNeeded q o p
+
+    go : Dec (o ≡ deliver) → cond (eqb o deliver) 0 (refuse (eqb free 0) noSlot (refuse (ltb free needed) noBubble 0)) ≡ 0
     go (yes e) = rw (eq-eqb o deliver e)
     go (no ne) =
-        let l : slotsNeeded q o ≤ free = h ne in
-        let p : 0 < slotsNeeded q o = needed-pos q o in
+        let l : needed ≤ free = h ne in
         rw (ne-eqb o deliver ne)
-        (passes (eqb free 0) noSlot _ (ne-eqb free 0 (λ z. nonzero free (slotsNeeded q o) l p z))
-        (passes (ltb free (slotsNeeded q o)) noBubble 0 (le-ltb free (slotsNeeded q o) l) refl))
+        (passes (eqb free 0) noSlot _ (ne-eqb free 0 (λ z. nonzero free needed l (needed-pos q o p) z))
+        (passes (ltb free needed) noBubble 0 (le-ltb free needed l) refl))
       where
         nonzero : (f s : ℕ) → s ≤ f → 0 < s → f ≡ 0 → ⊥
         nonzero f s l p z = omega arith
@@ -157,7 +148,7 @@ permitted-of S w n q o e =
       output = leb-false queues o c;
       holds = eqb-false (length (held S w n q)) 0 d;
       route = true-T (elem o (routes q (head (held S w n q)))) (not-not (elem o (routes q (head (held S w n q)))) r);
-      room = flow-of S w n q o e₅;
+      room = flow-of S w n q o (head (held S w n q)) e₅;
     }
 
 pub permitted-by : (S : Shape) (w : List ℕ) (n q o : ℕ) → Permitted S w n q o → moveRules S w n q o ≡ 0
@@ -168,4 +159,4 @@ permitted-by S w n q o p =
     (passes (leb queues o) noSuchOutput _ (lt-leb queues o (p .output))
     (passes (eqb (length (held S w n q)) 0) queueEmpty _ (ne-eqb (length (held S w n q)) 0 (p .holds))
     (passes (not (elem o (routes q (head (held S w n q))))) noRoute _ (ap not (T-true (elem o (routes q (head (held S w n q)))) (p .route)))
-    (flow-by S w n q o (p .room))))))
+    (flow-by S w n q o (head (held S w n q)) (p .room))))))

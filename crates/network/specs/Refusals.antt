@@ -111,8 +111,8 @@ abbrev pub noSlotFor : Shape → List ℕ → ℕ → ℕ → Bool
 noSlotFor S w n o = eqb (freeSlots S w n o) 0
 
 -- R172
-abbrev pub noBubbleFor : Shape → List ℕ → ℕ → ℕ → ℕ → Bool
-noBubbleFor S w n q o = ltb (freeSlots S w n o) (slotsNeeded q o)
+abbrev pub noBubbleFor : Shape → List ℕ → ℕ → ℕ → ℕ → ℕ → Bool
+noBubbleFor S w n q o p = ltb (freeSlots S w n o) (slotsNeeded q o p)
 
 -- R174: an offer to the node at which it is made
 abbrev pub isOwnNode : ℕ → ℕ → Bool
@@ -141,12 +141,12 @@ offerRules S w n destination =
 unfoldable pub offerRefusal : List ℕ → ℕ → ℕ → ℕ
 offerRefusal w n destination = elseBy (networkRefusal w) (offerRules (shape w) w n destination)
 
--- R184: 4, 5, 6, 9, 10, 11, 12; a delivery has no target and needs no slot (R153)
-unfoldable pub flowRules : Shape → List ℕ → ℕ → ℕ → ℕ → ℕ
-flowRules S w n q o =
+-- R184: 4, 5, 6, 9, 10, 11, 12; a delivery has no target and needs no slot (R153). The last two are of packet p, the head of queue q of node n
+unfoldable pub flowRules : Shape → List ℕ → ℕ → ℕ → ℕ → ℕ → ℕ
+flowRules S w n q o p =
     cond (eqb o deliver) 0
     (refuse (noSlotFor S w n o) noSlot
-    (refuse (noBubbleFor S w n q o) noBubble 0))
+    (refuse (noBubbleFor S w n q o p) noBubble 0))
 
 unfoldable pub moveRules : Shape → List ℕ → ℕ → ℕ → ℕ → ℕ
 moveRules S w n q o =
@@ -155,7 +155,7 @@ moveRules S w n q o =
     (refuse (noOutput o) noSuchOutput
     (refuse (isEmpty S w n q) queueEmpty
     (refuse (noRouteFor S w n q o) noRoute
-    (flowRules S w n q o)))))
+    (flowRules S w n q o (head (held S w n q)))))))
 
 unfoldable pub moveRefusal : List ℕ → ℕ → ℕ → ℕ → ℕ
 moveRefusal w n q o = elseBy (networkRefusal w) (moveRules (shape w) w n q o)

@@ -8,7 +8,7 @@ use lib.ListN.{take}
 use Rattle.network.specs.Sizes.{Shape, dimensions, dimensionOf, directionOf, isEscape, injectionQueue, adaptiveQueue, escapeQueue, capacity}
 use Rattle.network.specs.Packet.{distance, heading, hopsLeft}
 use Rattle.network.specs.Torus.{neighbour}
-use Rattle.network.specs.Layout.{taken}
+use Rattle.network.specs.Layout.{load, taken}
 
 -- the dimensions in the order x, y, z: i, i + 1, .., so many of them
 unfoldable pub inOrder : ℕ → ℕ → List ℕ
@@ -56,6 +56,6 @@ freeSlots S w n o = capacity S o - taken S w (target S n o) o
 unfoldable pub entersRing : ℕ → ℕ → Bool
 entersRing q o = isEscape o && not (eqb q o)
 
--- R150 to R152: two free slots for whoever enters a ring, else one
-unfoldable pub slotsNeeded : ℕ → ℕ → ℕ
-slotsNeeded q o = cond (entersRing q o) 2 1
+-- R150 to R152: the free slots that packet p of queue q needs at output o: two where it enters a ring, else those that it takes there
+unfoldable pub slotsNeeded : ℕ → ℕ → ℕ → ℕ
+slotsNeeded q o p = cond (entersRing q o) 2 (load o p)

@@ -1,22 +1,23 @@
--- The routes of a head as facts: which outputs are routes, and that a head always has an escape route or is delivered; and what is free in a target.
--- Order: headings; the routes; free slots. Assumes nothing.
-use mathlib.Core.Path.{_≡_, refl, ap, _∙_}
+-- The routes of a head as facts: which outputs are routes, and that a head always has an escape route or is delivered; what is free in a target, and what
+-- a packet needs there. Order: headings; the routes; free slots; slots needed. Assumes nothing.
+use mathlib.Core.Path.{_≡_, refl, ap, sym, _∙_}
 use mathlib.Core.Logic.{_⊎_, inl, inr, _≢_}
-use mathlib.Core.Bool.{Bool, true, false, cond, _||_}
+use mathlib.Core.Bool.{Bool, true, false, cond, not, _&&_, _||_}
 use mathlib.Core.List.{List, [], _∷_, _++_, map}
 use Prim.Native.Nat.{ℕ, zero, suc, _+_, _-_, _<_, _≤_, zero-le}
-use native.Mathlib.Decide.{ℕ-discrete}
+use native.Mathlib.Nat.{le-of-eq}
+use native.Mathlib.Decide.{ℕ-discrete, decLe}
 use native.Mathlib.Omega.{arith}
-use borrow.Author.Tests.{eq-eqb, ne-eqb}
+use borrow.Author.Tests.{eq-eqb, ne-eqb, lt-ltb, le-ltb}
 use lib.Dec.{T, eqb, eqb→eq, eqb-refl}
 use lib.ListN.{length, take}
 use Rattle.base.specs.Tests.{elem, or-e, or-l, or-r, elem-append-r}
-use Rattle.network.specs.Sizes.{Shape, capacity, dimensions, dimensionOf, directionOf, adaptiveQueue, escapeQueue}
+use Rattle.network.specs.Sizes.{Shape, capacity, dimensions, directions, dimensionOf, directionOf, adaptiveQueue, escapeQueue}
 use Rattle.network.specs.Packet.{distance, heading, hopsLeft}
 use Rattle.base.specs.Sums.{sumBelow, sum-zero}
-use Rattle.network.specs.Layout.{held, taken}
-use Rattle.network.specs.LayoutLaws.{taken-length}
-use Rattle.network.specs.Routes.{inOrder, without, incoming, incomingFirst, headings, routes, deliver, target, freeSlots}
+use Rattle.network.specs.Layout.{held, load, taken}
+use Rattle.network.specs.LayoutLaws.{load-one, load-pos, load-escape, taken-length}
+use Rattle.network.specs.Routes.{inOrder, without, incoming, incomingFirst, headings, routes, deliver, target, freeSlots, entersRing, slotsNeeded}
 
 -- a member of two lists joined, or of a list mapped
 elem-either : (a : ℕ) (xs ys : List ℕ) → T (elem a (xs ++ ys)) → T (elem a xs) ⊎ T (elem a ys)
@@ -286,3 +287,43 @@ free-slots-held S w n o = free-slots-is S w n o ∙ ap (λ (k : ℕ). capacity S
 -- where no less is taken, no more is free
 pub free-slots-fewer : (S : Shape) (w v : List ℕ) (n o : ℕ) → taken S w (target S n o) o ≤ taken S v (target S n o) o → freeSlots S v n o ≤ freeSlots S w n o
 free-slots-fewer S w v n o l = let a = free-slots-is S w n o in let b = free-slots-is S v n o in omega arith
+
+-- R151, R152: into an escape queue one slot for whoever stands in that queue, two for whoever enters its ring
+pub needed-escape : (q d p : ℕ) → slotsNeeded q (escapeQueue d) p ≡ cond (eqb q (escapeQueue d)) 1 2
+unfolding entersRing slotsNeeded
+needed-escape q d p =
+    rw (lt-ltb directions (escapeQueue d) (omega arith), load-escape (escapeQueue d) p (omega arith)) (go (eqb q (escapeQueue d)))
+  where
+    go : (own : Bool) → _≡_ {A = ℕ} (cond (true && not own) 2 1) (cond own 1 2)
+    go true = refl
+    go false = refl
+
+-- R150: into an adaptive queue what the packet takes there
+pub needed-adaptive : (q o p : ℕ) → o ≤ directions → slotsNeeded q o p ≡ load o p
+unfolding entersRing slotsNeeded
+needed-adaptive q o p h = rw (le-ltb directions o h)
+
+-- into any queue no less than that
+pub load-needed : (q o p : ℕ) → load o p ≤ slotsNeeded q o p
+unfolding slotsNeeded
+load-needed q o p = go (decLe o directions)
+  where
+    either : (enters : Bool) → load o p ≡ 1 → load o p ≤ cond enters 2 (load o p)
+    either true l = omega arith
+    either false l = omega arith
+
+    go : Dec (o ≤ directions) → load o p ≤ slotsNeeded q o p
+    go (yes h) = le-of-eq (sym (needed-adaptive q o p h))
+    go (no h) = either (entersRing q o) (load-escape o p (omega arith))
+
+pub needed-pos : (q o p : ℕ) → 0 < slotsNeeded q o p
+needed-pos q o p = let a = load-needed q o p in let b = load-pos o p in omega arith
+
+-- and never more than two
+pub needed-most : (q o p : ℕ) → slotsNeeded q o p ≤ 2
+unfolding slotsNeeded
+needed-most q o p = go (entersRing q o)
+  where
+    go : (enters : Bool) → cond enters 2 (load o p) ≤ 2
+    go true = omega arith
+    go false = let l = load-one o p in omega arith

@@ -1,6 +1,8 @@
 // What all crates share: the sizes of a network, every number that a rule of docs/RULES.md fixes (R5 in a comment is that clause), the
 // sign of an offset, and the answers of the calls. specs/ has the definitions: Sizes.antt, Layout.antt, Check.antt and Refusals.antt those
 // of the numbers, under the same names, Selection.antt what follows from a sign, and Calls.antt when a call gives which answer.
+ghost use mathlib.Core.Path.{_≡_};
+ghost use Rattle.network.specs.Sizes.{sized};
 
 // R20, R25: the nodes along x, y and z, and the slots of a queue of each kind: the sizes of a network, in the order of its first words.
 pub struct Sizes {
@@ -12,6 +14,20 @@ pub struct Sizes {
     pub injection: u64,
 }
 
+// The sizes that are these numbers.
+pub fn sized(x: u64, y: u64, z: u64, escape: u64, adaptive: u64, injection: u64) -> Sizes
+    ensures { λ r. ⌜ r ≡ sized x y z escape adaptive injection ⌝ }
+{
+    Sizes {
+        x,
+        y,
+        z,
+        escape,
+        adaptive,
+        injection,
+    }
+}
+
 // R1, R31 to R34: x, y and z; x+, x-, y+, y-, z+, z-; and the queues of a node: the injection queue, and an adaptive and an escape queue for each
 // direction.
 pub const DIMENSIONS: u64 = 3;
@@ -19,6 +35,8 @@ pub const DIMENSIONS: u64 = 3;
 pub const DIRECTIONS: u64 = 6;
 
 pub const QUEUES: u64 = 13;
+
+pub const FIRST_ADAPTIVE: u64 = 1;
 
 pub const FIRST_ESCAPE: u64 = 7;
 

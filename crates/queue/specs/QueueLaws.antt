@@ -1,5 +1,5 @@
--- Laws of Queue.antt. Order: what the sizes bound; what the check of a network says of a queue, and what that says of its words; a queue
--- replaced at its place; what stays when a queue is replaced. Assumes nothing.
+-- Laws of Queue.antt. Order: what the check of a network says of a queue, and what that says of its words; a queue replaced at its place; what
+-- stays when a queue is replaced. Assumes nothing.
 use mathlib.Core.Path.{_≡_, ap, ap₂, sym, _∙_, subst}
 use mathlib.Core.Bool.{Bool, _&&_}
 use mathlib.Core.List.{List}
@@ -10,27 +10,12 @@ use lib.Dec.{T, leb, eqb, leb→le}
 use lib.ListN.{length}
 use Rattle.base.specs.Tests.{and-l, and-r, allOf, allBelow, all-at}
 use Rattle.base.specs.Parts.{span, splice}
-use Rattle.network.specs.Sizes.{Shape, shapeOf, mostSlots, sizesInRange, nodes, queues, capacity}
-use Rattle.network.specs.SizesLaws.{range-of}
-use Rattle.network.specs.declared.Sizes.{Sizes}
+use Rattle.network.specs.Sizes.{Shape, sizesInRange, nodes, queues, capacity}
 use Rattle.network.specs.Layout.{queueLength, queueStart, queueEnd, need, queueWords, queuePart, countOf, packetsOf, unusedOf, held, putQueue}
 use Rattle.network.specs.LayoutLaws.{Fits, start-end, end-length, length-queuePart, length-packetsOf, countOf-queueWords, unused-zero, part-put-same, part-put-other, length-put}
 use Rattle.network.specs.Check.{packetFits, queueFits, queuesFit, ringsHaveRoom, countersFit, isNetwork}
 use Rattle.network.specs.Refusals.{head}
 use Rattle.queue.specs.Queue.{IsQueue, QueueAt, CheckedQueue, slots}
-
--- What the sizes bound ------------------------------------------------------------------------------------------------------------------
-
-pub record SmallQueues (s : Sizes) : Type 0 where
-  pub escape : s .escape ≤ mostSlots
-  pub adaptive : s .adaptive ≤ mostSlots
-  pub injection : s .injection ≤ mostSlots
-
-pub small-queues : (s : Sizes) → T (sizesInRange (shapeOf s)) → SmallQueues s
-unfolding shapeOf
-small-queues s t =
-    let r = range-of (shapeOf s) t in
-    record { escape = r .escape .high; adaptive = r .adaptive .high; injection = r .injection .high }
 
 -- What the check of a network says of a queue -------------------------------------------------------------------------------------------
 

@@ -2,6 +2,7 @@
 // Order: the leaves on a queue's own words; the same at a place in more words; where the queues of a network stand;
 // what a queue of a network holds; the leaves again, for a queue of a network.
 use network::DIRECTIONS;
+use network::FIRST_ADAPTIVE;
 use network::FIRST_ESCAPE;
 use network::HEADER_WORDS;
 use network::QUEUES;
@@ -88,7 +89,10 @@ pub fn node_words(s: Sizes) -> u64
     requires { ⌜ T (sizesInRange (shapeOf s)) ⌝ }
     ensures { λ r. ⌜ r ≡ nodeWords (shapeOf s) ⌝ }
 {
-    QUEUES + s.injection + DIRECTIONS * s.adaptive + DIRECTIONS * s.escape
+    let injection = capacity(s, 0);
+    let adaptive = capacity(s, FIRST_ADAPTIVE);
+    let escape = capacity(s, FIRST_ESCAPE);
+    QUEUES + injection + DIRECTIONS * adaptive + DIRECTIONS * escape
 }
 
 // The words of a node's queues before queue q: each has its own word and its slots.
@@ -99,10 +103,13 @@ pub fn words_before(s: Sizes, q: u64) -> u64
     if q == 0 {
         return 0;
     }
+    let injection = capacity(s, 0);
+    let adaptive = capacity(s, FIRST_ADAPTIVE);
     if q <= FIRST_ESCAPE {
-        return q + s.injection + (q - 1) * s.adaptive;
+        return q + injection + (q - 1) * adaptive;
     }
-    q + s.injection + DIRECTIONS * s.adaptive + (q - FIRST_ESCAPE) * s.escape
+    let escape = capacity(s, FIRST_ESCAPE);
+    q + injection + DIRECTIONS * adaptive + (q - FIRST_ESCAPE) * escape
 }
 
 pub fn queue_start(s: Sizes, n: u64, q: u64) -> usize

@@ -2,7 +2,7 @@
 // replayed move by move, so that each of its moves is a step of its own. Order: a step; a command at once; a move of a D.
 use network::Drained;
 use network::Moved;
-use network::Sizes;
+use network::sized;
 use sheet::Command;
 use waveform::Written;
 ghost use mathlib.Core.Path.{_≡_};
@@ -51,14 +51,7 @@ fn make(store: &mut [u64], x: u32, y: u32, z: u32, e: u32, a: u32, j: u32) -> bo
     ensures store { λ _. ⌜ now (store .exit) ≡ carriedOut (Command.Make x y z e a j) (now (store .entry)) ⌝ }
     ensures changed { λ r. ⌜ r ≡ changed (Command.Make x y z e a j) (now (store .entry)) ⌝ }
 {
-    let s = Sizes {
-        x: x as u64,
-        y: y as u64,
-        z: z as u64,
-        escape: e as u64,
-        adaptive: a as u64,
-        injection: j as u64,
-    };
+    let s = sized(x as u64, y as u64, z as u64, e as u64, a as u64, j as u64);
     calls::make(store, s) == 0
 }
 

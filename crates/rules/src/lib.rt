@@ -70,7 +70,7 @@ pub fn move_rules(words: &[u64], s: Sizes, n: u64, q: u64, o: u64) -> u64
     if !is_route(q, p, o) {
         return NO_ROUTE;
     }
-    flow_rules(words, s, n, q, o)
+    flow_rules(words, s, n, q, o, p)
 }
 
 pub fn credit_rules(s: Sizes, n: u64, o: u64) -> u64

@@ -3,7 +3,7 @@
 -- anything, any head is delivered or enters an empty ring. Order: two searches; a step round a ring; one head; the theorem. Assumes nothing.
 use mathlib.Core.Path.{_≡_, refl, ap, sym, _∙_}
 use mathlib.Core.Logic.{_⊎_, inl, inr, _≢_}
-use mathlib.Core.Bool.{Bool, true, false, cond, not, _&&_}
+use mathlib.Core.Bool.{Bool, true, false, cond}
 use mathlib.Core.List.{List}
 use Prim.Native.Nat.{ℕ, zero, suc, _+_, _-_, _<_, _≤_}
 use native.Mathlib.Nat.{lt-suc-self, le-step, not-suc-le-zero, eq-or-lt-of-le, le-of-suc-le-suc}
@@ -13,7 +13,7 @@ use native.Mathlib.Omega.{arith}
 use borrow.Author.Tests.{eq-eqb}
 use lib.Dec.{eqb}
 use lib.ListN.{length}
-use Rattle.network.specs.Sizes.{Shape, size, nodes, queues, directions, dimensionOf, directionOf, isEscape, escapeQueue, capacity}
+use Rattle.network.specs.Sizes.{Shape, size, nodes, queues, directions, dimensionOf, directionOf, escapeQueue, capacity}
 use Rattle.network.specs.SizesLaws.{range-of, escape-capacity}
 use Rattle.network.specs.Packet.{distance, hops, heading, hopsLeft}
 use Rattle.network.specs.PacketLaws.{dimension-lt, heading-lt, heading-dimension, heading-of}
@@ -23,8 +23,8 @@ use Rattle.network.specs.Layout.{held, taken}
 use Rattle.network.specs.LayoutLaws.{taken-none, taken-some, some-held}
 use Rattle.network.specs.Check.{packetFits, packetsHeld, opposite}
 use Rattle.network.specs.CheckLaws.{PacketFits, packet-of, Network, both-zero}
-use Rattle.network.specs.Routes.{deliver, target, entersRing, slotsNeeded, freeSlots}
-use Rattle.network.specs.RoutesLaws.{EscapeRoute, escape-route, arrived-route, free-slots-is}
+use Rattle.network.specs.Routes.{deliver, target, slotsNeeded, freeSlots}
+use Rattle.network.specs.RoutesLaws.{EscapeRoute, escape-route, arrived-route, free-slots-is, needed-escape}
 use Rattle.network.specs.Refusals.{head}
 use Rattle.network.specs.RefusalLaws.{Permitted}
 use Rattle.run.specs.Queues.{allOf-first}
@@ -114,15 +114,11 @@ unfolding neighbour
 one-more S d i n tor hd = along-add S d 1 i n tor hd ∙ ap (λ (x : ℕ). along S d x n) (add-one i)
 
 -- along its own ring a packet needs one slot
-fits-one : (S : Shape) (w : List ℕ) (n d : ℕ) → d < directions → Room S w (neighbour S d n) (escapeQueue d)
-    → slotsNeeded (escapeQueue d) (escapeQueue d) ≤ freeSlots S w n (escapeQueue d)
-unfolding entersRing slotsNeeded target Room
-fits-one S w n d hd room =
-    rw (free-slots-is S w n (escapeQueue d), eq-eqb (escapeQueue d) (escapeQueue d) refl, escape-direction d hd) (go (isEscape (escapeQueue d)))
-  where
-    go : (b : Bool) → cond (b && false) 2 1 ≤ capacity S (escapeQueue d) - taken S w (neighbour S d n) (escapeQueue d)
-    go true = omega arith
-    go false = omega arith
+fits-one : (S : Shape) (w : List ℕ) (n d p : ℕ) → d < directions → Room S w (neighbour S d n) (escapeQueue d)
+    → slotsNeeded (escapeQueue d) (escapeQueue d) p ≤ freeSlots S w n (escapeQueue d)
+unfolding target Room
+fits-one S w n d p hd room =
+    rw (needed-escape (escapeQueue d) d p, eq-eqb (escapeQueue d) (escapeQueue d) refl, free-slots-is S w n (escapeQueue d), escape-direction d hd) (omega arith)
 
 -- in an escape queue of direction d a packet goes on along that dimension in that direction
 the-sign : (S : Shape) (n d p : ℕ) → d < directions → PacketFits S n (escapeQueue d) p → (i : ℕ) → i ≡ dimensionOf d → distance i p ≢ 0 → heading i p ≡ d
@@ -162,7 +158,7 @@ module _ (S : Shape) (w : List ℕ) (tor : Torus S) (N : Network S w) where
 
   -- a head may take its escape route e where the target has as many free slots as it needs
   escapes : (n q : ℕ) → n < nodes S → q < queues → length (held S w n q) ≢ 0 → (r : EscapeRoute q (head (held S w n q)))
-      → slotsNeeded q (escapeQueue (heading (r .dimension) (head (held S w n q))))
+      → slotsNeeded q (escapeQueue (heading (r .dimension) (head (held S w n q)))) (head (held S w n q))
       ≤ freeSlots S w n (escapeQueue (heading (r .dimension) (head (held S w n q)))) → Some S w
   escapes n q hn hq holds r flow =
       record {
@@ -181,17 +177,17 @@ module _ (S : Shape) (w : List ℕ) (tor : Torus S) (N : Network S w) where
       }
 
   -- an empty ring takes anybody
-  into-empty : (n q e : ℕ) → n < nodes S → e < directions → Empty S w e → slotsNeeded q (escapeQueue e) ≤ freeSlots S w n (escapeQueue e)
-  unfolding target entersRing slotsNeeded Empty
-  into-empty n q e hn he z =
+  into-empty : (n q e p : ℕ) → n < nodes S → e < directions → Empty S w e → slotsNeeded q (escapeQueue e) p ≤ freeSlots S w n (escapeQueue e)
+  unfolding target Empty
+  into-empty n q e p hn he z =
       let a : taken S w (target S n (escapeQueue e)) (escapeQueue e) ≡ 0 =
       taken-none S w (target S n (escapeQueue e)) (escapeQueue e)
       (z (target S n (escapeQueue e)) (neighbour-lt S (directionOf (escapeQueue e)) n tor (rw (escape-direction e he) he) hn)) in
       let b : 2 ≤ capacity S (escapeQueue e) = two-slots e in
-      rw (free-slots-is S w n (escapeQueue e))
-      (go (isEscape (escapeQueue e) && not (eqb q (escapeQueue e))) (capacity S (escapeQueue e)) (taken S w (target S n (escapeQueue e)) (escapeQueue e)) a b)
+      rw (needed-escape q e p, free-slots-is S w n (escapeQueue e))
+      (go (eqb q (escapeQueue e)) (capacity S (escapeQueue e)) (taken S w (target S n (escapeQueue e)) (escapeQueue e)) a b)
     where
-      go : (t : Bool) (c l : ℕ) → l ≡ 0 → 2 ≤ c → cond t 2 1 ≤ c - l
+      go : (own : Bool) (c l : ℕ) → l ≡ 0 → 2 ≤ c → cond own 1 2 ≤ c - l
       go true c l a b = omega arith
       go false c l a b = omega arith
 
@@ -207,7 +203,7 @@ module _ (S : Shape) (w : List ℕ) (tor : Torus S) (N : Network S w) where
       go (no ne) =
           let r : EscapeRoute q p = escape-route q p ne in
           let he : heading (r .dimension) p < directions = heading-lt (r .dimension) p (r .below) in
-          escapes n q hn hq holds r (into-empty n q (heading (r .dimension) p) hn he (z (heading (r .dimension) p) he))
+          escapes n q hn hq holds r (into-empty n q (heading (r .dimension) p) p hn he (z (heading (r .dimension) p) he))
 
   -- a head in the last direction that holds anything moves, if it does not go along its own ring, or if there is room ahead
   along-or-later : (d : ℕ) → d < directions → ((e : ℕ) → d < e → e < directions → Empty S w e)
@@ -249,13 +245,13 @@ module _ (S : Shape) (w : List ℕ) (tor : Torus S) (N : Network S w) where
               he = heading-lt (r .dimension) p (r .below)
 
               split : Dec (r .dimension ≡ dimensionOf d) → Some S w
-              split (yes same) = escapes n q hn hq holds r (rw own (fits-one S w n d hd room))
+              split (yes same) = escapes n q hn hq holds r (rw own (fits-one S w n d p hd room))
                 where
                   own : e ≡ d
                   own = the-sign S n d p hd f (r .dimension) same (r .far)
               split (no other) =
                   escapes n q hn hq holds r
-                  (into-empty n q e hn he (later e (above (not-lower r) other) he))
+                  (into-empty n q e p hn he (later e (above (not-lower r) other) he))
                 where
                   above : dimensionOf d ≤ r .dimension → r .dimension ≢ dimensionOf d → d < e
                   above l x = let y : dimensionOf e ≡ r .dimension = heading-dimension (r .dimension) p in omega arith

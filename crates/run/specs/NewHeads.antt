@@ -17,7 +17,7 @@ use Rattle.network.specs.TorusLaws.{Torus, neighbour-lt}
 use Rattle.network.specs.Layout.{held, taken}
 use Rattle.network.specs.Check.{opposite}
 use Rattle.network.specs.CheckLaws.{Network, neighbour-back}
-use Rattle.network.specs.Routes.{routes, deliver, target}
+use Rattle.network.specs.Routes.{routes, deliver, target, freeSlots, slotsNeeded}
 use Rattle.network.specs.RoutesLaws.{free-slots-fewer}
 use Rattle.network.specs.Refusals.{head}
 use Rattle.network.specs.RefusalLaws.{Permitted}
@@ -56,7 +56,9 @@ permitted-before S w n q o tor N P k r t u p =
       output = p .output;
       holds = subst (λ (ps : List ℕ). length ps ≢ 0) same (p .holds);
       route = subst (λ (ps : List ℕ). T (elem t (routes r (head ps)))) same (p .route);
-      room = λ ne. le-trans (p .room ne) (free-slots-fewer S w v k t (grown ne));
+      room =
+          λ ne.
+          subst (λ (ps : List ℕ). slotsNeeded r t (head ps) ≤ freeSlots S w k t) same (le-trans (p .room ne) (free-slots-fewer S w v k t (grown ne)));
     }
   where
     v : List ℕ

@@ -27,7 +27,7 @@ use Rattle.network.specs.CheckLaws.{PacketFits, packet-by, Network}
 use Rattle.network.specs.Refusals.{networkRefusal, makeRefusal, offerRules, offerRefusal}
 use Rattle.network.specs.RefusalLaws.{not-refused, neither, network-passed, network-passes, own-node-exactly}
 use Rattle.network.specs.OfferLaws.{ShortRings, destination-offered, spare-offered, distance-offered, work-offered, movedBy-offered, hops-offered}
-use Rattle.network.specs.Calls.{emptyNetwork, makeWords, offered, afterOffer, offerWords}
+use Rattle.network.specs.Calls.{emptyHeader, emptyNetwork, makeWords, offered, afterOffer, offerWords}
 use Rattle.run.specs.Queues.{AllFit, taken-few, fits-words, fit-put, fit-raised, allOf-newest}
 use Rattle.run.specs.Rings.{Room, RingRoom, ring-of, ring-by, escape-lt}
 use Rattle.run.specs.Theorem.{torus}
@@ -109,14 +109,11 @@ module _ (s : Sizes) (rest : List ℕ) where
   made : List ℕ
   made = emptyNetwork S ++ rest
 
-  header : List ℕ
-  header = S .sizes ++ (S .escape ∷ S .adaptive ∷ S .injection ∷ 0 ∷ 0 ∷ 0 ∷ [])
-
   blanks : List ℕ
   blanks = replicate (nodes S * nodeWords S) 0
 
-  made-is : made ≡ header ++ (blanks ++ rest)
-  unfolding made S header blanks emptyNetwork shapeOf
+  made-is : made ≡ emptyHeader S ++ (blanks ++ rest)
+  unfolding made S blanks emptyHeader emptyNetwork shapeOf
   made-is = refl
 
   blanks-length : length blanks ≡ nodes S * nodeWords S
@@ -124,10 +121,10 @@ module _ (s : Sizes) (rest : List ℕ) where
   blanks-length = length-replicate (nodes S * nodeWords S) 0
 
   made-length : length made ≡ need S + length rest
-  unfolding header need S shapeOf
+  unfolding emptyHeader need S shapeOf
   made-length =
       let l : length made ≡ headerWords + (length blanks + length rest) =
-      ap length made-is ∙ length-append header (blanks ++ rest) ∙ ap (λ (m : ℕ). headerWords + m) (length-append blanks rest) in
+      ap length made-is ∙ length-append (emptyHeader S) (blanks ++ rest) ∙ ap (λ (m : ℕ). headerWords + m) (length-append blanks rest) in
       let r = blanks-length in
       omega arith
 
@@ -135,22 +132,22 @@ module _ (s : Sizes) (rest : List ℕ) where
   made-long = let l = made-length in omega arith
 
   made-zeros : (i : ℕ) → headerWords ≤ i → i < need S → getD made i 0 ≡ 0
-  unfolding header blanks need S shapeOf
+  unfolding emptyHeader blanks need S shapeOf
   made-zeros i l b =
       let r : length blanks ≡ nodes S * nodeWords S = blanks-length in
       let at : i ≡ headerWords + (i - headerWords) = omega arith in
       ap (λ (m : ℕ). getD made m 0) at
       ∙ ap (λ (w : List ℕ). getD w (headerWords + (i - headerWords)) 0) made-is
-      ∙ getD-append-add header (blanks ++ rest) (i - headerWords) 0
+      ∙ getD-append-add (emptyHeader S) (blanks ++ rest) (i - headerWords) 0
       ∙ List·getD-append blanks rest 0 (i - headerWords) (omega arith)
       ∙ getD-replicate (nodes S * nodeWords S) (i - headerWords) 0 0 (omega arith)
 
   made-blank : T (sizesInRange S) → Blank S made
-  unfolding made S header emptyNetwork shapeOf accepted delivered movesMade
+  unfolding made S emptyHeader emptyNetwork shapeOf accepted delivered movesMade
   made-blank t = record { in-range = t; long = made-long; zeros = made-zeros; none-accepted = refl; none-delivered = refl; no-moves = refl }
 
   made-shape : shape made ≡ S
-  unfolding made S emptyNetwork shapeOf shape
+  unfolding made S emptyHeader emptyNetwork shapeOf shape
   made-shape = refl
 
   made-passes : T (sizesInRange (shapeOf s)) → networkRefusal (emptyNetwork (shapeOf s) ++ rest) ≡ 0

@@ -2,14 +2,14 @@
 -- of a move. Assumes nothing.
 use mathlib.Core.Path.{_≡_, ap, sym, _∙_}
 use mathlib.Core.Logic.{_≢_}
-use mathlib.Core.Bool.{Bool, true, false, cond, not, _&&_}
+use mathlib.Core.Bool.{Bool, cond}
 use mathlib.Core.List.{List}
 use Prim.Native.Nat.{ℕ, _+_, _-_, _*_, _/_, _%_, _<_, _≤_}
 use native.Mathlib.Nat.{mod-lt, mod-add-div', lt-of-le-of-lt}
 use native.Mathlib.Decide.{ℕ-discrete}
 use native.Mathlib.Omega.{arith}
 use borrow.Author.Tests.{ne-eqb}
-use lib.Dec.{T, lt→ltb, eqb}
+use lib.Dec.{T, lt→ltb}
 use Rattle.base.specs.Tests.{some-at, some-by}
 use Rattle.network.specs.Sizes.{Shape, size, nodes, queues, directions, dimensionOf, directionOf, isEscape, escapeQueue, capacity}
 use Rattle.network.specs.PacketLaws.{dimension-lt}
@@ -19,8 +19,8 @@ use Rattle.network.specs.Layout.{load, taken}
 use Rattle.network.specs.LayoutLaws.{load-escape}
 use Rattle.network.specs.Check.{hasRoom, ringHasRoom}
 use Rattle.network.specs.CheckLaws.{has-room-of, has-room-by}
-use Rattle.network.specs.Routes.{entersRing, slotsNeeded, freeSlots, target}
-use Rattle.network.specs.RoutesLaws.{free-slots-is}
+use Rattle.network.specs.Routes.{slotsNeeded, freeSlots, target}
+use Rattle.network.specs.RoutesLaws.{free-slots-is, needed-escape}
 use Rattle.run.specs.Queues.{same?}
 
 -- a free slot in one queue
@@ -84,20 +84,15 @@ pub escape-lt : (d : ℕ) → d < directions → escapeQueue d < queues
 escape-lt d h = omega arith
 
 -- R151, R152
-needs-two : (q d : ℕ) → q ≢ escapeQueue d → slotsNeeded q (escapeQueue d) ≡ 2
-unfolding entersRing slotsNeeded
-needs-two q d ne = go (isEscape (escapeQueue d)) (escape-is d) (eqb q (escapeQueue d)) (ne-eqb q (escapeQueue d) ne)
-  where
-    go : (a : Bool) → T a → (b : Bool) → b ≡ false → _≡_ {A = ℕ} (cond (a && not b) 2 1) 2
-    go true t b e = rw e
-    go false t b e = absurd t
+needs-two : (q d p : ℕ) → q ≢ escapeQueue d → slotsNeeded q (escapeQueue d) p ≡ 2
+needs-two q d p ne = needed-escape q d p ∙ ap (λ (own : Bool). cond own 1 2) (ne-eqb q (escapeQueue d) ne)
 
 -- a ring keeps a free slot: where the move enters it, one of two stays free at the target; where it travels along it, it frees one at the source
-pub ring-kept : (S : Shape) (w v : List ℕ) (n q o : ℕ) → Torus S → n < nodes S → taken S w n q ≤ capacity S q
-    → slotsNeeded q o ≤ freeSlots S w n o → Shifted S w v n q o
+pub ring-kept : (S : Shape) (w v : List ℕ) (n q o p : ℕ) → Torus S → n < nodes S → taken S w n q ≤ capacity S q
+    → slotsNeeded q o p ≤ freeSlots S w n o → Shifted S w v n q o
     → (d m : ℕ) → d < directions → m < nodes S → T (ringHasRoom S w d m) → T (ringHasRoom S v d m)
 unfolding Room target
-ring-kept S w v n q o tor hn few flow sh d m hd hm t = go (same? (target S n o) o a (escapeQueue d))
+ring-kept S w v n q o p tor hn few flow sh d m hd hm t = go (same? (target S n o) o a (escapeQueue d))
   where
     old : RingRoom S w d m
     old = ring-of S w d m t
@@ -119,10 +114,10 @@ ring-kept S w v n q o tor hn few flow sh d m hd hm t = go (same? (target S n o) 
         let freed : Room S v n q = native.Mathlib.Nat.lt-of-lt-of-le (sh .source) few in
         ring-by S v d m (old .steps + (size S (dimensionOf d) - 1)) tor hd (rw (before, ← eq) freed)
     travels eo et (no ne) =
-        let two : 2 ≤ freeSlots S w n o = rw (ap (slotsNeeded q) eo ∙ needs-two q d ne) at flow in
+        let two : 2 ≤ freeSlots S w n o = rw (ap (λ (r : ℕ). slotsNeeded q r p) eo ∙ needs-two q d p ne) at flow in
         let free : freeSlots S w n o ≡ capacity S o - taken S w (target S n o) o = free-slots-is S w n o in
         let more : taken S v (target S n o) o ≡ taken S w (target S n o) o + load o (sh .packet) = sh .newest in
-        let one : load o (sh .packet) ≡ 1 = ap (λ (r : ℕ). load r (sh .packet)) eo ∙ load-escape d (sh .packet) in
+        let one : load o (sh .packet) ≡ 1 = load-escape o (sh .packet) (omega arith) in
         let still : Room S v (target S n o) o =
         roomy (capacity S o) (taken S w (target S n o) o) (taken S v (target S n o) o) (load o (sh .packet)) (freeSlots S w n o) two free more one in
         ring-by S v d m (old .steps) tor hd (rw (← et, ← eo) still)

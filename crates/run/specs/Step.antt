@@ -383,7 +383,7 @@ module _ (S : Shape) (w : List ℕ) (n q : ℕ) (tor : Torus S) (N : Network S w
         }
 
   -- a hop: the packet leaves its queue and comes to the queue o of the neighbour in direction d
-  module _ (o d : ℕ) (ho : o < queues) (g : Going (head (held S w n q)) o d) (flow : slotsNeeded q o ≤ freeSlots S w n o) where
+  module _ (o d : ℕ) (ho : o < queues) (g : Going (head (held S w n q)) o d) (flow : slotsNeeded q o (head (held S w n q)) ≤ freeSlots S w n o) where
     there : ℕ
     there = target S n o
 
@@ -438,8 +438,8 @@ module _ (S : Shape) (w : List ℕ) (n q : ℕ) (tor : Torus S) (N : Network S w
     joined-few =
         let a : length joined ≡ suc (length (held S w (target S n o) o)) = joined-length in
         let b : length (held S w (target S n o) o) ≤ taken S w (target S n o) o = length-taken S w (target S n o) o in
-        let c : 0 < load o hopped = load-pos o hopped in
-        let e : taken S w (target S n o) o + load o hopped ≤ capacity S o = target-takes S w n q o hopped flow in
+        let c : 0 < load o (head (held S w n q)) = load-pos o (head (held S w n q)) in
+        let e : taken S w (target S n o) o + load o (head (held S w n q)) ≤ capacity S o = target-takes S w n q o (head (held S w n q)) flow in
         omega arith
 
     joined-fit : T (allOf (packetFits S there o) joined)
@@ -593,7 +593,7 @@ module _ (S : Shape) (w : List ℕ) (n q : ℕ) (tor : Torus S) (N : Network S w
           in-range = N .in-range;
           long = rw moved-length (N .long);
           queue = fit-raised S movesAt gone (omega arith) gone-fit;
-          ring = λ e m he hm. ring-kept S w moved n q o tor hn (taken-few S w n q place (N .queue n q hn hq)) flow moved-shifted e m he hm (N .ring e m he hm);
+          ring = λ e m he hm. ring-kept S w moved n q o (head (held S w n q)) tor hn (taken-few S w n q place (N .queue n q hn hq)) flow moved-shifted e m he hm (N .ring e m he hm);
           few-accepted = rw moved-accepted (N .few-accepted);
           counted = rw (moved-delivered, moved-packets, moved-accepted) (N .counted);
           bounded =

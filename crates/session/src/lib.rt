@@ -1,7 +1,7 @@
 // A sheet as it is read: its start, and each read. A byte goes to the line cutter; the command of a line that it ends is carried out, by
 // the call that it names on the store, and its answer written as lines, for which the caller sees that there is room.
 use lines::HELD_BYTES;
-use network::Sizes;
+use network::sized;
 use sheet::Command;
 use sheet::Fed;
 use sheet::Pending;
@@ -72,14 +72,7 @@ fn run_make(
     ensures store { λ _. ⌜ now (store .exit) ≡ perform (Command.Make x y z e a j) (now (store .entry)) .store ⌝ }
     ensures printed { λ r. ⌜ Put (now (out .entry)) 0 (perform (Command.Make x y z e a j) (now (store .entry)) .output) (now (out .exit)) r ⌝ }
 {
-    let s = Sizes {
-        x: x as u64,
-        y: y as u64,
-        z: z as u64,
-        escape: e as u64,
-        adaptive: a as u64,
-        injection: j as u64,
-    };
+    let s = sized(x as u64, y as u64, z as u64, e as u64, a as u64, j as u64);
     let refusal = calls::make(store, s);
     writer::put_answer(out, 0, b'T', refusal)
 }

@@ -26,17 +26,17 @@ unfoldable pub fills : Shape → List ℕ → List ℕ
 fills S w = fillsTo S w (variablesOf S)
 
 -- R402: the fixed bytes before the variables, behind them, before the values and behind them
-abbrev pub opening : List ℕ
-opening = text "$timescale 1 ns $end\n$scope module network $end\n"
+abbrev pub variablesBegin : List ℕ
+variablesBegin = text "$timescale 1 ns $end\n$scope module network $end\n"
 
-abbrev pub closing : List ℕ
-closing = text "$upscope $end\n$enddefinitions $end\n"
+abbrev pub variablesEnd : List ℕ
+variablesEnd = text "$upscope $end\n$enddefinitions $end\n"
 
-abbrev pub valuesOpening : List ℕ
-valuesOpening = text "$dumpvars\n"
+abbrev pub valuesBegin : List ℕ
+valuesBegin = text "$dumpvars\n"
 
-abbrev pub valuesClosing : List ℕ
-valuesClosing = text "$end\n"
+abbrev pub valuesEnd : List ℕ
+valuesEnd = text "$end\n"
 
 -- R403: a variable's number is its identifier code; its name tells node and queue
 unfoldable pub variableLine : ℕ → List ℕ
@@ -83,7 +83,7 @@ changes every counts list = changesTo every counts list (length counts)
 -- R402 to R409: a step, a header or a later one, of these fills where the list has those
 unfoldable pub stepBytes : Bool → ℕ → List ℕ → List ℕ → List ℕ
 stepBytes true time counts list =
-    opening
+    variablesBegin
     ++ (variableLines 0 (length counts)
-    ++ (closing ++ (stampLine time ++ (valuesOpening ++ (valueLines (changes true counts list) ++ valuesClosing)))))
+    ++ (variablesEnd ++ (stampLine time ++ (valuesBegin ++ (valueLines (changes true counts list) ++ valuesEnd)))))
 stepBytes false time counts list = stampLine time ++ valueLines (changes false counts list)

@@ -20,7 +20,7 @@ use Rattle.sheet.specs.Numerals.{number-parts, number-is-numeral}
 use Rattle.waveform.specs.declared.ValueLine.{ValueLine}
 use Rattle.waveform.specs.declared.TimeStamp.{TimeStamp}
 use Rattle.waveform.specs.declared.Names.{Names}
-use Rattle.waveform.specs.Dump.{mostVariables, opening, closing, valuesOpening, valuesClosing, variableLine, variableLines, stampLine, Change, two, valueLine, valueLines}
+use Rattle.waveform.specs.Dump.{mostVariables, variablesBegin, variablesEnd, valuesBegin, valuesEnd, variableLine, variableLines, stampLine, Change, two, valueLine, valueLines}
 use Rattle.waveform.specs.Reading.{isEnded, behind, largestTime, isStamp, readStamp, largestFill, blank, fillField, variableField, isValueLine, readValue, Run, oneMore, runWithin, run, startsWith, variablesFrom, variablesIn, behindVariables, areNames, readNames, Step, neededFrom, needed, behindNames, behindStamp, readLater, headerStamp, headerValues, tellsAll, readHeader, readStep}
 use Rattle.waveform.specs.StartLaws.{starts-split}
 use Rattle.waveform.specs.ReadingLaws.{Small, Rising, namesOf, stepOf, later-read, headerOf, header-read}
@@ -243,23 +243,23 @@ names-only bs = good-only (IsNames bs) (λ (n : Names). n .good) (areNames bs) _
     lines : List ℕ
     lines = variableLines 0 count
 
-    names : areNames bs ≡ true → IsNames bs (record { good = true; count = variablesIn bs; length = behindVariables bs + length closing })
+    names : areNames bs ≡ true → IsNames bs (record { good = true; count = variablesIn bs; length = behindVariables bs + length variablesEnd })
     names t =
-        let (opened, t₁) = and-eq-true-iff (startsWith opening bs) _ .0 t in
+        let (opened, t₁) = and-eq-true-iff (startsWith variablesBegin bs) _ .0 t in
         let (some, t₂) = and-eq-true-iff (not (eqb count 0)) _ .0 t₁ in
-        let (whole, closed) = and-eq-true-iff (eqb (count % queues) 0) (startsWith closing (drop (behindVariables bs) bs)) .0 t₂ in
-        let k : Counted mostVariables 0 (drop (length opening) bs) count = count-only mostVariables 0 (drop (length opening) bs) in
+        let (whole, closed) = and-eq-true-iff (eqb (count % queues) 0) (startsWith variablesEnd (drop (behindVariables bs) bs)) .0 t₂ in
+        let k : Counted mostVariables 0 (drop (length variablesBegin) bs) count = count-only mostVariables 0 (drop (length variablesBegin) bs) in
         let n : count ≡ 0 + k .count = k .is in
         let m : k .count ≤ mostVariables = k .few in
         let e : k .count ≡ count = omega arith in
         let f : count ≢ 0 = eqb-false count 0 (not-true (eqb count 0) some) in
         record {
           begins =
-              begins-more bs (opening ++ lines) closing (behindVariables bs) (length closing)
-              (begins-more bs opening lines (length opening) (length lines) (starts-split opening bs opened)
-              (subst (λ i. Begins (drop (length opening) bs) (variableLines 0 i) (length (variableLines 0 i))) e (k .begins)))
-              (starts-split closing (drop (behindVariables bs) bs) closed)
-              ∙ ap (λ l. opening ++ l) (append-assoc lines closing (drop (behindVariables bs + length closing) bs));
+              begins-more bs (variablesBegin ++ lines) variablesEnd (behindVariables bs) (length variablesEnd)
+              (begins-more bs variablesBegin lines (length variablesBegin) (length lines) (starts-split variablesBegin bs opened)
+              (subst (λ i. Begins (drop (length variablesBegin) bs) (variableLines 0 i) (length (variableLines 0 i))) e (k .begins)))
+              (starts-split variablesEnd (drop (behindVariables bs) bs) closed)
+              ∙ ap (λ l. variablesBegin ++ l) (append-assoc lines variablesEnd (drop (behindVariables bs + length variablesEnd) bs));
           some = omega arith;
           few = omega arith;
           whole = eqb-true (count % queues) 0 whole;
@@ -285,7 +285,7 @@ one-by-one from (c ∷ cs) r e =
 
 -- R407: the values of a header, to the end
 record AreValues (count : ℕ) (bs : List ℕ) (cs : List Change) : Type 0 where
-  bytes : bs ≡ valueLines cs ++ valuesClosing
+  bytes : bs ≡ valueLines cs ++ valuesEnd
   long : count ≡ length cs
   rising : Rising 0 cs
   ordered : OneByOne 0 cs
@@ -298,13 +298,13 @@ values-only count bs t =
     let n : ℕ = run bs .length in
     let (long, t₁) = and-eq-true-iff (eqb (length cs) count) _ .0 t in
     let (need, t₂) = and-eq-true-iff (eqb (needed cs) count) _ .0 t₁ in
-    let (closed, end) = and-eq-true-iff (startsWith valuesClosing (drop n bs)) (eqb (n + length valuesClosing) (length bs)) .0 t₂ in
+    let (closed, end) = and-eq-true-iff (startsWith valuesEnd (drop n bs)) (eqb (n + length valuesEnd) (length bs)) .0 t₂ in
     let l : length cs ≡ count = eqb-true (length cs) count long in
     let m : needed cs ≡ count = eqb-true (needed cs) count need in
     record {
       bytes =
-          begins-all bs (valueLines cs ++ valuesClosing) (n + length valuesClosing) (eqb-true (n + length valuesClosing) (length bs) end)
-          (begins-more bs (valueLines cs) valuesClosing n (length valuesClosing) (r .begins) (starts-split valuesClosing (drop n bs) closed));
+          begins-all bs (valueLines cs ++ valuesEnd) (n + length valuesEnd) (eqb-true (n + length valuesEnd) (length bs) end)
+          (begins-more bs (valueLines cs) valuesEnd n (length valuesEnd) (r .begins) (starts-split valuesEnd (drop n bs) closed));
       long = sym l;
       rising = r .rising;
       ordered = one-by-one 0 cs (r .rising) (omega arith);
@@ -333,12 +333,12 @@ unfolding readHeader headerStamp headerValues bytesOf
 header-only bs t =
     let middle : List ℕ = behindNames bs in
     let rest : List ℕ = behindStamp middle in
-    let values : List ℕ = drop (length valuesOpening) rest in
+    let values : List ℕ = drop (length valuesBegin) rest in
     let time : ℕ = readStamp middle .time in
     let count : ℕ = readNames bs .count in
     let (named, t₁) = and-eq-true-iff (readNames bs .good) _ .0 t in
     let (stamped, t₂) = and-eq-true-iff (readStamp middle .good) _ .0 t₁ in
-    let (opened, told) = and-eq-true-iff (startsWith valuesOpening rest) (tellsAll count values) .0 t₂ in
+    let (opened, told) = and-eq-true-iff (startsWith valuesBegin rest) (tellsAll count values) .0 t₂ in
     let n : IsNames bs (readNames bs) = names-only bs named in
     let s : IsStamp middle (readStamp middle) = stamp-only middle stamped in
     let v : AreValues count values (run values .changes) = values-only count values told in
@@ -347,7 +347,7 @@ header-only bs t =
       bytes =
           n .begins
           ∙ ap (namesOf count)
-          (s .begins ∙ ap (λ l. stampLine time ++ l) (starts-split valuesOpening rest opened ∙ ap (λ l. valuesOpening ++ l) (v .bytes)))
+          (s .begins ∙ ap (λ l. stampLine time ++ l) (starts-split valuesBegin rest opened ∙ ap (λ l. valuesBegin ++ l) (v .bytes)))
           ∙ ap (λ k. headerOf k time (run values .changes)) e;
       early = s .early;
       rising = v .rising;

@@ -12,7 +12,7 @@ use Rattle.sheet.specs.Commands.{upTo, ten, value, isNumber}
 use Rattle.waveform.specs.declared.ValueLine.{ValueLine}
 use Rattle.waveform.specs.declared.TimeStamp.{TimeStamp}
 use Rattle.waveform.specs.declared.Names.{Names}
-use Rattle.waveform.specs.Dump.{mostVariables, opening, closing, valuesOpening, valuesClosing, variableLine, variableLines, Change, two}
+use Rattle.waveform.specs.Dump.{mostVariables, variablesBegin, variablesEnd, valuesBegin, valuesEnd, variableLine, variableLines, Change, two}
 
 -- a field that the byte `stop` ends: whether it does, and what stands behind it
 abbrev pub isEnded : ℕ → List ℕ → Bool
@@ -97,20 +97,20 @@ variablesFrom (suc more) i bs = cond (startsWith (variableLine i) bs) (variables
 
 -- R402, R403: the header up to its time stamp: whole nodes, one at least
 abbrev pub variablesIn : List ℕ → ℕ
-variablesIn bs = variablesFrom mostVariables 0 (drop (length opening) bs)
+variablesIn bs = variablesFrom mostVariables 0 (drop (length variablesBegin) bs)
 
 abbrev pub behindVariables : List ℕ → ℕ
-behindVariables bs = length opening + length (variableLines 0 (variablesIn bs))
+behindVariables bs = length variablesBegin + length (variableLines 0 (variablesIn bs))
 
 unfoldable pub areNames : List ℕ → Bool
 areNames bs =
-    startsWith opening bs
-    && (not (eqb (variablesIn bs) 0) && (eqb (variablesIn bs % queues) 0 && startsWith closing (drop (behindVariables bs) bs)))
+    startsWith variablesBegin bs
+    && (not (eqb (variablesIn bs) 0) && (eqb (variablesIn bs % queues) 0 && startsWith variablesEnd (drop (behindVariables bs) bs)))
 
 unfoldable pub readNames : List ℕ → Names
 readNames bs =
     cond (areNames bs)
-    (record { good = true; count = variablesIn bs; length = behindVariables bs + length closing })
+    (record { good = true; count = variablesIn bs; length = behindVariables bs + length variablesEnd })
     (record { good = false; count = 0; length = 0 })
 
 -- R415: a step: whether it is one, its kind, its time, and the changes that it tells
@@ -150,14 +150,14 @@ unfoldable pub headerStamp : List ℕ → TimeStamp
 headerStamp bs = readStamp (behindNames bs)
 
 unfoldable pub headerValues : List ℕ → List ℕ
-headerValues bs = drop (length valuesOpening) (behindStamp (behindNames bs))
+headerValues bs = drop (length valuesBegin) (behindStamp (behindNames bs))
 
 -- the run tells every variable, and "$end" ends it and the step
 unfoldable pub tellsAll : ℕ → List ℕ → Bool
 tellsAll count bs =
     eqb (length (run bs .changes)) count
     && (eqb (needed (run bs .changes)) count
-    && (startsWith valuesClosing (drop (run bs .length) bs) && eqb (run bs .length + length valuesClosing) (length bs)))
+    && (startsWith valuesEnd (drop (run bs .length) bs) && eqb (run bs .length + length valuesEnd) (length bs)))
 
 unfoldable pub readHeader : List ℕ → Step
 readHeader bs =
@@ -165,7 +165,7 @@ readHeader bs =
       good =
           readNames bs .good
           && (headerStamp bs .good
-          && (startsWith valuesOpening (behindStamp (behindNames bs)) && tellsAll (readNames bs .count) (headerValues bs)));
+          && (startsWith valuesBegin (behindStamp (behindNames bs)) && tellsAll (readNames bs .count) (headerValues bs)));
       header = true;
       time = headerStamp bs .time;
       changes = run (headerValues bs) .changes;

@@ -19,7 +19,7 @@ use Rattle.sheet.specs.Output.{numeral, decimal}
 use Rattle.sheet.specs.Fields.{upTo-before, digits-lack}
 use Rattle.sheet.specs.Numerals.{numeral-digits, numeral-is-number, value-numeral}
 use Rattle.waveform.specs.declared.ValueLine.{ValueLine}
-use Rattle.waveform.specs.Dump.{mostVariables, opening, closing, valuesOpening, valuesClosing, variableLine, variableLines, stampLine, Change, two, valueLine, valueLines, tells, changesTo, changes, stepBytes}
+use Rattle.waveform.specs.Dump.{mostVariables, variablesBegin, variablesEnd, valuesBegin, valuesEnd, variableLine, variableLines, stampLine, Change, two, valueLine, valueLines, tells, changesTo, changes, stepBytes}
 use Rattle.waveform.specs.Reading.{isEnded, behind, largestTime, isStamp, readStamp, largestFill, blank, isValueLine, readValue, Run, oneMore, runWithin, run, startsWith, variablesFrom, variablesIn, areNames, readNames, Step, neededFrom, needed, readLater, headerStamp, headerValues, tellsAll, readHeader, readStep, applied}
 use Rattle.waveform.specs.Lengths.{stamp-length, value-length}
 use Rattle.waveform.specs.DumpLaws.{changeAt}
@@ -276,27 +276,27 @@ count-lines (suc more) i (suc count) rest h e =
         → variablesFrom (suc more) i (variableLine i ++ behind) ≡ variablesFrom more (suc i) (drop (length (variableLine i)) (variableLine i ++ behind))
     one behind s = rw s refl
 
-closing-none : (rest : List ℕ) (k : ℕ) → startsWith (variableLine k) (closing ++ rest) ≡ false
+end-none : (rest : List ℕ) (k : ℕ) → startsWith (variableLine k) (variablesEnd ++ rest) ≡ false
 unfolding startsWith variableLine
-closing-none rest k = refl
+end-none rest k = refl
 
 -- the header up to its time stamp, of so many variables
 abbrev pub namesOf : ℕ → List ℕ → List ℕ
-namesOf count rest = opening ++ (variableLines 0 count ++ (closing ++ rest))
+namesOf count rest = variablesBegin ++ (variableLines 0 count ++ (variablesEnd ++ rest))
 
 abbrev pub namesLength : ℕ → ℕ
-namesLength count = length opening + length (variableLines 0 count) + length closing
+namesLength count = length variablesBegin + length (variableLines 0 count) + length variablesEnd
 
 names-counted : (count : ℕ) (rest : List ℕ) → count ≤ mostVariables → variablesIn (namesOf count rest) ≡ count
-names-counted count rest h = count-lines mostVariables 0 count (closing ++ rest) h (closing-none rest) ∙ omega arith
+names-counted count rest h = count-lines mostVariables 0 count (variablesEnd ++ rest) h (end-none rest) ∙ omega arith
 
-names-behind : (count : ℕ) (rest : List ℕ) → drop (length opening + length (variableLines 0 count)) (namesOf count rest) ≡ closing ++ rest
+names-behind : (count : ℕ) (rest : List ℕ) → drop (length variablesBegin + length (variableLines 0 count)) (namesOf count rest) ≡ variablesEnd ++ rest
 names-behind count rest =
-    drop-append-add opening (variableLines 0 count ++ (closing ++ rest)) (length (variableLines 0 count))
-    ∙ drop-append-seam (variableLines 0 count) (closing ++ rest)
+    drop-append-add variablesBegin (variableLines 0 count ++ (variablesEnd ++ rest)) (length (variableLines 0 count))
+    ∙ drop-append-seam (variableLines 0 count) (variablesEnd ++ rest)
 
-names-by : (bs : List ℕ) (count : ℕ) → startsWith opening bs ≡ true → variablesIn bs ≡ count → 1 ≤ count → count % queues ≡ 0
-    → startsWith closing (drop (length opening + length (variableLines 0 count)) bs) ≡ true
+names-by : (bs : List ℕ) (count : ℕ) → startsWith variablesBegin bs ≡ true → variablesIn bs ≡ count → 1 ≤ count → count % queues ≡ 0
+    → startsWith variablesEnd (drop (length variablesBegin + length (variableLines 0 count)) bs) ≡ true
     → readNames bs ≡ record { good = true; count = count; length = namesLength count }
 unfolding readNames areNames
 names-by bs count s e some whole c = rw (e, s, ne-eqb count 0 (λ z. omega arith), eq-eqb (count % queues) 0 whole, c) refl
@@ -304,14 +304,14 @@ names-by bs count s e some whole c = rw (e, s, ne-eqb count 0 (λ z. omega arith
 pub names-read : (count : ℕ) (rest : List ℕ) → 1 ≤ count → count ≤ mostVariables → count % queues ≡ 0
     → readNames (namesOf count rest) ≡ record { good = true; count = count; length = namesLength count }
 names-read count rest some few whole =
-    names-by (namesOf count rest) count (starts-append opening (variableLines 0 count ++ (closing ++ rest))) (names-counted count rest few) some whole
-    (ap (startsWith closing) (names-behind count rest) ∙ starts-append closing rest)
+    names-by (namesOf count rest) count (starts-append variablesBegin (variableLines 0 count ++ (variablesEnd ++ rest))) (names-counted count rest few) some whole
+    (ap (startsWith variablesEnd) (names-behind count rest) ∙ starts-append variablesEnd rest)
 
 behind-names : (count : ℕ) (rest : List ℕ) → drop (namesLength count) (namesOf count rest) ≡ rest
 behind-names count rest =
-    sym (drop-drop (length closing) (length opening + length (variableLines 0 count)) (namesOf count rest))
-    ∙ ap (drop (length closing)) (names-behind count rest)
-    ∙ drop-append-seam closing rest
+    sym (drop-drop (length variablesEnd) (length variablesBegin + length (variableLines 0 count)) (namesOf count rest))
+    ∙ ap (drop (length variablesEnd)) (names-behind count rest)
+    ∙ drop-append-seam variablesEnd rest
 
 -- R415: a later step
 abbrev pub stepOf : Bool → ℕ → List Change → Step
@@ -334,37 +334,37 @@ later-read time cs h r =
 header-by : (bs middle values lines : List ℕ) (count time n m : ℕ) (cs : List Change)
     → readNames bs ≡ record { good = true; count = count; length = n } → drop n bs ≡ middle
     → readStamp middle ≡ record { good = true; time = time; length = m } → drop m middle ≡ values
-    → startsWith valuesOpening values ≡ true → drop (length valuesOpening) values ≡ lines
+    → startsWith valuesBegin values ≡ true → drop (length valuesBegin) values ≡ lines
     → run lines .changes ≡ cs → tellsAll count lines ≡ true
     → readHeader bs ≡ stepOf true time cs
 unfolding readHeader headerStamp headerValues
 header-by bs middle values lines count time n m cs names b stamp v s d r t = rw (names, b, stamp, v, s, d, r, t) refl
 
 tells-all : (count : ℕ) (lines : List ℕ) (cs : List Change) → run lines ≡ ran cs → length cs ≡ count → needed cs ≡ count
-    → drop (length (valueLines cs)) lines ≡ valuesClosing → length (valueLines cs) + length valuesClosing ≡ length lines
+    → drop (length (valueLines cs)) lines ≡ valuesEnd → length (valueLines cs) + length valuesEnd ≡ length lines
     → tellsAll count lines ≡ true
 unfolding tellsAll startsWith
 tells-all count lines cs r l n d e =
-    rw (r, eq-eqb (length cs) count l, eq-eqb (needed cs) count n, d, eq-eqb (length (valueLines cs) + length valuesClosing) (length lines) e) refl
+    rw (r, eq-eqb (length cs) count l, eq-eqb (needed cs) count n, d, eq-eqb (length (valueLines cs) + length valuesEnd) (length lines) e) refl
 
 abbrev pub headerOf : ℕ → ℕ → List Change → List ℕ
-headerOf count time cs = namesOf count (stampLine time ++ (valuesOpening ++ (valueLines cs ++ valuesClosing)))
+headerOf count time cs = namesOf count (stampLine time ++ (valuesBegin ++ (valueLines cs ++ valuesEnd)))
 
 pub header-read : (count time : ℕ) (cs : List Change) → 1 ≤ count → count ≤ mostVariables → count % queues ≡ 0 → time ≤ largestTime → Rising 0 cs
     → length cs ≡ count → needed cs ≡ count → readHeader (headerOf count time cs) ≡ stepOf true time cs
 header-read count time cs some few whole h r l n =
-    let lines : List ℕ = valueLines cs ++ valuesClosing in
-    let values : List ℕ = valuesOpening ++ lines in
-    let told : run lines ≡ ran cs = run-read cs valuesClosing r (no-value valuesClosing refl) in
+    let lines : List ℕ = valueLines cs ++ valuesEnd in
+    let values : List ℕ = valuesBegin ++ lines in
+    let told : run lines ≡ ran cs = run-read cs valuesEnd r (no-value valuesEnd refl) in
     header-by (headerOf count time cs) (stampLine time ++ values) values lines count time (namesLength count) (length (stampLine time)) cs
     (names-read count (stampLine time ++ values) some few whole)
     (behind-names count (stampLine time ++ values))
     (stamp-read time values h)
     (drop-append-seam (stampLine time) values)
-    (starts-append valuesOpening lines)
-    (drop-append-seam valuesOpening lines)
+    (starts-append valuesBegin lines)
+    (drop-append-seam valuesBegin lines)
     (ap (λ (a : Run). a .changes) told)
-    (tells-all count lines cs told l n (drop-append-seam (valueLines cs) valuesClosing) (sym (length-append (valueLines cs) valuesClosing)))
+    (tells-all count lines cs told l n (drop-append-seam (valueLines cs) valuesEnd) (sym (length-append (valueLines cs) valuesEnd)))
 
 -- what a step tells is small enough to be told, and of whole nodes
 pub record Tellable (time : ℕ) (counts : List ℕ) : Type 0 where

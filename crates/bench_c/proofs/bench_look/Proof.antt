@@ -6,7 +6,7 @@ use Prim.Native.Nat.{_+_, _≤_}
 use native.Mathlib.Omega.{arith}
 use lib.ListN.{length}
 use Rattle.network.specs.Sizes.{shapeOf}
-use Rattle.checker.specs.Opening.{broken, is-open, is-shut}
+use Rattle.checker.specs.Opened.{broken, is-open, is-shut}
 use Rattle.queue.specs.QueueOf.{QueueOf}
 use Rattle.calls.specs.Returns.{look-broken, look-rules, looks, held-end}
 use Rattle.bench_c.specs.OutLaws.{look-cleared, look-told}

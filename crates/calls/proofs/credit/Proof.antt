@@ -9,7 +9,7 @@ use Rattle.network.specs.declared.Credit.{Credit}
 use Rattle.network.specs.Calls.{creditAnswer}
 use Rattle.network.specs.Answers.{CreditTells, credit-tells}
 use Rattle.calls.specs.Returns.{credit-broken, credit-refused, credit-free, credit-place}
-use Rattle.checker.specs.Opening.{broken, is-open, is-shut}
+use Rattle.checker.specs.Opened.{broken, is-open, is-shut}
 use Rattle.calls.proofs.credit.Statement.{statement}
 use Rattle.calls.proofs.credit.Tie as tie
 

@@ -9,7 +9,7 @@ use Rattle.network.specs.declared.Drained.{Drained}
 use Rattle.network.specs.Calls.{drainAnswer}
 use Rattle.network.specs.Answers.{DrainTells, drain-tells}
 use Rattle.calls.specs.Returns.{drain-broken, drain-done}
-use Rattle.checker.specs.Opening.{broken, is-open, is-shut}
+use Rattle.checker.specs.Opened.{broken, is-open, is-shut}
 use Rattle.calls.proofs.drain.Statement.{statement}
 use Rattle.calls.proofs.drain.Tie as tie
 

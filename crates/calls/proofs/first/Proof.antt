@@ -9,7 +9,7 @@ use Rattle.network.specs.declared.Found.{Found}
 use Rattle.network.specs.Calls.{firstAnswer}
 use Rattle.network.specs.Answers.{FirstTells, first-tells}
 use Rattle.calls.specs.Returns.{first-broken, first-found}
-use Rattle.checker.specs.Opening.{broken, is-open, is-shut}
+use Rattle.checker.specs.Opened.{broken, is-open, is-shut}
 use Rattle.calls.proofs.first.Statement.{statement}
 use Rattle.calls.proofs.first.Tie as tie
 

@@ -11,7 +11,7 @@ use Rattle.network.specs.RefusalLaws.{permitted-of}
 use Rattle.network.specs.Calls.{moveAnswer}
 use Rattle.network.specs.Answers.{MoveTells, move-tells}
 use Rattle.calls.specs.Returns.{move-refused, move-broken, move-rules, move-delivered, move-passed}
-use Rattle.checker.specs.Opening.{broken, is-open, is-shut}
+use Rattle.checker.specs.Opened.{broken, is-open, is-shut}
 use Rattle.calls.proofs.move_packet.Statement.{statement}
 use Rattle.calls.proofs.move_packet.Tie as tie
 

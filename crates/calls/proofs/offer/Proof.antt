@@ -5,7 +5,7 @@ use denote.Ref.{now}
 use Rattle.network.specs.Sizes.{shapeOf}
 use Rattle.run.specs.Reached.{accepting}
 use Rattle.calls.specs.Returns.{offer-refused, offer-broken, offer-rules, offer-taken}
-use Rattle.checker.specs.Opening.{broken, is-open, is-shut}
+use Rattle.checker.specs.Opened.{broken, is-open, is-shut}
 use Rattle.calls.proofs.offer.Statement.{statement}
 use Rattle.calls.proofs.offer.Tie as tie
 

@@ -13,7 +13,7 @@ use Rattle.network.specs.Sizes.{Shape, shapeOf, sizesInRange}
 use Rattle.network.specs.Layout.{shape, headerWords, need}
 use Rattle.network.specs.Check.{isNetwork}
 use Rattle.network.specs.Refusals.{refuse, networkRefusal, shortStore, wrongSize, noNetwork}
-use Rattle.checker.specs.Opening.{sizes-shape}
+use Rattle.checker.specs.Opened.{sizes-shape}
 use Rattle.checker.proofs.network_refusal.Statement.{statement}
 use Rattle.checker.proofs.network_refusal.Tie as tie
 

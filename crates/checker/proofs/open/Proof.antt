@@ -1,7 +1,7 @@
 -- `checker::open` meets its contract. Assumes nothing.
 use borrow.Author.Needs.{needs}
 use mathlib.Core.Path.{sym, _∙_}
-use Rattle.checker.specs.Opening.{opened-shut, opened-open, header-long}
+use Rattle.checker.specs.Opened.{opened-shut, opened-open, header-long}
 use Rattle.checker.proofs.open.Statement.{statement}
 use Rattle.checker.proofs.open.Tie as tie
 

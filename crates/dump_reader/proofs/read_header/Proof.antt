@@ -5,7 +5,7 @@ use native.Mathlib.Omega.{arith}
 use borrow.Author.Needs.{needs}
 use borrow.Author.Tests.{not-true, not-false}
 use lib.ListN.{length}
-use Rattle.dump_reader.proofs.Steps.{header-names, names-place, header-stamp, stamp-place, header-opening, values-place, header-values, header-found}
+use Rattle.dump_reader.proofs.Steps.{header-names, names-place, header-stamp, stamp-place, header-dumpvars, values-place, header-values, header-found}
 use Rattle.dump_reader.proofs.read_header.Statement.{statement}
 use Rattle.dump_reader.proofs.read_header.Tie as tie
 
@@ -38,14 +38,14 @@ returns-3 c =
     let s = w .before .before .before .before .before in
     let n = s .before .before .before .before in
     rw (c .no-step3 .ensures)
-    (header-opening (n .before .before .args .bytes .now) (n .read-names .ensures) (s .read-stamp .ensures)
+    (header-dumpvars (n .before .before .args .bytes .now) (n .read-names .ensures) (s .read-stamp .ensures)
     (sym (w .starts-with .ensures) ∙ not-true _ (c .before .if3 .taken)))
 
-opened : (c : tie.Else3)
+begun : (c : tie.Else3)
     → c .before .before .before .before .before .before .before .before .before .before .read-names .result .length
     + c .before .before .before .before .before .before .read-stamp .result .length + 10
     ≤ length (c .before .before .before .before .before .before .before .before .before .before .before .before .args .bytes .now)
-opened c =
+begun c =
     let w = c .before in
     let s = w .before .before .before .before .before in
     let n = s .before .before .before .before in
@@ -99,9 +99,9 @@ read-header-spec =
     (λ c κs. stamped (c .before .before .before .before))
     (λ c κs. search needs)
     returns-3
-    (λ c. omega (arith, opened c))
-    opened
-    opened
+    (λ c. omega (arith, begun c))
+    begun
+    begun
     (λ c. search needs)
     (λ c κs. search needs)
     (λ c κs. search needs)

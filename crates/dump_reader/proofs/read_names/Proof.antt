@@ -3,7 +3,7 @@ use mathlib.Core.Path.{_≡_, sym, _∙_}
 use mathlib.Core.Bool.{true}
 use borrow.Author.Needs.{needs}
 use borrow.Author.Tests.{not-true, not-false}
-use Rattle.waveform.specs.Dump.{opening}
+use Rattle.waveform.specs.Dump.{variablesBegin}
 use Rattle.waveform.specs.Reading.{startsWith}
 use Rattle.waveform.specs.StartLaws.{starts-long}
 use Rattle.dump_reader.proofs.Headers.{names-first, names-none, names-part, names-last, names-found}
@@ -16,11 +16,11 @@ returns c =
     c .no-names .ensures ∙ names-first (w .before .before .before .args .bytes .now) (sym (w .starts-with .ensures) ∙ not-true _ (c .before .if1 .taken))
 
 -- the bytes before the variables stand there
-opened : (c : tie.Else1) → startsWith opening (c .before .before .before .before .args .bytes .now) ≡ true
-opened c = sym (c .before .starts-with .ensures) ∙ not-false _ (c .if1 .left)
+begun : (c : tie.Else1) → startsWith variablesBegin (c .before .before .before .before .args .bytes .now) ≡ true
+begun c = sym (c .before .starts-with .ensures) ∙ not-false _ (c .if1 .left)
 
 count-variables-requires : tie.Need-count-variables-requires
-count-variables-requires c κs = starts-long opening (c .before .before .before .before .args .bytes .now) (opened c)
+count-variables-requires c κs = starts-long variablesBegin (c .before .before .before .before .args .bytes .now) (begun c)
 
 returns-2 : tie.Need-returns-2
 returns-2 c =
@@ -47,7 +47,7 @@ returns-5 c =
     let w = c .before .before in
     let e = w .before .before in
     let k = e .before .before .before .before in
-    names-found (k .before .before .before .before .before .args .bytes .now) (k .count-variables .ensures) (opened (k .before))
+    names-found (k .before .before .before .before .before .args .bytes .now) (k .count-variables .ensures) (begun (k .before))
     (e .before .before .if2 .left)
     (e .if3 .left)
     (sym (w .starts-with2 .ensures) ∙ not-false _ (c .before .if4 .left))

@@ -5,7 +5,7 @@ use mathlib.Core.List.{List, _++_}
 use Prim.Native.Nat.{ℕ}
 use lib.ListN.{length}
 use Rattle.sheet.specs.Puts.{ToPut, all-to-put, run-room, run-put}
-use Rattle.waveform.specs.Dump.{opening, closing, valuesOpening, valuesClosing, variableLines, stampLine, valueLines, changes, stepBytes}
+use Rattle.waveform.specs.Dump.{variablesBegin, variablesEnd, valuesBegin, valuesEnd, variableLines, stampLine, valueLines, changes, stepBytes}
 use Rattle.dump_writer.proofs.put_header.Statement.{statement}
 use Rattle.dump_writer.proofs.put_header.Tie as tie
 
@@ -14,25 +14,25 @@ abbrev Left : tie.Start → List ℕ → ℕ → List ℕ → Type 0
 Left s out next rest = ToPut (s .args .page .now) 0 (stepBytes true (s .args .time) (s .args .counts .now) (s .args .fills .now)) out next rest
 
 abbrev start : tie.Start → List ℕ
-start s = opening
+start s = variablesBegin
 
 abbrev names : tie.Start → List ℕ
 names s = variableLines 0 (length (s .args .counts .now))
 
 abbrev middle : tie.Start → List ℕ
-middle s = closing
+middle s = variablesEnd
 
 abbrev stamp : tie.Start → List ℕ
 stamp s = stampLine (s .args .time)
 
 abbrev dumpvars : tie.Start → List ℕ
-dumpvars s = valuesOpening
+dumpvars s = valuesBegin
 
 abbrev values : tie.Start → List ℕ
 values s = valueLines (changes true (s .args .counts .now) (s .args .fills .now))
 
 abbrev end : tie.Start → List ℕ
-end s = valuesClosing
+end s = valuesEnd
 
 all : (s : tie.Start) → Left s (s .args .page .now) 0 (start s ++ (names s ++ (middle s ++ (stamp s ++ (dumpvars s ++ (values s ++ end s))))))
 unfolding stepBytes

@@ -4,7 +4,7 @@ use mathlib.Core.Path.{refl, ap, sym, _∙_}
 use denote.Ref.{now}
 use Rattle.network.specs.Sizes.{shapeOf}
 use Rattle.network.specs.Layout.{movesMade}
-use Rattle.checker.specs.Opening.{broken, is-open, is-shut}
+use Rattle.checker.specs.Opened.{broken, is-open, is-shut}
 use Rattle.waveform.specs.declared.Written.{Written}
 use Rattle.waveform.specs.Dump.{fills}
 use Rattle.dump_writer.specs.Writing.{write-broken, write-counts}

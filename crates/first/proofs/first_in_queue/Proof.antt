@@ -15,10 +15,10 @@ use Rattle.first.proofs.first_in_queue.Statement.{statement}
 use Rattle.first.proofs.first_in_queue.Tie as tie
 
 abbrev Inv-loop : tie.InvT-loop
-Inv-loop words s near n q start outputs k₀ k = AtLine s words n q outputs k
+Inv-loop words s near n q start p outputs k₀ k = AtLine s words n q outputs k
 
 abbrev μ-loop : tie.MeasureT-loop
-μ-loop words s near n q start outputs k₀ k = lines - k
+μ-loop words s near n q start p outputs k₀ k = lines - k
 
 -- a test that says whether a rule's number is 0
 passed : (said : Bool) (number : ℕ) → said ≡ eqb number 0 → said ≡ true → number ≡ 0
@@ -64,14 +64,14 @@ returns c =
     let a = b .args in
     sym (queue-none (a .s) (a .words .now) (a .n) (a .q) (f .queue-start .result) (b .pre .0) (f .queue-start .ensures) (c .if1 .taken))
 
-add-routes : tie.Need-add-routes Inv-loop μ-loop
-add-routes c = let f = c .before .before in omega (arith, two-words f, f .before .before .before .good)
+add-p : tie.Need-add-p Inv-loop μ-loop
+add-p c = let f = c .before .before in omega (arith, two-words f, f .before .before .before .good)
 
-mul-routes : tie.Need-mul-routes Inv-loop μ-loop
-mul-routes c = let f = c .before .before in omega (arith, two-words f, f .before .before .before .good)
+mul-p : tie.Need-mul-p Inv-loop μ-loop
+mul-p c = let f = c .before .before in omega (arith, two-words f, f .before .before .before .good)
 
-shared-slice-read-routes : tie.Need-shared-slice-read-routes Inv-loop μ-loop
-shared-slice-read-routes c = two-words (c .before .before .before)
+shared-slice-read-p : tie.Need-shared-slice-read-p Inv-loop μ-loop
+shared-slice-read-p c = two-words (c .before .before .before)
 
 loop-holds : tie.Need-loop-holds Inv-loop μ-loop
 loop-holds c = record { within = omega arith; left = found-from-first (reading c) }
@@ -128,9 +128,9 @@ first-in-queue-spec =
     mul-if1
     shared-slice-read-if1
     returns
-    add-routes
-    mul-routes
-    shared-slice-read-routes
+    add-p
+    mul-p
+    shared-slice-read-p
     routes-requires
     loop-holds
     (λ c. omega arith)

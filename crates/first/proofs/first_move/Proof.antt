@@ -20,10 +20,10 @@ use Rattle.first.proofs.first_move.Statement.{statement}
 use Rattle.first.proofs.first_move.Tie as tie
 
 abbrev Inv-loop2 : tie.InvT-loop2
-Inv-loop2 words s found₀ node₀ queue₀ output₀ start total n q outputs k₀ found node queue output k = (found ≡ false) × AtLine s words n q outputs k
+Inv-loop2 words s found₀ node₀ queue₀ output₀ start total n q p outputs k₀ found node queue output k = (found ≡ false) × AtLine s words n q outputs k
 
 abbrev μ-loop2 : tie.MeasureT-loop2
-μ-loop2 words s found₀ node₀ queue₀ output₀ start total n q outputs k₀ found node queue output k = lines - k
+μ-loop2 words s found₀ node₀ queue₀ output₀ start total n q p outputs k₀ found node queue output k = lines - k
 
 abbrev Inv-loop : tie.InvT-loop
 Inv-loop words s found₀ node₀ queue₀ output₀ start₀ total n q₀ found node queue output start q = AtQueue s words n found start q
@@ -99,14 +99,14 @@ mul-if2 c = omega (arith, two-words c, entry (c .before .before .before) .good)
 shared-slice-read-if2 : tie.Need-shared-slice-read-if2 Inv-loop2 μ-loop2 Inv-loop μ-loop Inv-search μ-search
 shared-slice-read-if2 c = omega (arith, two-words (c .before))
 
-add-routes : tie.Need-add-routes Inv-loop2 μ-loop2 Inv-loop μ-loop Inv-search μ-search
-add-routes c = let f = c .before .before in omega (arith, two-words f, entry (f .before .before .before) .good)
+add-p : tie.Need-add-p Inv-loop2 μ-loop2 Inv-loop μ-loop Inv-search μ-search
+add-p c = let f = c .before .before in omega (arith, two-words f, entry (f .before .before .before) .good)
 
-mul-routes : tie.Need-mul-routes Inv-loop2 μ-loop2 Inv-loop μ-loop Inv-search μ-search
-mul-routes c = let f = c .before .before in omega (arith, two-words f, entry (f .before .before .before) .good)
+mul-p : tie.Need-mul-p Inv-loop2 μ-loop2 Inv-loop μ-loop Inv-search μ-search
+mul-p c = let f = c .before .before in omega (arith, two-words f, entry (f .before .before .before) .good)
 
-shared-slice-read-routes : tie.Need-shared-slice-read-routes Inv-loop2 μ-loop2 Inv-loop μ-loop Inv-search μ-search
-shared-slice-read-routes c = two-words (c .before .before .before)
+shared-slice-read-p : tie.Need-shared-slice-read-p Inv-loop2 μ-loop2 Inv-loop μ-loop Inv-search μ-search
+shared-slice-read-p c = two-words (c .before .before .before)
 
 -- The lines of a head's routes ---------------------------------------------------------------------------------------------------------
 
@@ -271,9 +271,9 @@ first-move-spec =
     loop-holds
     mul-if2
     shared-slice-read-if2
-    add-routes
-    mul-routes
-    shared-slice-read-routes
+    add-p
+    mul-p
+    shared-slice-read-p
     (λ c κs. search needs)
     loop2-holds
     (λ c. omega arith)

@@ -1,7 +1,6 @@
 -- `flow::may_flow` meets its contract: what the target's queue holds and what the move needs are together no more than its
 -- slots exactly when as many slots are free as the move needs. Assumes nothing.
 use mathlib.Core.Path.{_≡_, sym, _∙_}
-use mathlib.Core.Bool.{Bool, true, false, cond, not, _&&_}
 use mathlib.Core.List.{List}
 use mathlib.Core.Logic.{_≢_}
 use Prim.Native.Nat.{ℕ, _+_, _-_, _≤_}
@@ -11,10 +10,11 @@ use borrow.Author.Needs.{needs}
 use borrow.Author.Tests.{eq-eqb, ne-eqb, le-leb, lt-leb}
 use lib.Dec.{leb, eqb}
 use lib.ListN.{length}
-use Rattle.network.specs.Sizes.{shapeOf, capacity, isEscape, largestCapacity}
+use Rattle.network.specs.Sizes.{shapeOf, capacity, largestCapacity}
 use Rattle.network.specs.SizesLaws.{range-of, capacity-most}
 use Rattle.network.specs.Layout.{held}
-use Rattle.network.specs.Routes.{target, freeSlots, entersRing, slotsNeeded}
+use Rattle.network.specs.Routes.{target, freeSlots, slotsNeeded}
+use Rattle.network.specs.RoutesLaws.{needed-most}
 use Rattle.network.specs.Refusals.{flowRules}
 use Rattle.network.specs.RefusalLaws.{flow-of, flow-by}
 use Rattle.network.specs.declared.Sizes.{Sizes}
@@ -27,10 +27,10 @@ use Rattle.flow.proofs.may_flow.Statement.{statement}
 use Rattle.flow.proofs.may_flow.Tie as tie
 
 -- by the numbers that the code compares
-room : (s : Sizes) (w : List ℕ) (n q o there slots count needed : ℕ) → QueueOf (shapeOf s) w n o → there ≡ target (shapeOf s) n o
-    → slots ≡ capacity (shapeOf s) o → count ≡ length (held (shapeOf s) w there o) → needed ≡ slotsNeeded q o → o ≢ 0
-    → leb (count + needed) slots ≡ eqb (flowRules (shapeOf s) w n q o) 0
-room s w n q o there slots count needed k et es ec en some = go (decLe (count + needed) slots)
+room : (s : Sizes) (w : List ℕ) (n q o p there slots count needed : ℕ) → QueueOf (shapeOf s) w n o → there ≡ target (shapeOf s) n o
+    → slots ≡ capacity (shapeOf s) o → count ≡ length (held (shapeOf s) w there o) → needed ≡ slotsNeeded q o p → o ≢ 0
+    → leb (count + needed) slots ≡ eqb (flowRules (shapeOf s) w n q o p) 0
+room s w n q o p there slots count needed k et es ec en some = go (decLe (count + needed) slots)
   where
     few : count ≤ slots
     few = target-few s w n o there k et slots count es ec
@@ -38,29 +38,22 @@ room s w n q o there slots count needed k et es ec en some = go (decLe (count + 
     free : slots - count ≡ freeSlots (shapeOf s) w n o
     free = target-free s w n o there k et slots count es ec
 
-    go : Dec (count + needed ≤ slots) → leb (count + needed) slots ≡ eqb (flowRules (shapeOf s) w n q o) 0
+    go : Dec (count + needed ≤ slots) → leb (count + needed) slots ≡ eqb (flowRules (shapeOf s) w n q o p) 0
     go (yes l) =
         le-leb (count + needed) slots l
-        ∙ sym (eq-eqb (flowRules (shapeOf s) w n q o) 0 (flow-by (shapeOf s) w n q o (λ ne. omega (arith, free, en, l))))
+        ∙ sym (eq-eqb (flowRules (shapeOf s) w n q o p) 0 (flow-by (shapeOf s) w n q o p (λ ne. omega (arith, free, en, l))))
     go (no l) =
         lt-leb (count + needed) slots (omega (arith, l))
-        ∙ sym (ne-eqb (flowRules (shapeOf s) w n q o) 0 (λ z. l (let g = flow-of (shapeOf s) w n q o z some in omega (arith, g, few, free, en))))
+        ∙ sym (ne-eqb (flowRules (shapeOf s) w n q o p) 0 (λ z. l (let g = flow-of (shapeOf s) w n q o p z some in omega (arith, g, few, free, en))))
 
 -- their sum is small
-small-sum : (s : Sizes) (w : List ℕ) (n q o there slots count needed : ℕ) → QueueOf (shapeOf s) w n o → there ≡ target (shapeOf s) n o
-    → slots ≡ capacity (shapeOf s) o → count ≡ length (held (shapeOf s) w there o) → needed ≡ slotsNeeded q o → count + needed ≤ 10
-unfolding entersRing slotsNeeded
-small-sum s w n q o there slots count needed k et es ec en = go (isEscape o && not (eqb q o)) en
-  where
-    few : count ≤ largestCapacity
-    few =
-        let l = target-few s w n o there k et slots count es ec in
-        let m = capacity-most (shapeOf s) o (range-of (shapeOf s) (k .network .in-range)) in
-        omega (arith, es)
-
-    go : (b : Bool) → needed ≡ cond b 2 1 → count + needed ≤ 10
-    go true e = omega (arith, few)
-    go false e = omega (arith, few)
+small-sum : (s : Sizes) (w : List ℕ) (n q o p there slots count needed : ℕ) → QueueOf (shapeOf s) w n o → there ≡ target (shapeOf s) n o
+    → slots ≡ capacity (shapeOf s) o → count ≡ length (held (shapeOf s) w there o) → needed ≡ slotsNeeded q o p → count + needed ≤ largestCapacity + 2
+small-sum s w n q o p there slots count needed k et es ec en =
+    let l = target-few s w n o there k et slots count es ec in
+    let m = capacity-most (shapeOf s) o (range-of (shapeOf s) (k .network .in-range)) in
+    let a = needed-most q o p in
+    omega arith
 
 -- the node that the table names
 is-target : (c : tie.After-look-up)
@@ -74,7 +67,7 @@ returns : tie.Need-returns
 returns c =
     let a = c .before .before .before .args in
     let S = shapeOf (a .s) in
-    sym (eq-eqb (flowRules S (a .words .now) (a .n) (a .q) (a .o)) 0 (flow-by S (a .words .now) (a .n) (a .q) (a .o) (λ ne. absurd (ne (c .if1 .taken)))))
+    sym (eq-eqb (flowRules S (a .words .now) (a .n) (a .q) (a .o) (a .p)) 0 (flow-by S (a .words .now) (a .n) (a .q) (a .o) (a .p) (λ ne. absurd (ne (c .if1 .taken)))))
 
 look-up-requires : tie.Need-look-up-requires
 look-up-requires c κs =
@@ -97,7 +90,7 @@ add-result c =
     let a = f .args in
     let slots = c .before .before .capacity in
     let l =
-    small-sum (a .s) (a .words .now) (a .n) _ (a .o) (c .before .before .before .look-up .result) (slots .result) (c .before .held-count .result) (c .slots-needed .result)
+    small-sum (a .s) (a .words .now) (a .n) _ (a .o) (a .p) (c .before .before .before .look-up .result) (slots .result) (c .before .held-count .result) (c .slots-needed .result)
     (f .pre .0) (is-target (c .before .before .before)) (slots .ensures) (c .before .held-count .ensures) (c .slots-needed .ensures) in
     omega arith
 
@@ -106,7 +99,7 @@ returns-2 c =
     let f = c .before .before .before .before .before .before .before in
     let a = f .args in
     let slots = c .before .before .capacity in
-    room (a .s) (a .words .now) (a .n) (a .q) (a .o) (c .before .before .before .look-up .result) (slots .result) (c .before .held-count .result) (c .slots-needed .result)
+    room (a .s) (a .words .now) (a .n) (a .q) (a .o) (a .p) (c .before .before .before .look-up .result) (slots .result) (c .before .held-count .result) (c .slots-needed .result)
     (f .pre .0) (is-target (c .before .before .before)) (slots .ensures) (c .before .held-count .ensures) (c .slots-needed .ensures)
     (c .before .before .before .before .if1 .left)
 

@@ -1,34 +1,38 @@
--- `flow::slots_needed` meets its contract. Assumes nothing.
-use mathlib.Core.Path.{_≡_, refl, ap₂, sym}
-use mathlib.Core.Bool.{Bool, true, false, cond, not, _&&_}
-use Prim.Native.Nat.{ℕ, _≤_}
-use borrow.Author.Tests.{eq-eqb, ne-eqb, lt-ltb, le-ltb}
+-- `flow::slots_needed` meets its contract: a law for each of its three answers. Assumes nothing.
+use mathlib.Core.Path.{_≡_, ap, sym, _∙_}
+use mathlib.Core.Bool.{Bool, true, false, cond}
+use Prim.Native.Nat.{ℕ, _-_, _<_}
+use native.Mathlib.Omega.{arith}
+use borrow.Author.Tests.{eq-eqb, ne-eqb}
 use lib.Dec.{eqb}
-use Rattle.network.specs.Sizes.{isEscape, directions}
-use Rattle.network.specs.Routes.{entersRing, slotsNeeded}
+use Rattle.network.specs.Sizes.{directions, escapeQueue}
+use Rattle.network.specs.LayoutLaws.{load-one}
+use Rattle.network.specs.Routes.{slotsNeeded}
+use Rattle.network.specs.RoutesLaws.{needed-escape, needed-adaptive}
 use Rattle.flow.proofs.slots_needed.Statement.{statement}
 use Rattle.flow.proofs.slots_needed.Tie as tie
 
--- by what the two tests said
-needed : (q o : ℕ) (a b : Bool) → isEscape o ≡ a → eqb q o ≡ b → cond (a && not b) 2 1 ≡ slotsNeeded q o
-unfolding entersRing slotsNeeded
-needed q o a b e f = sym (ap₂ (λ (x y : Bool). cond (x && not y) 2 1) e f)
-
-adaptive : (q o : ℕ) → o ≤ directions → 1 ≡ slotsNeeded q o
-adaptive q o h = needed q o false (eqb q o) (le-ltb directions o h) refl
-
 returns : tie.Need-returns
-returns c = adaptive (c .before .args .q) (c .before .args .o) (c .if1 .taken)
+returns c =
+    let a = c .before .args in
+    sym (needed-adaptive (a .q) (a .o) (a .p) (c .if1 .taken) ∙ load-one (a .o) (a .p))
+
+-- into an escape queue, by what the second test said
+into-escape : (q o p : ℕ) (own : Bool) → directions < o → eqb q o ≡ own → cond own 1 2 ≡ slotsNeeded q o p
+into-escape q o p own h e = sym (escaped o (o - escapeQueue 0) (omega arith) ∙ ap (λ (b : Bool). cond b 1 2) e)
+  where
+    escaped : (o d : ℕ) → o ≡ escapeQueue d → slotsNeeded q o p ≡ cond (eqb q o) 1 2
+    escaped o d e = rw e (needed-escape q d p)
 
 returns-2 : tie.Need-returns-2
 returns-2 c =
     let a = c .before .before .args in
-    needed (a .q) (a .o) true true (lt-ltb directions (a .o) (c .before .if1 .left)) (eq-eqb (a .q) (a .o) (c .if2 .taken))
+    into-escape (a .q) (a .o) (a .p) true (c .before .if1 .left) (eq-eqb (a .q) (a .o) (c .if2 .taken))
 
 returns-3 : tie.Need-returns-3
 returns-3 c =
     let a = c .before .before .args in
-    needed (a .q) (a .o) true false (lt-ltb directions (a .o) (c .before .if1 .left)) (ne-eqb (a .q) (a .o) (c .if2 .left))
+    into-escape (a .q) (a .o) (a .p) false (c .before .if1 .left) (ne-eqb (a .q) (a .o) (c .if2 .left))
 
 pub slots-needed-spec : {M : Type 1} → statement M
 slots-needed-spec = tie.close (tie.spec returns returns-2 returns-3)

@@ -17,7 +17,7 @@ use Rattle.rules.proofs.move_rules.Tie as tie
 
 -- by what the tests said
 tested : (S : Shape) (w : List ℕ) (n q o count held-there p flow : ℕ) (route a b d e : Bool) → count ≡ nodes S
-    → held-there ≡ length (held S w n q) → p ≡ head (held S w n q) → route ≡ elem o (routes q p) → flow ≡ flowRules S w n q o
+    → held-there ≡ length (held S w n q) → p ≡ head (held S w n q) → route ≡ elem o (routes q p) → flow ≡ flowRules S w n q o p
     → leb count n ≡ a → leb queues q ≡ b → leb queues o ≡ d → eqb held-there 0 ≡ e
     → refuse a noSuchNode (refuse b noSuchQueue (refuse d noSuchOutput (refuse e queueEmpty (refuse (not route) noRoute flow)))) ≡ moveRules S w n q o
 unfolding moveRules
