@@ -15,6 +15,8 @@ pub mod Selection
 pub mod SelectionLaws
 pub mod Refusals
 pub mod RefusalLaws
+pub mod FlowControl
+pub mod FlowControlLaws
 pub mod Calls
 pub mod FirstLaws
 pub mod Choices
