@@ -22,6 +22,8 @@ pub mod FirstLaws
 pub mod Choices
 pub mod ChoiceLaws
 pub mod Answers
+pub mod FirstRule
+pub mod FirstRuleLaws
 pub mod OfferLaws
 pub mod Run
 pub mod DrainLaws
