@@ -1,9 +1,9 @@
 -- What a reader asks of demand 3. Order: First and an empty network; a Drain that may go on to the end; the hops left by direction; the arbiter's order
--- of moves. Reached.antt has that Make and accepted offers lead to networks. Assumes nothing.
+-- of moves; the stamps of a dump. Reached.antt has that Make and accepted offers lead to networks. Assumes nothing.
 use mathlib.Core.Path.{_≡_, refl, ap, sym, _∙_}
 use mathlib.Core.Logic.{_↔_, _≢_}
 use mathlib.Core.List.{List, [], _∷_}
-use Prim.Native.Nat.{ℕ, _-_, _<_, _≤_}
+use Prim.Native.Nat.{ℕ, _+_, _-_, _<_, _≤_}
 use native.Mathlib.Decide.{ℕ-discrete}
 use native.Mathlib.Omega.{arith}
 use borrow.Author.Tests.{eq-eqb}
@@ -13,20 +13,21 @@ use Rattle.network.specs.declared.Stop.{Stop}
 use Rattle.network.specs.declared.Drained.{Drained}
 use Rattle.base.specs.Sums.{sumOf, sumBelow, sum-zero}
 use Rattle.network.specs.Sizes.{Shape, nodes, queues, directions}
-use Rattle.network.specs.Layout.{shape, held, total}
+use Rattle.network.specs.Layout.{shape, held, total, movesMade}
 use Rattle.network.specs.LayoutLaws.{total-zero}
 use Rattle.network.specs.Check.{packetsHeld, workLeft}
 use Rattle.network.specs.CheckLaws.{Network}
 use Rattle.network.specs.Refusals.{networkRefusal}
 use Rattle.network.specs.RefusalLaws.{network-passed, Permitted}
 use Rattle.network.specs.FirstLaws.{Finds, nothing, named, first-finds, first-nothing}
-use Rattle.network.specs.Calls.{Progress, firstMove, firstAnswer, drainFrom, drained, drainAnswer, drainedMoves}
+use Rattle.network.specs.Calls.{Progress, firstMove, firstAnswer, drainFrom, drained, drainAnswer, drainedMoves, offerWords}
 use Rattle.network.specs.Run.{Call, drain, Outcome, outcome, run, isLabelled, heldWith, handedWith, hopsWith, Demand3}
 use Rattle.run.specs.Step.{Ran}
 use Rattle.run.specs.Alive.{Some, alive}
 use Rattle.run.specs.DrainMoves.{drain-ran}
 use Rattle.run.specs.Stops.{Why, nothing-held, budget-used, ledger-full, drain-why}
 use Rattle.run.specs.Theorem.{torus, no-work, no-packets, run-made, demand3}
+use Rattle.run.specs.Reached.{offer-network, offer-moves}
 
 -- a permitted move's queue holds something
 held-some : (S : Shape) (w : List ℕ) (n q o : ℕ) → Permitted S w n q o → packetsHeld S w ≢ 0
@@ -127,3 +128,54 @@ any-order w calls others e a b =
           let v = none-with (shape w) (run others w .words) l b in
           omega arith;
     }
+
+-- R409: what may come between two steps of a dump: runs and Offers. No Make, which sets the moves made to 0 (R92)
+pub data Event : Type 0 where
+  ran : List Call → Event
+  offered : ℕ → ℕ → ℕ → Event
+
+-- the words after it, and the moves that it makes
+unfoldable pub eventWords : Event → List ℕ → List ℕ
+eventWords (ran calls) w = run calls w .words
+eventWords (offered n destination tag) w = offerWords w n destination tag
+
+unfoldable pub eventMoves : Event → List ℕ → ℕ
+eventMoves (ran calls) w = length (run calls w .moves)
+eventMoves (offered n destination tag) w = 0
+
+-- and the same of any number of them, each on the words as the one before left them
+unfoldable pub laterWords : List Event → List ℕ → List ℕ
+laterWords [] w = w
+laterWords (e ∷ es) w = laterWords es (eventWords e w)
+
+unfoldable pub movesBetween : List Event → List ℕ → ℕ
+movesBetween [] w = 0
+movesBetween (e ∷ es) w = eventMoves e w + movesBetween es (eventWords e w)
+
+-- one of them, refused or not, leaves a network, whose moves made have grown by those that it made
+record Counted (w v : List ℕ) (moves : ℕ) : Type 0 where
+  counts : movesMade v ≡ movesMade w + moves
+  network : networkRefusal v ≡ 0
+
+event-counted : (e : Event) (w : List ℕ) → networkRefusal w ≡ 0 → Counted w (eventWords e w) (eventMoves e w)
+unfolding Demand3 eventWords eventMoves
+event-counted (ran calls) w z =
+    let after = demand3 w calls z in
+    record { counts = after .moves-made; network = after .still-a-network }
+event-counted (offered n destination tag) w z =
+    let m = offer-moves w n destination tag in
+    record { counts = omega arith; network = offer-network w n destination tag z }
+
+-- R409: a stamp is the moves made (R404), so a later one is the earlier one and the moves made in between
+pub stamp-since : (es : List Event) (w : List ℕ) → networkRefusal w ≡ 0 → movesMade (laterWords es w) ≡ movesMade w + movesBetween es w
+unfolding laterWords movesBetween
+stamp-since [] w z = omega arith
+stamp-since (e ∷ es) w z =
+    let c : Counted w (eventWords e w) (eventMoves e w) = event-counted e w z in
+    let now = c .counts in
+    let later = stamp-since es (eventWords e w) (c .network) in
+    omega arith
+
+-- and never below it
+pub stamps-never-fall : (es : List Event) (w : List ℕ) → networkRefusal w ≡ 0 → movesMade w ≤ movesMade (laterWords es w)
+stamps-never-fall es w z = let s = stamp-since es w z in omega arith

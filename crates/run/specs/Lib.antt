@@ -10,5 +10,5 @@ pub mod Alive
 pub mod DrainMoves
 pub mod Theorem
 pub mod Stops
-pub mod Corollaries
 pub mod Reached
+pub mod Corollaries

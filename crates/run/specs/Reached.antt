@@ -6,8 +6,9 @@ use mathlib.Core.Logic.{_≢_}
 use mathlib.Core.Bool.{Bool, true, false, not, _||_}
 use mathlib.Core.List.{List, [], _∷_, _++_}
 use Prim.Native.Nat.{ℕ, suc, _+_, _*_, _-_, _^_, _<_, _≤_}
+use native.Mathlib.Decide.{ℕ-discrete}
 use native.Mathlib.Omega.{arith}
-use borrow.Author.Tests.{eq-eqb, leb-false, eqb-false, ltb-false}
+use borrow.Author.Tests.{eq-eqb, ne-eqb, leb-false, eqb-false, ltb-false}
 use lib.Dec.{T, leb, ltb, eqb}
 use lib.ListN.{length, getD, drop, replicate, length-append, length-replicate, length-drop, getD-replicate, List·getD-append}
 use lib.Seq.{ext-getD, getD-append-add}
@@ -393,6 +394,27 @@ offer-length w n dest tag e =
     let N : Network (shape w) w = network-passed w network in
     let A : Accepting (shape w) w n dest = accepting (shape w) w n dest N rules in
     rw (eq-eqb (offerRefusal w n dest) 0 e) (after-length (shape w) w n dest tag (torus w N) N (A .node) (A .addressed) (A .free) (A .fewer))
+
+-- refused or not, an offer leaves a network where there was one, and makes no move
+pub offer-network : (w : List ℕ) (n dest tag : ℕ) → networkRefusal w ≡ 0 → networkRefusal (offerWords w n dest tag) ≡ 0
+unfolding offerWords
+offer-network w n dest tag z = go (ℕ-discrete (offerRefusal w n dest) 0)
+  where
+    go : Dec (offerRefusal w n dest ≡ 0) → networkRefusal (offerWords w n dest tag) ≡ 0
+    go (yes e) = offer-passes w n dest tag e
+    go (no ne) = rw (ne-eqb (offerRefusal w n dest) 0 ne) z
+
+pub offer-moves : (w : List ℕ) (n dest tag : ℕ) → movesMade (offerWords w n dest tag) ≡ movesMade w
+unfolding offerWords offerRefusal afterOffer after put joined p
+offer-moves w n dest tag = go (ℕ-discrete (offerRefusal w n dest) 0)
+  where
+    go : Dec (offerRefusal w n dest ≡ 0) → movesMade (offerWords w n dest tag) ≡ movesMade w
+    go (yes e) =
+        let (network, rules) = neither (networkRefusal w) (offerRules (shape w) w n dest) e in
+        let N : Network (shape w) w = network-passed w network in
+        let A : Accepting (shape w) w n dest = accepting (shape w) w n dest N rules in
+        rw (eq-eqb (offerRefusal w n dest) 0 e) (after-moves (shape w) w n dest tag (torus w N) N (A .node) (A .addressed) (A .free) (A .fewer))
+    go (no ne) = rw (ne-eqb (offerRefusal w n dest) 0 ne) refl
 
 -- R174: the packet of an offer that is not refused has a hop to make: where it is handed out, it has crossed a link
 pub offer-hops : (w : List ℕ) (n dest tag : ℕ) → offerRefusal w n dest ≡ 0 → hopsLeft (offered (shape w) n dest tag) ≢ 0
