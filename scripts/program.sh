@@ -56,13 +56,105 @@ why_not() {
     fi
 }
 
+# How many crates the program is made of, itself one of them: what crates.txt says that it needs.
+crates_needed() {
+    LC_ALL=C awk -v "program=$name" '
+        function reach(crate,    list, n, k) {
+            if (crate in seen || !(crate in needs)) return
+            seen[crate] = 1
+            all++
+            n = split(needs[crate], list, " ")
+            for (k = 1; k <= n; k++) reach(list[k])
+        }
+        { sub(/#.*/, ""); at = index($0, ":") }
+        at { needs[substr($0, 1, at - 1)] = substr($0, at + 1) }
+        END { reach(program); print all + 0 }' "$root/crates.txt"
+}
+# Says how far the check is: a line where it has come further, and on a terminal one line that changes.
+tell_how_far() { # CRATES SECONDS
+    local proved
+    proved=$(grep -c '^rt: [a-z0-9_]* proved' "$log")
+    if [ -t 2 ]; then
+        printf '\r%s: %s of %s crates proved, %s s' "$name" "$proved" "$1" "$2" >&2
+    elif [ "$proved" != "$proved_before" ]; then
+        echo "$name: $proved of $1 crates proved, $2 s" >&2
+    fi
+    proved_before=$proved
+}
+# The first thing that the prover does not accept, with the lines that belong to it, and the crate that it is in. Where the prover says
+# nothing of that kind, the end of what rt says, without the crates that are proved and those that only wait for another.
+first_error() {
+    LC_ALL=C awk '
+        function cut(s) {
+            if (length(s) <= 400) return s
+            s = substr(s, 1, 400)
+            sub(/[\300-\377][\200-\277]*$/, "", s)
+            return s " .."
+        }
+        /^rt: [a-z0-9_]* proved/ || /^rt: .* NOT PROVED: its dependency / { next }
+        { line[++n] = cut($0) }
+        !from && /(^|: )error[:[]|^note: [^ ]*: it is not proved|^fn .*: no proof/ { from = n }
+        END {
+            to = n
+            if (from) {
+                to = from
+                while (to < from + 5 && line[to + 1] ~ /^[ \t]/) to++
+            } else {
+                from = n > 20 ? n - 19 : 1
+            }
+            for (k = from; k <= to; k++) print line[k]
+            while (k <= n && line[k] !~ /^rt: .* NOT PROVED/) k++
+            if (k <= n) print line[k]
+        }' "$log" >&2
+}
+# Ends the check, the prover and all, and then this script by the same signal, so that its caller sees which it was.
+end_check() { # SIGNAL
+    trap - HUP INT TERM
+    local group=${!:-} tenth
+    if [ -n "$group" ]; then
+        kill -TERM -- "-$group" 2>/dev/null
+        for tenth in {1..30}; do
+            kill -0 -- "-$group" 2>/dev/null || break
+            [ "$tenth" -lt 30 ] || kill -KILL -- "-$group" 2>/dev/null
+            sleep 0.1
+        done
+    fi
+    [ ! -t 2 ] || echo >&2
+    echo "$name: signal $1 has ended the check, so nothing is run; what was proved by then is kept" >&2
+    kill -s "$1" "$$"
+    exit 1
+}
+# rt check NAME, its output to the log. rt starts the prover in the background, where Ctrl-C does not reach it: so the check has a process
+# group of its own, and a signal that ends this script ends that group.
+check() {
+    local began=$SECONDS crates pause=0.1 proved_before=0
+    crates=$(crates_needed)
+    trap 'end_check HUP' HUP
+    trap 'end_check INT' INT
+    trap 'end_check TERM' TERM
+    set -m
+    (cd "$root" && exec rt check "$name") >"$log" 2>&1 </dev/null &
+    set +m
+    while kill -0 "$!" 2>/dev/null; do
+        sleep "$pause"
+        [ $((SECONDS - began)) -lt 2 ] || pause=1
+        tell_how_far "$crates" $((SECONDS - began))
+    done
+    trap - HUP INT TERM
+    [ ! -t 2 ] || echo >&2
+    wait "$!"
+}
 build() { # WHY
-    command -v rt >/dev/null 2>&1 || fail "$1, and the command rt of the Rattle kit, which would build it, is not on the PATH"
+    if ! command -v rt >/dev/null 2>&1; then
+        fail "$1, and the command rt of the Rattle kit, which would build it, is not on the PATH." \
+            "The answers to a sheet can still be had from the independent simulator, of which nothing is proved:" \
+            "cd compare && cargo run -q --release --offline --bin sheet < FILE"
+    fi
     echo "$name: $1; building it: rt check $name (from nothing that takes some minutes)" >&2
     local began=$SECONDS from
-    from=$(sources) && mkdir -p "$root/target" && rm -f "$stamp" || fail "cannot write to $root/target"
-    if ! (cd "$root" && rt check "$name") >"$log" 2>&1 </dev/null; then
-        tail -n 20 "$log" >&2
+    from=$(sources) && mkdir -p "$root/target" && rm -f "$stamp" && : >"$log" || fail "cannot write to $root/target"
+    if ! check; then
+        first_error
         fail "the check failed, so nothing is run: rt check $name, its output is in target/$name.log"
     fi
     [ -x "$program" ] || fail "rt check $name left no program at $program"
