@@ -9,6 +9,7 @@ pub mod Layout
 pub mod LayoutLaws
 pub mod Check
 pub mod CheckLaws
+pub mod SameWords
 pub mod Routes
 pub mod RoutesLaws
 pub mod Selection
