@@ -1,5 +1,5 @@
--- Laws of Outs.antt. Order: a Drain that is not refused; what bench_look writes, test by test; that its two numbers say where the part
--- stands that Look gives back. Assumes nothing.
+-- Laws of Outs.antt. Order: what bench_look writes, test by test; that its two numbers say where the part stands that Look gives back. Assumes
+-- nothing.
 use mathlib.Core.Path.{_≡_, refl, ap, ap₂, sym, _∙_}
 use mathlib.Core.Logic.{_≢_}
 use mathlib.Core.List.{List, [], _∷_}
@@ -7,18 +7,12 @@ use Prim.Native.Nat.{ℕ, _+_, _-_}
 use native.Mathlib.Omega.{arith}
 use borrow.Author.Tests.{eq-eqb, ne-eqb}
 use lib.ListN.{length, take, drop, getD}
-use Rattle.network.specs.declared.Stop.{Stop}
-use Rattle.network.specs.declared.Drained.{Drained}
 use Rattle.network.specs.Sizes.{Shape}
 use Rattle.network.specs.Layout.{shape, queueStart, held}
 use Rattle.network.specs.Refusals.{lookRefusal}
-use Rattle.network.specs.Calls.{lookPart, lookAt, drainedMoves, drainedDelivered, drainedStop}
+use Rattle.network.specs.Calls.{lookPart, lookAt}
 use Rattle.calls.specs.Returns.{looking, held-part, look-shown}
-use Rattle.bench_c.specs.Outs.{lookOut, stopNumber, drainedOut}
-
-pub drained-told : (answer : Drained) (m d why : ℕ) (s : Stop) → answer ≡ Drained.Stopped m d s → why ≡ stopNumber s → (m ∷ d ∷ why ∷ []) ≡ drainedOut answer
-unfolding drainedOut drainedMoves drainedDelivered drainedStop
-drained-told answer m d why s e ew = ap (λ (k : ℕ). m ∷ d ∷ k ∷ []) ew ∙ sym (ap drainedOut e)
+use Rattle.bench_c.specs.Outs.{lookOut}
 
 pub look-cleared : (w : List ℕ) (n q : ℕ) → lookRefusal w n q ≢ 0 → (0 ∷ 0 ∷ []) ≡ lookOut w n q
 unfolding lookOut lookPart

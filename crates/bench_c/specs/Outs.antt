@@ -35,18 +35,16 @@ foundOut f = length (foundMove f) ∷ values (foundMove f)
     values [] = 0 ∷ 0 ∷ 0 ∷ []
     values (m ∷ _) = m .node ∷ m .queue ∷ m .output ∷ []
 
-unfoldable pub stopNumber : Stop → ℕ
-stopNumber Stop.Emptied = 0
-stopNumber Stop.Spent = 1
-stopNumber Stop.Full = 2
+-- of the stop that is named, if one is
+unfoldable pub stopNumber : List Stop → ℕ
+stopNumber [] = 0
+stopNumber (Stop.Emptied ∷ _) = 0
+stopNumber (Stop.Spent ∷ _) = 1
+stopNumber (Stop.Full ∷ _) = 2
 
 -- the moves made, the number delivered, why it stopped
 unfoldable pub drainedOut : Drained → List ℕ
-drainedOut d = drainedMoves d ∷ drainedDelivered d ∷ number (drainedStop d) ∷ []
-  where
-    number : List Stop → ℕ
-    number [] = 0
-    number (s ∷ _) = stopNumber s
+drainedOut d = drainedMoves d ∷ drainedDelivered d ∷ stopNumber (drainedStop d) ∷ []
 
 -- the bytes of the step
 unfoldable pub writtenOut : Written → List ℕ

@@ -4,10 +4,13 @@ use network::Drained;
 use network::Found;
 use network::Moved;
 use network::Stop;
+use network::drained_delivered;
+use network::drained_moves;
+use network::drained_number;
 use waveform::StepRead;
 use waveform::Written;
 ghost use mathlib.Core.Path.{_≡_};
-ghost use Rattle.network.specs.Calls.{movedNumber, creditNumber, foundNumber, drainedNumber};
+ghost use Rattle.network.specs.Calls.{movedNumber, creditNumber, foundNumber, drainedNumber, drainedStop};
 ghost use Rattle.waveform.specs.Calls.{writtenNumber, readNumber};
 ghost use Rattle.bench_c.specs.Outs.{movedOut, creditOut, foundOut, stopNumber, drainedOut, writtenOut, readOut};
 
@@ -71,13 +74,21 @@ pub fn found(out: &mut [u64; 4], f: Found) -> u64
     }
 }
 
-pub fn stop_number(s: Stop) -> u64
-    ensures { λ r. ⌜ r ≡ stopNumber s ⌝ }
+// Why it stopped. A refused Drain has no stop, and its number is that of emptied (D61).
+pub fn stop_number(d: Drained) -> u64
+    ensures { λ r. ⌜ r ≡ stopNumber (drainedStop d) ⌝ }
 {
-    match s {
-        Stop::Emptied => 0,
-        Stop::Spent => 1,
-        Stop::Full => 2,
+    match d {
+        Drained::Refused(_) => 0,
+        Drained::Stopped {
+            moves: _,
+            delivered: _,
+            stop,
+        } => match stop {
+            Stop::Emptied => 0,
+            Stop::Spent => 1,
+            Stop::Full => 2,
+        },
     }
 }
 
@@ -85,21 +96,11 @@ pub fn drained(out: &mut [u64; 3], d: Drained) -> u64
     ensures answer { λ r. ⌜ r ≡ drainedNumber d ⌝ }
     ensures out { λ _. ⌜ now (out .exit) ≡ drainedOut d ⌝ }
 {
-    match d {
-        Drained::Refused(r) => {
-            *out = [0, 0, 0];
-            r
-        }
-        Drained::Stopped {
-            moves: m,
-            delivered: n,
-            stop: s,
-        } => {
-            let why = stop_number(s);
-            *out = [m, n, why];
-            0
-        }
-    }
+    let moves = drained_moves(d);
+    let delivered = drained_delivered(d);
+    let why = stop_number(d);
+    *out = [moves, delivered, why];
+    drained_number(d)
 }
 
 pub fn written(out: &mut [u64; 1], w: Written) -> u64

@@ -1,8 +1,9 @@
 // What all crates share: the sizes of a network, every number that a rule of docs/RULES.md fixes (R5 in a comment is that clause), the
 // sign of an offset, and the answers of the calls. specs/ has the definitions: Sizes.antt, Layout.antt, Check.antt and Refusals.antt those
-// of the numbers, under the same names, Selection.antt what follows from a sign, and Calls.antt when a call gives which answer.
+// of the numbers, under the same names, Selection.antt what follows from a sign, and Calls.antt when a call gives which answer, and what is read of it.
 ghost use mathlib.Core.Path.{_≡_};
 ghost use Rattle.network.specs.Sizes.{sized};
+ghost use Rattle.network.specs.Calls.{drainedNumber, drainedMoves, drainedDelivered};
 
 // R20, R25: the nodes along x, y and z, and the slots of a queue of each kind: the sizes of a network, in the order of its first words.
 pub struct Sizes {
@@ -172,4 +173,45 @@ pub enum Drained {
         delivered: u64,
         stop: Stop,
     },
+}
+
+// What is read of a Drain's answer: by which rule it is refused, or 0; the moves that it made; and the packets that it delivered. A refused one made none
+// and delivered none.
+pub fn drained_number(answer: Drained) -> u64
+    ensures { λ r. ⌜ r ≡ drainedNumber answer ⌝ }
+{
+    match answer {
+        Drained::Refused(refusal) => refusal,
+        Drained::Stopped {
+            moves: _,
+            delivered: _,
+            stop: _,
+        } => 0,
+    }
+}
+
+pub fn drained_moves(answer: Drained) -> u64
+    ensures { λ r. ⌜ r ≡ drainedMoves answer ⌝ }
+{
+    match answer {
+        Drained::Refused(_) => 0,
+        Drained::Stopped {
+            moves,
+            delivered: _,
+            stop: _,
+        } => moves,
+    }
+}
+
+pub fn drained_delivered(answer: Drained) -> u64
+    ensures { λ r. ⌜ r ≡ drainedDelivered answer ⌝ }
+{
+    match answer {
+        Drained::Refused(_) => 0,
+        Drained::Stopped {
+            moves: _,
+            delivered,
+            stop: _,
+        } => delivered,
+    }
 }

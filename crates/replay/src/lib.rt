@@ -1,7 +1,8 @@
 // A sheet replayed as a dump (R423, R424): what a command does to the store, and the step that shows it, written onto a lent page. A D is
 // replayed move by move, so that each of its moves is a step of its own. Order: a step; a command at once; a move of a D.
-use network::Drained;
 use network::Moved;
+use network::drained_delivered;
+use network::drained_moves;
 use network::sized;
 use sheet::Command;
 use waveform::Written;
@@ -9,7 +10,7 @@ ghost use mathlib.Core.Path.{_≡_};
 ghost use Prim.Native.Nat.{_≤_};
 ghost use lib.Dec.{eqb};
 ghost use lib.ListN.{length};
-ghost use Rattle.network.specs.Calls.{movedNumber, drainedMoves};
+ghost use Rattle.network.specs.Calls.{movedNumber};
 ghost use Rattle.waveform.specs.Calls.{writtenLength};
 ghost use Rattle.replay.specs.Replay.{shown, shownIf, carriedOut, changed, beginsDump, commandShown, movesAsked, oneWord, movedOn, makesMove, roomLeft, moveShown};
 
@@ -165,20 +166,6 @@ fn one_word(room: usize) -> usize
     1
 }
 
-// The moves that a Drain made.
-fn moves_of(answer: Drained) -> u64
-    ensures { λ r. ⌜ r ≡ drainedMoves answer ⌝ }
-{
-    match answer {
-        Drained::Refused(_) => 0,
-        Drained::Stopped {
-            moves,
-            delivered: _,
-            stop: _,
-        } => moves,
-    }
-}
-
 // R423: one move of a D that has so many words of its ledger left, with the step that shows it.
 pub fn drain_move(store: &mut [u64], room: usize, fills: &mut [u8], page: &mut [u8]) -> Replayed
     ensures store { λ _. ⌜ now (store .exit) ≡ movedOn (now (store .entry)) room ⌝ }
@@ -190,8 +177,8 @@ pub fn drain_move(store: &mut [u64], room: usize, fills: &mut [u8], page: &mut [
     let mut ledger = [0u64; 1];
     let words = one_word(room);
     let answer = calls::drain(store, 1, &mut ledger[..words]);
-    let moved = moves_of(answer) != 0;
-    let left = room - writer::delivered_by(answer);
+    let moved = drained_moves(answer) != 0;
+    let left = room - drained_delivered(answer) as usize;
     let bytes = show(moved, false, store, fills, page);
     Replayed {
         moved: moved,

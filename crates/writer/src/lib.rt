@@ -7,6 +7,7 @@ use network::Drained;
 use network::Moved;
 use network::Stop;
 use network::TAG_AT;
+use network::drained_delivered;
 ghost use mathlib.Core.Path.{_≡_};
 ghost use Prim.Native.Nat.{_+_, _*_, _≤_};
 ghost use lib.ListN.{length};
@@ -108,27 +109,13 @@ fn put_drain(out: &mut [u8], at: usize, answer: Drained) -> usize
     }
 }
 
-// The number of packets that a Drain delivered.
-pub fn delivered_by(answer: Drained) -> usize
-    ensures { λ r. ⌜ r ≡ drainedDelivered answer ⌝ }
-{
-    match answer {
-        Drained::Refused(_) => 0,
-        Drained::Stopped {
-            moves: _,
-            delivered,
-            stop: _,
-        } => delivered as usize,
-    }
-}
-
 // What a Drain prints: the packets that it delivered, which are the first words of the ledger, then its own line.
 pub fn put_drained(out: &mut [u8], at: usize, answer: Drained, ledger: &[u64]) -> usize
     requires { ⌜ drainedDelivered answer ≤ length (now ledger) ⌝ }
     requires { ⌜ at + packetRoom * length (now ledger) + drainRoom ≤ length (now out) ⌝ }
     ensures { λ r. ⌜ Put (now (out .entry)) at (drainedLines answer (now (ledger .entry))) (now (out .exit)) r ⌝ }
 {
-    let delivered = delivered_by(answer);
+    let delivered = drained_delivered(answer) as usize;
     let next = put_packets(out, at, &ledger[..delivered]);
     put_drain(out, next, answer)
 }

@@ -46,7 +46,7 @@ sub-left c =
     let few = word-most room .1 in
     let within : drainedDelivered (drain .drain .result) ≤ oneWord room
     = rw (drain .drain .ensures .0, lent word) (delivered-within _ _ (oneWord room)) in
-    let e = c .delivered-by .ensures in
+    let e = c .drained-delivered .ensures in
     omega arith
 
 -- what a Drain of one move answers, leaves and shows
@@ -77,8 +77,8 @@ returns c =
     let moves = delivered .before in
     let drain = moves .before .before .before .before in
     let word = drain .before .before .before in
-    one-move _ (word .before .before .before .before .args .room) _ _ _ _ _ _ _ (shown _ _ _) (lent word) (drain .drain .ensures .0) (drain .drain .ensures .1 .0) (moves .moves-of .ensures)
-    (delivered .delivered-by .ensures) (show .show .ensures)
+    one-move _ (word .before .before .before .before .args .room) _ _ _ _ _ _ _ (shown _ _ _) (lent word) (drain .drain .ensures .0) (drain .drain .ensures .1 .0) (moves .drained-moves .ensures)
+    (delivered .drained-delivered .ensures) (show .show .ensures)
 
 pub drain-move-spec : {M : Type 1} → statement M
 drain-move-spec =

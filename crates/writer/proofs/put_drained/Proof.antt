@@ -12,22 +12,22 @@ use Rattle.writer.proofs.put_drained.Statement.{statement}
 use Rattle.writer.proofs.put_drained.Tie as tie
 
 -- from where the number of packets is known
-within : (d : tie.After-delivered-by) → d .delivered-by .result ≤ length (d .before .before .before .args .ledger .now)
+within : (d : tie.After-drained-delivered) → d .drained-delivered .result ≤ length (d .before .before .before .args .ledger .now)
 within d = omega arith
 
-words : (d : tie.After-delivered-by) (i : ℕ) → getD (d .before .before .before .args .ledger .now) i 0 < 2 ^ 64
+words : (d : tie.After-drained-delivered) (i : ℕ) → getD (d .before .before .before .args .ledger .now) i 0 < 2 ^ 64
 words d i = d .before .shared-slice-known .given i .fits
 
-room : (d : tie.After-delivered-by)
-    → Room (d .before .before .before .args .out .now) (d .before .before .before .args .at) (packetLines (take (d .delivered-by .result) (d .before .before .before .args .ledger .now)))
+room : (d : tie.After-drained-delivered)
+    → Room (d .before .before .before .args .out .now) (d .before .before .before .args .at) (packetLines (take (d .drained-delivered .result) (d .before .before .before .args .ledger .now)))
 room d =
     let s = d .before .before .before in
-    packets-room (s .args .out .now) (s .args .at) (s .args .ledger .now) (d .delivered-by .result) (words d) (within d) (s .pre .1)
+    packets-room (s .args .out .now) (s .args .at) (s .args .ledger .now) (d .drained-delivered .result) (words d) (within d) (s .pre .1)
 
 slice-aggregate-put-packets : tie.Need-slice-aggregate-put-packets
 slice-aggregate-put-packets c =
     let d = c .before .before in
-    sym (length-take-le (d .delivered-by .result) (d .before .before .before .args .ledger .now) (within d))
+    sym (length-take-le (d .drained-delivered .result) (d .before .before .before .args .ledger .now) (within d))
 
 put-packets-requires : tie.Need-put-packets-requires
 put-packets-requires c κs = room (c .before .before)
@@ -37,7 +37,7 @@ put-drain-requires c κs =
     let packets = c .before .before .before in
     let d = packets .before .before .before in
     let s = d .before .before .before in
-    drain-room (s .args .out .now) (s .args .at) (s .args .ledger .now) (d .delivered-by .result) (words d) (within d) (s .pre .1) (packets .put-packets .ensures)
+    drain-room (s .args .out .now) (s .args .at) (s .args .ledger .now) (d .drained-delivered .result) (words d) (within d) (s .pre .1) (packets .put-packets .ensures)
 
 returns : tie.Need-returns
 unfolding drainedLines
@@ -45,7 +45,7 @@ returns c =
     let line = c .before .before in
     let packets = line .before .before .before .before in
     let d = packets .before .before .before in
-    rw (sym (d .delivered-by .ensures)) (put-behind (packets .put-packets .ensures) (line .put-drain .ensures) (room d))
+    rw (sym (d .drained-delivered .ensures)) (put-behind (packets .put-packets .ensures) (line .put-drain .ensures) (room d))
 
 pub put-drained-spec : {M : Type 1} → statement M
 put-drained-spec =

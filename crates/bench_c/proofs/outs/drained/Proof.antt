@@ -1,22 +1,19 @@
--- `bench_c::outs::drained` meets its contract: each case of the answer by its definition. Assumes nothing.
+-- `bench_c::outs::drained` meets its contract: each word by the reader of the answer that gives it. Assumes nothing.
 use borrow.Author.Needs.{needs}
-use mathlib.Core.Path.{ap, sym}
-use Rattle.network.specs.Calls.{drainedNumber, drainedMoves, drainedDelivered, drainedStop}
+use mathlib.Core.Path.{refl}
 use Rattle.bench_c.specs.Outs.{drainedOut}
-use Rattle.bench_c.specs.OutLaws.{drained-told}
 use Rattle.bench_c.proofs.outs.drained.Statement.{statement}
 use Rattle.bench_c.proofs.outs.drained.Tie as tie
 
 returns : tie.Need-returns
-unfolding drainedNumber drainedMoves drainedDelivered drainedStop drainedOut
-returns c = let e = c .before .before .d .given .1 in (sym (ap drainedNumber e), sym (ap drainedOut e))
-
-returns-2 : tie.Need-returns-2
-unfolding drainedNumber
-returns-2 c =
-    let e = c .before .before .before .d2 .given .1 in
-    (sym (ap drainedNumber e), drained-told _ _ _ _ _ e (c .before .stop-number .ensures))
+unfolding drainedOut
+returns c =
+    let stop = c .before .before in
+    let moves = stop .before .before .drained-moves .ensures in
+    let delivered = stop .before .drained-delivered .ensures in
+    let why = stop .stop-number .ensures in
+    (c .drained-number .ensures, rw (← moves, ← delivered, ← why) refl)
 
 pub drained-spec : {M : Type 1} → statement M
 drained-spec =
-    tie.close (tie.spec (λ c. search needs) (λ c. search needs) (λ c κs. search needs) returns returns-2)
+    tie.close (tie.spec (λ c κs. search needs) (λ c κs. search needs) (λ c κs. search needs) (λ c κs. search needs) returns)
