@@ -5,6 +5,7 @@
 
 use checker::Opened;
 use network::Credit;
+use network::DELIVER;
 use network::Drained;
 use network::Found;
 use network::Moved;
@@ -76,7 +77,7 @@ pub fn move_packet(words: &mut [u64], node: u64, queue: u64, output: u64) -> Mov
                 return Moved::Refused(barred);
             }
             let p = changes::make_move(words, s, node, queue, output);
-            if output == 0 {
+            if output == DELIVER {
                 return Moved::Delivered(p);
             }
             Moved::Passed

@@ -1,10 +1,12 @@
 // The changes that Make, Offer and Move make to the lent words once no rule refuses them. None of them can fail: what each
 // asks is what the tests before it have shown. Every function leaves exactly the words of the definition that it names.
 use network::ACCEPTED_AT;
+use network::DELIVER;
 use network::DELIVERED_AT;
-use network::DIRECTIONS;
+use network::INJECTION_QUEUE;
 use network::MOVES_AT;
 use network::Sizes;
+use network::direction_of;
 ghost use mathlib.Core.Path.{_≡_};
 ghost use mathlib.Core.List.{_++_};
 ghost use mathlib.Core.Logic.{_≢_};
@@ -12,7 +14,7 @@ ghost use Prim.Native.Nat.{_-_, _^_, _<_, _≤_};
 ghost use lib.Dec.{T};
 ghost use lib.ListN.{length, getD, drop};
 ghost use Rattle.network.specs.Sizes.{shapeOf, sizesInRange, nodes, capacity, injectionQueue};
-ghost use Rattle.network.specs.Routes.{target};
+ghost use Rattle.network.specs.Routes.{deliver, target};
 ghost use Rattle.network.specs.Layout.{need, held, raised};
 ghost use Rattle.network.specs.CheckLaws.{Network};
 ghost use Rattle.network.specs.Refusals.{head};
@@ -66,7 +68,7 @@ pub fn accept(words: &mut [u64], s: Sizes, n: u64, destination: u64, tag: u32)
     ensures { λ _. ⌜ now (words .exit) ≡ afterOffer (shapeOf s) (now (words .entry)) n destination tag ⌝ }
 {
     let p = packet::offered(s, n, destination, tag);
-    queue::push(words, s, n, 0, p);
+    queue::push(words, s, n, INJECTION_QUEUE, p);
     raise(words, ACCEPTED_AT);
 }
 
@@ -78,10 +80,10 @@ pub fn make_move(words: &mut [u64], s: Sizes, n: u64, q: u64, o: u64) -> u64
     ensures words { λ _. ⌜ now (words .exit) ≡ afterMove (shapeOf s) (now (words .entry)) n q o ⌝ }
     ensures head { λ r. ⌜ r ≡ head (held (shapeOf s) (now (words .entry)) n q) ⌝ }
 {
-    if o == 0 {
+    if o == DELIVER {
         return move_to(words, s, n, q, o, n);
     }
-    let there = torus::neighbour(s, (o - 1) % DIRECTIONS, n);
+    let there = torus::neighbour(s, direction_of(o), n);
     move_to(words, s, n, q, o, there)
 }
 
@@ -89,17 +91,17 @@ pub fn make_move(words: &mut [u64], s: Sizes, n: u64, q: u64, o: u64) -> u64
 pub fn move_to(words: &mut [u64], s: Sizes, n: u64, q: u64, o: u64, there: u64) -> u64
     requires { ⌜ Network (shapeOf s) (now words) ⌝ }
     requires { ⌜ Permitted (shapeOf s) (now words) n q o ⌝ }
-    requires { ⌜ (o ≢ 0 → there ≡ target (shapeOf s) n o) ⌝ }
+    requires { ⌜ (o ≢ deliver → there ≡ target (shapeOf s) n o) ⌝ }
     ensures words { λ _. ⌜ now (words .exit) ≡ afterMove (shapeOf s) (now (words .entry)) n q o ⌝ }
     ensures head { λ r. ⌜ r ≡ head (held (shapeOf s) (now (words .entry)) n q) ⌝ }
 {
     let p = queue::pop(words, s, n, q);
-    if o == 0 {
+    if o == DELIVER {
         raise(words, DELIVERED_AT);
         raise(words, MOVES_AT);
         return p;
     }
-    let hopped = packet::hop((o - 1) % DIRECTIONS / 2, p);
+    let hopped = packet::hop(direction_of(o) / 2, p);
     queue::push(words, s, there, o, hopped);
     raise(words, MOVES_AT);
     p

@@ -3,13 +3,13 @@
 use dump_text::TWO;
 use dump_text::put_variable;
 use dump_text::starts_with;
-use fields::TEN;
 use network::BAD_LINE;
 use network::QUEUES;
 use network::SHORT_PAGE;
 use reader::Number;
 use reader::field_end;
 use reader::read_number;
+use sheet::TEN;
 use waveform::MOST_VARIABLES;
 use waveform::Names;
 use waveform::StepRead;

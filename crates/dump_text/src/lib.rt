@@ -1,10 +1,10 @@
 // The lines of a dump (R402 to R405), written into a lent page, and how long they are; the caller sees that there is room. And bytes compared.
-use fields::TEN;
 use fields::number_length;
 use fields::put_byte;
 use fields::put_bytes;
 use fields::put_number;
 use network::QUEUES;
+use sheet::TEN;
 ghost use mathlib.Core.Path.{_≡_};
 ghost use Prim.Native.Nat.{_<_, _≤_};
 ghost use lib.ListN.{length, drop};

@@ -1,15 +1,13 @@
 // The fields of a line that is printed, and its end, written into a lent buffer. Each function puts bytes at a place and gives the place
 // behind them; the caller sees that there is room.
 use network::Stop;
+use sheet::TEN;
 ghost use Prim.Native.Nat.{_≤_};
 ghost use lib.ListN.{length};
 ghost use mathlib.Core.Path.{_≡_};
 ghost use mathlib.Core.List.{[], _∷_};
 ghost use Rattle.sheet.specs.Text.{comma, cr, lf};
 ghost use Rattle.sheet.specs.Output.{numeral, decimal, fieldsAndEnd, stopWord, Room, Put};
-
-// The base of the numbers of a sheet.
-pub const TEN: u64 = 10;
 
 // One byte.
 pub fn put_byte(out: &mut [u8], at: usize, b: u8) -> usize

@@ -1,10 +1,12 @@
 // The flow rule (R150 to R152), on words that have passed the check: the target of an output, its free slots, and how many a move needs. The
 // contracts say each answer by the definitions of the crate `network` (specs/Routes.antt, Refusals.antt).
 use near::look_up;
+use network::DELIVER;
 use network::DIRECTIONS;
 use network::NO_BUBBLE;
 use network::NO_SLOT;
 use network::Sizes;
+use network::direction_of;
 use queue::capacity;
 use queue::held_count;
 use torus::neighbour;
@@ -22,7 +24,7 @@ pub fn target(s: Sizes, n: u64, o: u64) -> u64
     requires { ⌜ T (sizesInRange (shapeOf s)) × (n < nodes (shapeOf s)) × (0 < o) × (o < queues) ⌝ }
     ensures { λ r. ⌜ r ≡ target (shapeOf s) n o ⌝ }
 {
-    neighbour(s, (o - 1) % DIRECTIONS, n)
+    neighbour(s, direction_of(o), n)
 }
 
 // The slots that are free in the target of output o, which is no delivery.
@@ -55,7 +57,7 @@ pub fn flow_rules(words: &[u64], s: Sizes, n: u64, q: u64, o: u64, p: u64) -> u6
     requires { ⌜ QueueOf (shapeOf s) (now words) n o ⌝ }
     ensures { λ r. ⌜ r ≡ flowRules (shapeOf s) (now (words .entry)) n q o p ⌝ }
 {
-    if o == 0 {
+    if o == DELIVER {
         return 0;
     }
     let free = free_slots(words, s, n, o);
@@ -75,10 +77,10 @@ pub fn may_flow(words: &[u64], s: Sizes, near: &[u16], n: u64, q: u64, o: u64, p
     requires { ⌜ Near (shapeOf s) (now near) ⌝ }
     ensures { λ r. ⌜ r ≡ eqb (flowRules (shapeOf s) (now (words .entry)) n q o p) 0 ⌝ }
 {
-    if o == 0 {
+    if o == DELIVER {
         return true;
     }
-    let there = look_up(near, (o - 1) % DIRECTIONS, n);
+    let there = look_up(near, direction_of(o), n);
     let slots = capacity(s, o);
     let held = held_count(words, s, there, o);
     held + slots_needed(q, o, p) <= slots

@@ -1,5 +1,5 @@
 -- The routes of a head as facts: which outputs are routes, and that a head always has an escape route or is delivered; what is free in a target, and what
--- a packet needs there. Order: headings; the routes; free slots; slots needed. Assumes nothing.
+-- a packet needs there. Order: headings; the routes; a target; free slots; slots needed. Assumes nothing.
 use mathlib.Core.Path.{_≡_, refl, ap, sym, _∙_}
 use mathlib.Core.Logic.{_⊎_, inl, inr, _≢_}
 use mathlib.Core.Bool.{Bool, true, false, cond, not, _&&_, _||_}
@@ -15,6 +15,7 @@ use Rattle.base.specs.Tests.{elem, or-e, or-l, or-r, elem-append-r}
 use Rattle.network.specs.Sizes.{Shape, capacity, dimensions, directions, dimensionOf, directionOf, adaptiveQueue, escapeQueue}
 use Rattle.network.specs.Packet.{distance, heading, hopsLeft}
 use Rattle.base.specs.Sums.{sumBelow, sum-zero}
+use Rattle.network.specs.Torus.{neighbour}
 use Rattle.network.specs.Layout.{held, load, taken}
 use Rattle.network.specs.LayoutLaws.{load-one, load-pos, load-escape, taken-length}
 use Rattle.network.specs.Routes.{inOrder, without, incoming, incomingFirst, headings, routes, deliver, target, freeSlots, entersRing, slotsNeeded}
@@ -275,6 +276,11 @@ escape-route q p ne = go (lowest 0 dimensions p)
       where
         below : (i : ℕ) → i < dimensions → i < 0 + dimensions
         below i h = omega arith
+
+-- the node of a target is the neighbour in the direction of the output
+pub target-is : (S : Shape) (n o d r : ℕ) → d ≡ directionOf o → r ≡ neighbour S d n → r ≡ target S n o
+unfolding target
+target-is S n o d r e h = h ∙ ap (λ (k : ℕ). neighbour S k n) e
 
 -- the free slots of a target, by what is taken of it, and by the number that it holds
 pub free-slots-is : (S : Shape) (w : List ℕ) (n o : ℕ) → freeSlots S w n o ≡ capacity S o - taken S w (target S n o) o

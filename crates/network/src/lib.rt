@@ -2,7 +2,8 @@
 // sign of an offset, and the answers of the calls. specs/ has the definitions: Sizes.antt, Layout.antt, Check.antt and Refusals.antt those
 // of the numbers, under the same names, Selection.antt what follows from a sign, and Calls.antt when a call gives which answer, and what is read of it.
 ghost use mathlib.Core.Path.{_≡_};
-ghost use Rattle.network.specs.Sizes.{sized};
+ghost use Prim.Native.Nat.{_<_};
+ghost use Rattle.network.specs.Sizes.{sized, directionOf};
 ghost use Rattle.network.specs.Calls.{drainedNumber, drainedMoves, drainedDelivered};
 
 // R20, R25: the nodes along x, y and z, and the slots of a queue of each kind: the sizes of a network, in the order of its first words.
@@ -37,9 +38,22 @@ pub const DIRECTIONS: u64 = 6;
 
 pub const QUEUES: u64 = 13;
 
+pub const INJECTION_QUEUE: u64 = 0;
+
 pub const FIRST_ADAPTIVE: u64 = 1;
 
 pub const FIRST_ESCAPE: u64 = 7;
+
+// R106, R107: an output has the number of the queue that it leads to; none leads to an injection queue, and that number is the delivery.
+pub const DELIVER: u64 = 0;
+
+// R37, R107: the direction of a transit queue, and of the output that leads to it.
+pub fn direction_of(q: u64) -> u64
+    requires { ⌜ 0 < q ⌝ }
+    ensures { λ r. ⌜ r ≡ directionOf q ⌝ }
+{
+    (q - 1) % DIRECTIONS
+}
 
 // R21 to R24: the ranges of the sizes. Every ring and every queue has at least one node or slot, an escape queue two.
 pub const LARGEST_RING: u64 = 16;

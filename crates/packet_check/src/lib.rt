@@ -3,10 +3,12 @@
 // tables, which are filled once for a check. Order: the offsets that pass in a queue; the tables; a packet.
 use network::DIMENSIONS;
 use network::DIRECTIONS;
+use network::INJECTION_QUEUE;
 use network::LARGEST_RING;
 use network::OFFSET_VALUES;
 use network::QUEUES;
 use network::Sizes;
+use network::direction_of;
 use packet::HALF_OFFSETS;
 use packet::offset_field;
 use torus::Place;
@@ -43,10 +45,10 @@ fn passing(s: Sizes, q: u64, i: u64) -> u64
     ensures { λ r. ⌜ r ≡ passing (shapeOf s) q i ⌝ }
 {
     let half = size(s, i) / 2;
-    if q == 0 {
+    if q == INJECTION_QUEUE {
         return row(half + 1, half + 1);
     }
-    let own = (q - 1) % DIRECTIONS;
+    let own = direction_of(q);
     if own == 2 * i {
         return row(half, 1);
     }

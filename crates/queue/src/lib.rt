@@ -5,6 +5,7 @@ use network::DIRECTIONS;
 use network::FIRST_ADAPTIVE;
 use network::FIRST_ESCAPE;
 use network::HEADER_WORDS;
+use network::INJECTION_QUEUE;
 use network::QUEUES;
 use network::Sizes;
 ghost use mathlib.Core.Path.{_≡_};
@@ -76,7 +77,7 @@ pub fn remove_at(words: &mut [u64], start: usize, end: usize) -> u64
 pub fn capacity(s: Sizes, q: u64) -> u64
     ensures { λ r. ⌜ r ≡ capacity (shapeOf s) q ⌝ }
 {
-    if q == 0 {
+    if q == INJECTION_QUEUE {
         return s.injection;
     }
     if DIRECTIONS < q {

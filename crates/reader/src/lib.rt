@@ -1,6 +1,7 @@
 // A line read as a command: the numbers of its fields, then the command of its letter.
 use lines::LINE_LIMIT;
 use sheet::Command;
+use sheet::TEN;
 ghost use mathlib.Core.Path.{_≡_};
 ghost use mathlib.Core.List.{List};
 ghost use Prim.Native.Nat.{ℕ, _+_, _≤_};
@@ -13,8 +14,6 @@ pub enum Number {
     Value(u64),
     Nothing,
 }
-
-const TEN: u64 = 10;
 
 const LARGEST_NUMBER: u64 = 4294967295;
 

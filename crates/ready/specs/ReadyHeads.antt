@@ -11,7 +11,7 @@ use native.Mathlib.Omega.{arith}
 use borrow.Author.Tests.{eq-eqb, ne-eqb, lt-ltb, ltb-true, eqb-false}
 use lib.Dec.{eqb, ltb}
 use Rattle.network.specs.declared.Found.{Found}
-use Rattle.network.specs.Sizes.{Shape, nodes, queues, directions, mostNodes}
+use Rattle.network.specs.Sizes.{Shape, nodes, queues, directions, directionOf, mostNodes}
 use Rattle.network.specs.Torus.{neighbour}
 use Rattle.network.specs.TorusLaws.{Torus, neighbour-lt}
 use Rattle.network.specs.Check.{opposite}
@@ -193,13 +193,9 @@ direction-back d = go (ℕ-discrete (d % 2) 0)
 pub neighbour-node : (S : Shape) (d n r : ℕ) → Torus S → n < nodes S → d < directions → r ≡ neighbour S d n → r < nodes S
 neighbour-node S d n r tor h hd e = let a : neighbour S d n < nodes S = neighbour-lt S d n tor hd h in omega arith
 
-pub target-is : (S : Shape) (n o r : ℕ) → r ≡ neighbour S ((o - 1) % directions) n → r ≡ target S n o
-unfolding target
-target-is S n o r e = e
-
-pub before-is : (S : Shape) (n q r : ℕ) → r ≡ neighbour S ((q - 1) % directions / 2 * 2 + (1 - (q - 1) % directions % 2)) n → r ≡ before S n q
+pub before-is : (S : Shape) (n q d r : ℕ) → d ≡ directionOf q → r ≡ neighbour S (d / 2 * 2 + (1 - d % 2)) n → r ≡ before S n q
 unfolding before
-before-is S n q r e = e ∙ ap (λ (d : ℕ). neighbour S d n) (direction-back ((q - 1) % directions))
+before-is S n q d r e h = h ∙ ap (λ (k : ℕ). neighbour S k n) (direction-back d ∙ ap opposite e)
 
 -- the search through the set goes on upwards: the lowest head left is above the one that was taken out
 pub lowest-rises : (set after : List ℕ) (h r : ℕ) → Lowest set h → Removed set after h → Lowest after r → h < heads → h < r

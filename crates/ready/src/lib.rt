@@ -1,8 +1,10 @@
 // The set of heads that may have a permitted move (specs/ReadyHeads.antt), as a Drain keeps it: what a move adds to it, and First's move found from it. The
 // set is words of the crate `headset`; the neighbours come out of a table (crate `near`).
-use network::DIRECTIONS;
+use network::DELIVER;
 use network::Found;
+use network::INJECTION_QUEUE;
 use network::Sizes;
+use network::direction_of;
 ghost use mathlib.Core.Path.{_≡_};
 ghost use Prim.Native.Nat.{_<_};
 ghost use lib.Dec.{T};
@@ -29,10 +31,10 @@ fn mark_arrival(ready: &mut [u64], s: Sizes, near: &[u16], n: u64, o: u64)
     requires { ⌜ Near (shapeOf s) (now near) ⌝ }
     ensures { λ _. ⌜ ArrivalMarked (shapeOf s) n o (now (ready .entry)) (now (ready .exit)) ⌝ }
 {
-    if o == 0 {
+    if o == DELIVER {
         return;
     }
-    let there = near::look_up(near, (o - 1) % DIRECTIONS, n);
+    let there = near::look_up(near, direction_of(o), n);
     mark_head(ready, s, there, o);
 }
 
@@ -43,10 +45,10 @@ fn mark_feeder(ready: &mut [u64], s: Sizes, near: &[u16], n: u64, q: u64)
     requires { ⌜ Near (shapeOf s) (now near) ⌝ }
     ensures { λ _. ⌜ FeederMarked (shapeOf s) n q (now (ready .entry)) (now (ready .exit)) ⌝ }
 {
-    if q == 0 {
+    if q == INJECTION_QUEUE {
         return;
     }
-    let d = (q - 1) % DIRECTIONS;
+    let d = direction_of(q);
     let back = d / 2 * 2 + (1 - d % 2);
     let there = near::look_up(near, back, n);
     headset::insert_node(ready, there);

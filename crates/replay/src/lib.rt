@@ -14,9 +14,6 @@ ghost use Rattle.network.specs.Calls.{movedNumber};
 ghost use Rattle.waveform.specs.Calls.{writtenLength};
 ghost use Rattle.replay.specs.Replay.{shown, shownIf, carriedOut, changed, beginsDump, commandShown, movesAsked, oneWord, movedOn, makesMove, roomLeft, moveShown};
 
-// R246: the words of a D's ledger.
-pub const LEDGER_WORDS: usize = 64;
-
 // A move of a D: whether one was made, the words of the ledger that are left, and the bytes of its step.
 pub struct Replayed {
     pub moved: bool,

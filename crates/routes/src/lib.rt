@@ -1,6 +1,7 @@
 // The routes of a head (R140 to R149), decided case by case, line after line of the paper's selection list: by the number of its queue and the
 // signs of its offsets. The cases are those of the crate `network` (specs/Selection.antt): `adaptive_x`, `adaptive_y`, `adaptive_z` and `last_case`
 // under the same names, and `inTurn` as the match in `routes`. What they give together is proved to be `routes` (specs/Routes.antt there).
+use network::DELIVER;
 use network::DIMENSIONS;
 use network::Sign;
 use packet::sign;
@@ -66,7 +67,7 @@ fn last_case(dx: Sign, dy: Sign, dz: Sign) -> u64
             Sign::Zero => match dz {
                 Sign::Plus => 11,
                 Sign::Minus => 12,
-                Sign::Zero => 0,
+                Sign::Zero => DELIVER,
             },
         },
     }

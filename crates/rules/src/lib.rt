@@ -3,7 +3,9 @@
 use flow::flow_rules;
 use network::ACCEPTED_AT;
 use network::COUNT_SPENT;
+use network::DELIVER;
 use network::INJECTION_FULL;
+use network::INJECTION_QUEUE;
 use network::MOST_ACCEPTED;
 use network::NO_ROUTE;
 use network::NO_SUCH_NODE;
@@ -39,8 +41,8 @@ pub fn offer_rules(words: &[u64], s: Sizes, n: u64, destination: u64) -> u64
     if n == destination {
         return OWN_NODE;
     }
-    let slots = capacity(s, 0);
-    let held = held_count(words, s, n, 0);
+    let slots = capacity(s, INJECTION_QUEUE);
+    let held = held_count(words, s, n, INJECTION_QUEUE);
     if accepted == MOST_ACCEPTED {
         return COUNT_SPENT;
     }
@@ -80,7 +82,7 @@ pub fn credit_rules(s: Sizes, n: u64, o: u64) -> u64
     if nodes(s) <= n {
         return NO_SUCH_NODE;
     }
-    if o == 0 {
+    if o == DELIVER {
         return NO_SUCH_OUTPUT;
     }
     if QUEUES <= o {

@@ -22,6 +22,9 @@ pub const COMMAND_ROOM: usize = 1314;
 // The words of the store.
 pub const STORE_WORDS: usize = 8000;
 
+// R246: the words of a D's ledger.
+pub const LEDGER_WORDS: usize = 64;
+
 // How a read was answered: the bytes that are pending of a line, and those that were printed.
 pub struct Printed {
     pub count: usize,
@@ -103,7 +106,7 @@ fn run_drain(store: &mut [u64], budget: u32, out: &mut [u8]) -> usize
     ensures store { λ _. ⌜ now (store .exit) ≡ perform (Command.Drain budget) (now (store .entry)) .store ⌝ }
     ensures printed { λ r. ⌜ Put (now (out .entry)) 0 (perform (Command.Drain budget) (now (store .entry)) .output) (now (out .exit)) r ⌝ }
 {
-    let mut ledger = [0u64; 64];
+    let mut ledger = [0u64; LEDGER_WORDS];
     let answer = calls::drain(store, budget, &mut ledger);
     writer::put_drained(out, 0, answer, &ledger)
 }

@@ -1,6 +1,9 @@
 // What the definitions of the bench program's lines speak of (R240 to R250): the input cut into lines, and the command of a line. The crates
 // `lines`, `reader` and `writer` have the code.
 
+// The base of the numbers of a sheet.
+pub const TEN: u64 = 10;
+
 // How many bytes have come since the last end; one more than are held where there are more.
 pub struct Pending {
     pub count: usize,

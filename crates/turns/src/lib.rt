@@ -2,11 +2,12 @@
 // of heads goes along that holds every head which may have a permitted move (crate `ready`), so that what a move costs does not
 // grow with the network, and a table of neighbours. The move is First's all the same, and that is what the contracts say.
 use network::ACCEPTED_AT;
+use network::DELIVER;
 use network::DELIVERED_AT;
-use network::DIRECTIONS;
 use network::Found;
 use network::Sizes;
 use network::Stop;
+use network::direction_of;
 ghost use mathlib.Core.Path.{_≡_};
 ghost use Rattle.network.specs.Sizes.{shapeOf};
 ghost use Rattle.network.specs.declared.Found.{Found};
@@ -42,8 +43,8 @@ fn turn_by_move(
     ensures words { λ _. ⌜ now (words .exit) ≡ byWords (shapeOf s) (now (words .entry)) room (Found.Move n q o) ⌝ }
     ensures set { λ _. ⌜ Covered (shapeOf s) (byWords (shapeOf s) (now (words .entry)) room (Found.Move n q o)) (now (ready .exit)) ⌝ }
 {
-    if o != 0 {
-        let there = near::look_up(near, (o - 1) % DIRECTIONS, n);
+    if o != DELIVER {
+        let there = near::look_up(near, direction_of(o), n);
         changes::move_to(words, s, n, q, o, there);
         ready::mark(ready, s, near, n, q, o);
         return Turn::Passed;

@@ -5,7 +5,7 @@ use libc::STDERR_FILENO;
 use libc::STDIN_FILENO;
 use libc::STDOUT_FILENO;
 use lines::HELD_BYTES;
-use replay::LEDGER_WORDS;
+use session::LEDGER_WORDS;
 use session::STORE_WORDS;
 use sheet::Command;
 use sheet::Fed;

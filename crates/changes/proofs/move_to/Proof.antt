@@ -1,8 +1,11 @@
 -- `changes::move_to` meets its contract. What is known once the head has left is one record, `left`; each need after it cites a law of that
 -- record. Assumes nothing.
+use mathlib.Core.Path.{_≡_, ap, _∙_}
+use Prim.Native.Nat.{ℕ, _/_}
 use borrow.Author.Needs.{needs}
 use native.Mathlib.Omega.{arith}
-use Rattle.network.specs.Sizes.{shapeOf}
+use Rattle.network.specs.Sizes.{shapeOf, dimensionOf, directionOf}
+use Rattle.network.specs.Packet.{hop}
 use Rattle.network.specs.TorusLaws.{sizes-torus}
 use Rattle.network.specs.Routes.{target}
 use Rattle.changes.proofs.ChangeLaws.{Left, network-checked, delivered-left, moves-handed, handed-words, target-checked, target-room, moves-arrived, moved-words}
@@ -49,10 +52,15 @@ returns c =
 abbrev start : tie.After-pop → tie.Start
 start v = v .before .before .before
 
+-- the hop is along the output's dimension
+hopped : (h : tie.After-hop)
+    → let v = h .before .before .before .before .before in h .hop .result ≡ hop (dimensionOf (directionOf (start v .args .o))) (v .pop .result)
+hopped h = h .hop .ensures ∙ ap (λ (d : ℕ). hop (d / 2) (h .before .before .before .before .before .pop .result)) (h .before .direction-of .ensures)
+
 push-requires : tie.Need-push-requires
 unfolding target
 push-requires c κs =
-    let else = c .before .before in
+    let else = c .before .before .before in
     let v = else .before .before .before in
     let k = left v in
     let away = else .if1 .left in
@@ -64,7 +72,7 @@ unfolding target
 raise-requires-3 c κs =
     let u = c .before .before .before in
     let h = u .before .before in
-    let else = h .before in
+    let else = h .before .before in
     let v = else .before .before .before in
     moves-arrived (left v) (start v .args .there) (else .if1 .left) (start v .pre .1 .1 (else .if1 .left)) (h .hop .result)
     (u .push .last .0) (u .push .ensures)
@@ -75,10 +83,10 @@ returns-2 c =
     let x = c .before .before in
     let u = x .before .before .before .before in
     let h = u .before .before in
-    let else = h .before in
+    let else = h .before .before in
     let v = else .before .before .before in
     let same = moved-words (left v) (start v .args .there) (else .if1 .left) (start v .pre .1 .1 (else .if1 .left)) in (
-      same (v .pop .result) (h .hop .result) (u .push .last .0) (x .raise3 .last .0) (v .pop .ensures .1) (h .hop .ensures) (u .push .ensures) (x .raise3 .ensures),
+      same (v .pop .result) (h .hop .result) (u .push .last .0) (x .raise3 .last .0) (v .pop .ensures .1) (hopped h) (u .push .ensures) (x .raise3 .ensures),
       v .pop .ensures .1,
     )
 
@@ -91,7 +99,7 @@ move-to-spec =
     raise-requires-2
     (λ c. search needs)
     returns
-    (λ c. search needs)
+    (λ c κs. search needs)
     (λ c κs. search needs)
     push-requires
     raise-requires-3

@@ -14,7 +14,7 @@ use Rattle.network.specs.Sizes.{shapeOf, capacity, largestCapacity}
 use Rattle.network.specs.SizesLaws.{range-of, capacity-most}
 use Rattle.network.specs.Layout.{held}
 use Rattle.network.specs.Routes.{target, freeSlots, slotsNeeded}
-use Rattle.network.specs.RoutesLaws.{needed-most}
+use Rattle.network.specs.RoutesLaws.{target-is, needed-most}
 use Rattle.network.specs.Refusals.{flowRules}
 use Rattle.network.specs.RefusalLaws.{flow-of, flow-by}
 use Rattle.network.specs.declared.Sizes.{Sizes}
@@ -56,12 +56,14 @@ small-sum s w n q o p there slots count needed k et es ec en =
     omega arith
 
 -- the node that the table names
-is-target : (c : tie.After-look-up)
-    → c .look-up .result ≡ target (shapeOf (c .before .before .before .before .args .s)) (c .before .before .before .before .args .n) (c .before .before .before .before .args .o)
-unfolding target
+abbrev start : tie.After-look-up → tie.Start
+start c = c .before .before .before .before .before
+
+is-target : (c : tie.After-look-up) → c .look-up .result ≡ target (shapeOf (start c .args .s)) (start c .args .n) (start c .args .o)
 is-target c =
-    let f = c .before .before .before .before in
-    c .look-up .ensures (shapeOf (f .args .s)) (f .pre .1) (f .pre .0 .node)
+    let f = start c in
+    let S = shapeOf (f .args .s) in
+    target-is S (f .args .n) (f .args .o) _ _ (c .before .direction-of .ensures) (c .look-up .ensures S (f .pre .1) (f .pre .0 .node))
 
 returns : tie.Need-returns
 returns c =
@@ -71,7 +73,7 @@ returns c =
 
 look-up-requires : tie.Need-look-up-requires
 look-up-requires c κs =
-    let f = c .before .before .before in
+    let f = c .before .before .before .before in
     let a = f .args in
     let places = asked (a .s) (a .words .now) (a .n) (a .o) (f .pre .0) in
     let h = places .1 in
@@ -80,13 +82,13 @@ look-up-requires c κs =
 
 held-count-requires : tie.Need-held-count-requires
 held-count-requires c κs =
-    let f = c .before .before .before .before .before in
+    let f = start (c .before) in
     let a = f .args in
     at-target (a .s) (a .words .now) (a .n) (a .o) (c .before .look-up .result) (f .pre .0) (is-target (c .before))
 
 add-result : tie.Need-add-result
 add-result c =
-    let f = c .before .before .before .before .before .before .before in
+    let f = start (c .before .before .before) in
     let a = f .args in
     let slots = c .before .before .capacity in
     let l =
@@ -96,19 +98,19 @@ add-result c =
 
 returns-2 : tie.Need-returns-2
 returns-2 c =
-    let f = c .before .before .before .before .before .before .before in
+    let f = start (c .before .before .before) in
     let a = f .args in
     let slots = c .before .before .capacity in
     room (a .s) (a .words .now) (a .n) (a .q) (a .o) (a .p) (c .before .before .before .look-up .result) (slots .result) (c .before .held-count .result) (c .slots-needed .result)
     (f .pre .0) (is-target (c .before .before .before)) (slots .ensures) (c .before .held-count .ensures) (c .slots-needed .ensures)
-    (c .before .before .before .before .if1 .left)
+    (c .before .before .before .before .before .if1 .left)
 
 pub may-flow-spec : {M : Type 1} → statement M
 may-flow-spec =
     tie.close
     (tie.spec
     returns
-    (λ c. search needs)
+    (λ c κs. search needs)
     look-up-requires
     (λ c κs. search needs)
     held-count-requires

@@ -56,36 +56,46 @@ returns c =
     far (shapeOf (a .s)) (a .q) (a .i) _ (half-is z) _ (c .row .ensures) (λ d s. limit-injection (shapeOf (a .s)) (a .q) d (c .before .if1 .taken))
 
 row-requires-2 : tie.Need-row-requires-2
-row-requires-2 c κs = let l = small (c .before .before) in (omega arith, omega arith, omega arith)
+row-requires-2 c κs = let l = small (c .before .before .before) in (omega arith, omega arith, omega arith)
+
+-- the direction of the queue, where it is none of an injection queue
+direction : (o : tie.After-direction-of) (d : ℕ) → o .direction-of .result ≡ d → directionOf (o .before .before .before .args .q) ≡ d
+direction o d e = sym (o .direction-of .ensures) ∙ e
 
 returns-2 : tie.Need-returns-2
 returns-2 c =
-    let z = c .before .before .before in
+    let o = c .before .before in
+    let z = o .before .before in
     let a = z .before .args in
-    let ne = c .before .before .if1 .left in
-    let e = c .before .if2 .taken in
+    let ne = o .before .if1 .left in
+    let e = direction o (plus (a .i)) (c .before .if2 .taken) in
     both (shapeOf (a .s)) (a .q) (a .i) _ (half-is z) _ _ _ (c .row2 .ensures) (own (shapeOf (a .s)) (a .q) (a .i) _ (half-is z) ne (plus (a .i)) (omega arith) e)
     (sym (limit-back (shapeOf (a .s)) (a .q) (minus (a .i)) ne (λ f. omega arith) (omega arith)))
 
 row-requires-3 : tie.Need-row-requires-3
-row-requires-3 c κs = let l = small (c .before .before .before) in (omega arith, omega arith, omega arith)
+row-requires-3 c κs = let l = small (c .before .before .before .before) in (omega arith, omega arith, omega arith)
 
 returns-3 : tie.Need-returns-3
 returns-3 c =
-    let z = c .before .before .before .before in
+    let o = c .before .before .before in
+    let z = o .before .before in
     let a = z .before .args in
-    let ne = c .before .before .before .if1 .left in
-    let e = c .before .if3 .taken in
+    let ne = o .before .if1 .left in
+    let e = direction o (minus (a .i)) (c .before .if3 .taken) in
     both (shapeOf (a .s)) (a .q) (a .i) _ (half-is z) _ _ _ (c .row3 .ensures)
     (sym (limit-back (shapeOf (a .s)) (a .q) (plus (a .i)) ne (λ f. omega arith) (omega arith)))
     (own (shapeOf (a .s)) (a .q) (a .i) _ (half-is z) ne (minus (a .i)) (omega arith) e)
 
 row-requires-4 : tie.Need-row-requires-4
-row-requires-4 c κs = let l = small (c .before .before .before .before) in (omega arith, omega arith, omega arith)
+row-requires-4 c κs = let l = small (c .before .before .before .before .before) in (omega arith, omega arith, omega arith)
 
 -- the queue is of another dimension
-other : (c : tie.Else3) (d : ℕ) → dimensionOf d ≡ c .before .before .before .before .args .i → dimensionOf (directionOf (c .before .before .before .before .args .q)) ≢ dimensionOf d
-other c d s e = let n = c .if3 .left in let m = c .before .if2 .left in apart _ _ m n (omega arith)
+abbrev at-direction : tie.Else3 → tie.After-direction-of
+at-direction c = c .before .before
+
+other : (c : tie.Else3) (d : ℕ) → dimensionOf d ≡ at-direction c .before .before .before .args .i
+    → dimensionOf (directionOf (at-direction c .before .before .before .args .q)) ≢ dimensionOf d
+other c d s e = let n = c .if3 .left in let m = c .before .if2 .left in let o = at-direction c .direction-of .ensures in apart _ _ m n (omega arith)
   where
     apart : (own i : ℕ) → own ≢ 2 * i → own ≢ 2 * i + 1 → own / 2 ≡ i → ⊥
     apart own i m n e = omega arith
@@ -93,30 +103,34 @@ other c d s e = let n = c .if3 .left in let m = c .before .if2 .left in apart _ 
 returns-4 : tie.Need-returns-4
 returns-4 c =
     let k = c .before .before in
-    let z = k .before .before .before in
+    let o = at-direction k in
+    let z = o .before .before in
     let a = z .before .args in
     far (shapeOf (a .s)) (a .q) (a .i) _ (half-is z) _ (c .row4 .ensures)
-    (λ d s. limit-adaptive (shapeOf (a .s)) (a .q) d (k .before .before .if1 .left) (other k d s) (le-ltb directions (a .q) (c .before .if4 .taken)))
+    (λ d s. limit-adaptive (shapeOf (a .s)) (a .q) d (o .before .if1 .left) (other k d s) (le-ltb directions (a .q) (c .before .if4 .taken)))
 
 row-requires-5 : tie.Need-row-requires-5
-row-requires-5 c κs = let l = small (c .before .before .before .before .before) in (omega arith, omega arith, omega arith)
+row-requires-5 c κs = let l = small (c .before .before .before .before .before .before) in (omega arith, omega arith, omega arith)
 
 returns-5 : tie.Need-returns-5
 returns-5 c =
-    let k = c .before .before .before in
-    let z = k .before .before .before in
+    let o = at-direction (c .before .before .before) in
+    let z = o .before .before in
     let a = z .before .args in
     let l = c .before .if5 .taken in
-    far (shapeOf (a .s)) (a .q) (a .i) _ (half-is z) _ (c .row5 .ensures) (λ d s. limit-higher (shapeOf (a .s)) (a .q) d (k .before .before .if1 .left) (omega arith))
+    let own = o .direction-of .ensures in
+    far (shapeOf (a .s)) (a .q) (a .i) _ (half-is z) _ (c .row5 .ensures) (λ d s. limit-higher (shapeOf (a .s)) (a .q) d (o .before .if1 .left) (omega arith))
 
 returns-6 : tie.Need-returns-6
 returns-6 c =
     let k = c .before .before .before in
-    let z = k .before .before .before in
+    let o = at-direction k in
+    let z = o .before .before in
     let a = z .before .args in
     let m = c .before .if5 .left in
+    let own = o .direction-of .ensures in
     alike (shapeOf (a .s)) (a .q) (a .i) _ (half-is z) _ 1 (c .row6 .ensures)
-    (λ d s. sym (limit-lower (shapeOf (a .s)) (a .q) d (k .before .before .if1 .left) (lt→ltb directions (a .q) (c .before .before .if4 .left)) (less _ _ _ s m (other k d s))))
+    (λ d s. sym (limit-lower (shapeOf (a .s)) (a .q) d (o .before .if1 .left) (lt→ltb directions (a .q) (c .before .before .if4 .left)) (less _ _ _ s (omega arith) (other k d s))))
   where
     less : (d own i : ℕ) → dimensionOf d ≡ i → i ≤ own / 2 → own / 2 ≢ dimensionOf d → dimensionOf d < own / 2
     less d own i s l n = omega arith
@@ -130,7 +144,7 @@ passing-spec =
     (λ c. search needs)
     row-requires
     returns
-    (λ c. search needs)
+    (λ c κs. search needs)
     (λ c. search needs)
     row-requires-2
     returns-2

@@ -5,7 +5,7 @@ use Prim.Native.Nat.{ℕ, _+_, _*_, _-_, _/_, _%_, _<_}
 use native.Mathlib.Nat.{lt-of-lt-of-le}
 use native.Mathlib.Omega.{arith}
 use denote.Ref.{now}
-use Rattle.network.specs.Sizes.{shapeOf, nodes, directions}
+use Rattle.network.specs.Sizes.{shapeOf, nodes}
 use Rattle.network.specs.Torus.{neighbour}
 use Rattle.network.specs.TorusLaws.{sizes-torus, sizes-nodes}
 use Rattle.near.specs.Table.{entry-within}
@@ -15,18 +15,17 @@ use Rattle.ready.proofs.mark_feeder.Tie as tie
 
 look-up-requires : tie.Need-look-up-requires
 look-up-requires c κs =
-    let a = c .before .before .before in
+    let a = c .before .before .before .before in
     (omega arith, lt-of-lt-of-le (a .pre .1 .0 .1) (sizes-nodes (a .args .s) (a .pre .1 .0 .0)), entry-within (a .args .n) _ (a .pre .1 .1) (a .pre .1 .0 .1) (omega arith))
 
 -- the neighbour that was looked up
-abbrev back : ℕ → ℕ
-back q = (q - 1) % directions / 2 * 2 + (1 - (q - 1) % directions % 2)
-
 abbrev start : tie.After-look-up → tie.Start
-start c = c .before .before .before .before
+start c = c .before .before .before .before .before
 
-there-is : (c : tie.After-look-up)
-    → c .look-up .result ≡ neighbour (shapeOf (start c .args .s)) (back (start c .args .q)) (start c .args .n)
+abbrev back : tie.After-look-up → ℕ
+back c = let d = c .before .direction-of .result in d / 2 * 2 + (1 - d % 2)
+
+there-is : (c : tie.After-look-up) → c .look-up .result ≡ neighbour (shapeOf (start c .args .s)) (back c) (start c .args .n)
 there-is c =
     let a = start c in
     c .look-up .ensures (shapeOf (a .args .s)) (a .pre .1 .1) (a .pre .1 .0 .1)
@@ -34,7 +33,8 @@ there-is c =
 is-node : (c : tie.After-look-up) → c .look-up .result < nodes (shapeOf (start c .args .s))
 is-node c =
     let a = start c in
-    neighbour-node (shapeOf (a .args .s)) (back (a .args .q)) (a .args .n) (c .look-up .result) (sizes-torus (a .args .s) (a .pre .1 .0 .0)) (a .pre .1 .0 .1) (omega arith) (there-is c)
+    let e = c .before .direction-of .ensures in
+    neighbour-node (shapeOf (a .args .s)) (back c) (a .args .n) (c .look-up .result) (sizes-torus (a .args .s) (a .pre .1 .0 .0)) (a .pre .1 .0 .1) (omega arith) (there-is c)
 
 insert-node-requires : tie.Need-insert-node-requires
 insert-node-requires c κs =
@@ -48,14 +48,15 @@ returns-2 c =
     let l = i .before .before in
     let a = start l in
     feeder-marked (shapeOf (a .args .s)) (a .args .n) (a .args .q) (l .look-up .result) (now (a .args .ready)) (i .insert-node .last .0) (is-node l)
-    (before-is (shapeOf (a .args .s)) (a .args .n) (a .args .q) (l .look-up .result) (there-is l)) (i .insert-node .ensures)
+    (before-is (shapeOf (a .args .s)) (a .args .n) (a .args .q) (l .before .direction-of .result) (l .look-up .result) (l .before .direction-of .ensures) (there-is l))
+    (i .insert-node .ensures)
 
 pub mark-feeder-spec : {M : Type 1} → statement M
 mark-feeder-spec =
     tie.close
     (tie.spec
     (λ c. search needs)
-    (λ c. search needs)
+    (λ c κs. search needs)
     (λ c. search needs)
     (λ c. search needs)
     (λ c. search needs)

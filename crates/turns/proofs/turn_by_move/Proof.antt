@@ -4,7 +4,7 @@ use native.Mathlib.Omega.{arith}
 use denote.Ref.{now}
 use Rattle.network.specs.Sizes.{shapeOf}
 use Rattle.network.specs.TorusLaws.{sizes-torus, sizes-nodes}
-use Rattle.network.specs.Routes.{target}
+use Rattle.network.specs.RoutesLaws.{target-is}
 use Rattle.near.specs.Table.{entry-within}
 use Rattle.turns.specs.Turned.{turned-passed, turned-delivered, turned-full}
 use Rattle.turns.proofs.turn_by_move.Statement.{statement}
@@ -12,30 +12,31 @@ use Rattle.turns.proofs.turn_by_move.Tie as tie
 
 look-up-requires : tie.Need-look-up-requires
 look-up-requires c κs =
-    let a = c .before .before .before .before in
+    let a = c .before .before .before .before .before in
     let h = a .pre .1 .1 .1 .node in
     let few = sizes-nodes (a .args .s) (a .pre .0 .in-range) in
     (omega arith, omega arith, entry-within (a .args .n) _ (a .pre .1 .0) h (omega arith))
 
 -- the node that was looked up is that of the target
 move-to-requires : tie.Need-move-to-requires
-unfolding target
 move-to-requires c κs =
     let t = c .before in
-    let a = t .before .before .before .before .before in
-    (a .pre .0, (a .pre .1 .1 .1, λ away. t .look-up .ensures (shapeOf (a .args .s)) (a .pre .1 .0) (a .pre .1 .1 .1 .node)))
+    let a = t .before .before .before .before .before .before in
+    let S = shapeOf (a .args .s) in
+    let there = t .look-up .ensures S (a .pre .1 .0) (a .pre .1 .1 .1 .node) in
+    (a .pre .0, (a .pre .1 .1 .1, λ away. target-is S (a .args .n) (a .args .o) _ _ (t .before .direction-of .ensures) there))
 
 mark-requires : tie.Need-mark-requires
 mark-requires c κs =
-    let a = c .before .before .before .before .before .before .before .before .before .before in
+    let a = c .before .before .before .before .before .before .before .before .before .before .before in
     (a .pre .1 .1 .0 .set-of, ((a .pre .0 .in-range, a .pre .1 .1 .1 .node, a .pre .1 .1 .1 .queue, a .pre .1 .1 .1 .output), a .pre .1 .0))
 
 returns : tie.Need-returns
 returns c =
-    let a = c .before .before .before .before .before .before .before .before .before .before .before .before .before in
+    let a = c .before .before .before .before .before .before .before .before .before .before .before .before .before .before in
     turned-passed (shapeOf (a .args .s)) (sizes-torus (a .args .s) (a .pre .0 .in-range)) (now (a .args .words)) (now (a .args .ready))
     (a .pre .0) (a .pre .1 .1 .0) (a .args .room) (a .args .n) (a .args .q) (a .args .o) (c .before .before .before .before .before .before .move-to .last .0) (c .before .before .mark .last .0) (a .pre .1 .1 .1)
-    (c .before .before .mark .ensures) (c .before .before .before .before .before .before .move-to .ensures .0) (c .before .before .before .before .before .before .before .before .before .if1 .taken)
+    (c .before .before .mark .ensures) (c .before .before .before .before .before .before .move-to .ensures .0) (c .before .before .before .before .before .before .before .before .before .before .if1 .taken)
 
 returns-2 : tie.Need-returns-2
 returns-2 c =
@@ -59,7 +60,7 @@ pub turn-by-move-spec : {M : Type 1} → statement M
 turn-by-move-spec =
     tie.close
     (tie.spec
-    (λ c. search needs)
+    (λ c κs. search needs)
     look-up-requires
     move-to-requires
     mark-requires
