@@ -42,8 +42,8 @@ sources() {
 }
 built() { sha256sum <"$program"; }
 
-# The stamp has both numbers and is written when the check has passed. So it is wrong as soon as a source is changed, and where a check
-# fails that has already written its program.
+# The stamp has both numbers, and between them the kit, and is written when the check has passed. So it is wrong as soon as a source is
+# changed, and where a check fails that has already written its program.
 why_not() {
     if [ ! -x "$program" ]; then
         echo "the program is not built"
@@ -151,7 +151,8 @@ build() { # WHY
             "cd compare && cargo run -q --release --offline --bin sheet < FILE"
     fi
     echo "$name: $1; building it: rt check $name (from nothing that takes some minutes)" >&2
-    local began=$SECONDS from
+    local began=$SECONDS from kit
+    kit=$(rt version 2>/dev/null | head -n 1)
     from=$(sources) && mkdir -p "$root/target" && rm -f "$stamp" && : >"$log" || fail "cannot write to $root/target"
     if ! check; then
         first_error
@@ -159,13 +160,40 @@ build() { # WHY
     fi
     [ -x "$program" ] || fail "rt check $name left no program at $program"
     [ "$from" = "$(sources)" ] || fail "the sources were changed while they were checked: run it again"
-    { echo "$from" && built; } >"$stamp" || fail "cannot write $stamp"
+    { echo "$from" && echo "kit $kit" && built; } >"$stamp" || fail "cannot write $stamp"
     echo "$name: built in $((SECONDS - began)) s" >&2
 }
 build_if_needed() {
     local why
     why=$(why_not)
     [ -z "$why" ] || build "$why"
+}
+
+# ---- the version
+# The commit, if this folder is the top of a git checkout; what the environment says of git is about another.
+commit() (
+    unset GIT_DIR GIT_WORK_TREE GIT_INDEX_FILE
+    export GIT_OPTIONAL_LOCKS=0
+    command -v git >/dev/null 2>&1 || { echo "not known: the command git is not on the PATH" && exit; }
+    cd "$root" && inside=$(git rev-parse --show-prefix 2>&1) || { echo "not known: git says '${inside%%$'\n'*}'" && exit; }
+    [ -z "$inside" ] || { echo "not known: this folder is a part of another git checkout" && exit; }
+    head=$(git rev-parse --verify HEAD 2>/dev/null) || { echo "not known: git has no commit here" && exit; }
+    if [ -z "$(git status --porcelain --untracked-files=no 2>&1; git ls-files --others --exclude-standard -- crates 2>&1)" ]; then
+        echo "$head"
+    else
+        echo "$head, with changes"
+    fi
+)
+version() {
+    local interface kit with why
+    interface=$(sed -n 's/^#define BENCH_VERSION //p' "$root/include/bench.h" 2>/dev/null)
+    command -v rt >/dev/null 2>&1 && kit=$(rt version 2>/dev/null) || kit="not known: the command rt of the Rattle kit is not on the PATH"
+    why=$(why_not)
+    with=$(sed -n 's/^kit //p' "$stamp" 2>/dev/null)
+    echo "commit     $(commit)"
+    echo "interface  ${interface:-not known}, BENCH_VERSION of include/bench.h"
+    echo "kit        $kit"
+    echo "program    ${why:-target/bin/$name passed its check}${with:+; built with $with}"
 }
 
 # ---- the run
