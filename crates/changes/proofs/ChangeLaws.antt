@@ -20,7 +20,7 @@ use Rattle.network.specs.Refusals.{head}
 use Rattle.network.specs.RefusalLaws.{Permitted}
 use Rattle.network.specs.Calls.{emptyHeader, emptyNetwork, offered, afterOffer, headLeaves, packetArrives, afterMove}
 use Rattle.run.specs.Queues.{held-few, length-rest}
-use Rattle.run.specs.Step.{Ahead, ahead}
+use Rattle.network.specs.AfterLaws.{Ahead, ahead}
 use Rattle.queue.specs.Queue.{CheckedQueue}
 use Rattle.network.specs.declared.Sizes.{Sizes}
 use Rattle.queue.specs.QueueLaws.{checked, checked-put, checked-fits}

@@ -14,7 +14,7 @@ use Rattle.base.specs.Tests.{allOf, allOf-head, allOf-tail}
 use Rattle.base.specs.Sums.{sumBelow, sumOf, sumOf-append, sumOf-one, sumOf-ones, sumOf-least, sum-same, sum-change, sum-fewer, term-le, some-term}
 use Rattle.base.specs.Parts.{length-span, length-splice, getD-before, getD-span, span-splice, span-apart, drop-splice, splice-splice, span-set-before}
 use Rattle.network.specs.Sizes.{Shape, nodes, queues, directions, capacity}
-use Rattle.network.specs.Layout.{headerWords, shape, acceptedAt, deliveredAt, movesAt, accepted, delivered, movesMade, raised, queueLength, nodeWords, queueStart, queueEnd, need, queueWords, queuePart, countOf, packetsOf, unusedOf, held, load, taken, putQueue, total}
+use Rattle.network.specs.Layout.{headerWords, shape, acceptedAt, raised, queueLength, nodeWords, queueStart, queueEnd, need, queueWords, queuePart, countOf, packetsOf, unusedOf, held, load, taken, putQueue, total}
 
 -- Where the queues stand ----------------------------------------------------------------------------------------------------------------
 
@@ -296,21 +296,6 @@ shape-same v w h =
 pub shape-put : (S : Shape) (w : List ℕ) (n q : ℕ) (ps : List ℕ) → Fits S w n q → length ps ≤ capacity S q → shape (putQueue S w n q ps) ≡ shape w
 shape-put S w n q ps fits h = shape-same (putQueue S w n q ps) w (λ i b. word-put S w n q ps i fits h (omega arith))
 
-pub accepted-put : (S : Shape) (w : List ℕ) (n q : ℕ) (ps : List ℕ) → Fits S w n q → length ps ≤ capacity S q
-    → accepted (putQueue S w n q ps) ≡ accepted w
-unfolding accepted
-accepted-put S w n q ps fits h = word-put S w n q ps acceptedAt fits h (omega arith)
-
-pub delivered-put : (S : Shape) (w : List ℕ) (n q : ℕ) (ps : List ℕ) → Fits S w n q → length ps ≤ capacity S q
-    → delivered (putQueue S w n q ps) ≡ delivered w
-unfolding delivered
-delivered-put S w n q ps fits h = word-put S w n q ps deliveredAt fits h (omega arith)
-
-pub movesMade-put : (S : Shape) (w : List ℕ) (n q : ℕ) (ps : List ℕ) → Fits S w n q → length ps ≤ capacity S q
-    → movesMade (putQueue S w n q ps) ≡ movesMade w
-unfolding movesMade
-movesMade-put S w n q ps fits h = word-put S w n q ps movesAt fits h (omega arith)
-
 -- R48: the words behind the last node stay as they are
 pub rest-put : (S : Shape) (w : List ℕ) (n q : ℕ) (ps : List ℕ) → Fits S w n q → length ps ≤ capacity S q
     → drop (need S) (putQueue S w n q ps) ≡ drop (need S) w
@@ -328,14 +313,6 @@ put-put S w n q ps qs fits h =
     let e = end-length S w n q fits in
     splice-splice w (queueStart S n q) (queueEnd S n q) (queueWords (capacity S q) ps) (queueWords (capacity S q) qs)
     (put-length S n q ps h) (omega arith)
-
--- what fits before a queue is replaced fits after it
-pub fits-put : (S : Shape) (w : List ℕ) (n q : ℕ) (ps : List ℕ) (m r : ℕ) → Fits S w n q → length ps ≤ capacity S q → Fits S w m r
-    → Fits S (putQueue S w n q ps) m r
-fits-put S w n q ps m r fits h at =
-    let l = length-put S w n q ps fits h in
-    let k = fits .long in
-    record { node = at .node; queue = at .queue; long = omega arith }
 
 -- One counter raised --------------------------------------------------------------------------------------------------------------------
 
@@ -377,30 +354,31 @@ total-same S w v f h =
     sum-same (nodes S) (λ n. sumBelow queues (λ q. f (held S w n q))) (λ n. sumBelow queues (λ q. f (held S v n q)))
     (λ n hn. sum-same queues (λ q. f (held S w n q)) (λ q. f (held S v n q)) (λ q hq. ap f (h n q hn hq)))
 
-pub total-raised : (S : Shape) (at : ℕ) (w : List ℕ) (f : List ℕ → ℕ) → at < headerWords → total S (raised at w) f ≡ total S w f
-total-raised S at w f h = total-same S (raised at w) w f (λ n q hn hq. held-raised S at w n q h)
-
 -- a change of one queue changes the sum by what that queue's number changes
-pub total-put : (S : Shape) (w : List ℕ) (n q : ℕ) (ps : List ℕ) (f : List ℕ → ℕ) → Fits S w n q → length ps ≤ capacity S q
-    → total S (putQueue S w n q ps) f + f (held S w n q) ≡ total S w f + f ps
+pub total-change : (S : Shape) (w v : List ℕ) (n q : ℕ) (f : List ℕ → ℕ) → n < nodes S → q < queues
+    → ((m r : ℕ) → m < nodes S → r < queues → ((n ≡ m) × (q ≡ r) → ⊥) → held S v m r ≡ held S w m r)
+    → total S v f + f (held S w n q) ≡ total S w f + f (held S v n q)
 unfolding total
-total-put S w n q ps f fits h =
+total-change S w v n q f hn hq same =
     let one : sumBelow queues (after n) + before n q ≡ sumBelow queues (before n) + after n q =
-    sum-change queues (after n) (before n) q (fits .queue)
-    (λ r hr ne. ap f (held-put-other S w n q ps n r fits h (fits .node) hr (λ (e : (n ≡ n) × (q ≡ r)). ne (sym (e .1))))) in
+    sum-change queues (after n) (before n) q hq (λ r hr ne. ap f (same n r hn hr (λ (e : (n ≡ n) × (q ≡ r)). ne (sym (e .1))))) in
     let all : sumBelow (nodes S) (λ m. sumBelow queues (after m)) + sumBelow queues (before n)
     ≡ sumBelow (nodes S) (λ m. sumBelow queues (before m)) + sumBelow queues (after n) =
-    sum-change (nodes S) (λ m. sumBelow queues (after m)) (λ m. sumBelow queues (before m)) n (fits .node)
-    (λ m hm ne. sum-same queues (after m) (before m)
-    (λ r hr. ap f (held-put-other S w n q ps m r fits h hm hr (λ (e : (n ≡ m) × (q ≡ r)). ne (sym (e .0)))))) in
-    let new : after n q ≡ f ps = ap f (held-put-same S w n q ps fits h) in
+    sum-change (nodes S) (λ m. sumBelow queues (after m)) (λ m. sumBelow queues (before m)) n hn
+    (λ m hm ne. sum-same queues (after m) (before m) (λ r hr. ap f (same m r hm hr (λ (e : (n ≡ m) × (q ≡ r)). ne (sym (e .0)))))) in
     omega arith
   where
     after : ℕ → ℕ → ℕ
-    after m r = f (held S (putQueue S w n q ps) m r)
+    after m r = f (held S v m r)
 
     before : ℕ → ℕ → ℕ
     before m r = f (held S w m r)
+
+pub total-put : (S : Shape) (w : List ℕ) (n q : ℕ) (ps : List ℕ) (f : List ℕ → ℕ) → Fits S w n q → length ps ≤ capacity S q
+    → total S (putQueue S w n q ps) f + f (held S w n q) ≡ total S w f + f ps
+total-put S w n q ps f fits h =
+    total-change S w (putQueue S w n q ps) n q f (fits .node) (fits .queue) (λ m r hm hr ne. held-put-other S w n q ps m r fits h hm hr ne)
+    ∙ ap (λ (l : List ℕ). total S w f + f l) (held-put-same S w n q ps fits h)
 
 pub total-part : (S : Shape) (w : List ℕ) (n q : ℕ) (f : List ℕ → ℕ) → n < nodes S → q < queues → f (held S w n q) ≤ total S w f
 unfolding total

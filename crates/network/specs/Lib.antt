@@ -19,6 +19,7 @@ pub mod RefusalLaws
 pub mod FlowControl
 pub mod FlowControlLaws
 pub mod Calls
+pub mod AfterLaws
 pub mod FirstLaws
 pub mod Choices
 pub mod ChoiceLaws

@@ -21,13 +21,13 @@ use Rattle.network.specs.Torus.{along, neighbour}
 use Rattle.network.specs.TorusLaws.{Torus, along-lt, along-add, along-zero, along-round, neighbour-lt, size-pos}
 use Rattle.network.specs.Layout.{held, taken}
 use Rattle.network.specs.LayoutLaws.{taken-none, taken-some, some-held}
-use Rattle.network.specs.Check.{packetFits, packetsHeld, opposite}
-use Rattle.network.specs.CheckLaws.{PacketFits, packet-of, Network, both-zero}
+use Rattle.network.specs.Check.{packetsHeld, opposite}
+use Rattle.network.specs.CheckLaws.{PacketFits, Network, both-zero}
 use Rattle.network.specs.Routes.{deliver, target, slotsNeeded, freeSlots}
 use Rattle.network.specs.RoutesLaws.{EscapeRoute, escape-route, arrived-route, free-slots-is, needed-escape}
 use Rattle.network.specs.Refusals.{head}
 use Rattle.network.specs.RefusalLaws.{Permitted}
-use Rattle.run.specs.Queues.{allOf-first}
+use Rattle.network.specs.AfterLaws.{head-fits}
 use Rattle.run.specs.Rings.{Room, RingRoom, ring-of, escape-direction, escape-lt, escape-is}
 
 -- a number below n at which f is not 0, or f is 0 at all of them
@@ -221,7 +221,7 @@ module _ (S : Shape) (w : List ℕ) (tor : Torus S) (N : Network S w) where
       p = head (held S w n q)
 
       f : PacketFits S n q p
-      f = packet-of S n q p (allOf-first (packetFits S n q) (held S w n q) holds (N .queue n q hn hq .packets))
+      f = head-fits S w n q N hn hq holds
 
       -- the lowest dimension in which a hop is left is not below the ring's own
       not-lower : (r : EscapeRoute q p) → dimensionOf d ≤ r .dimension

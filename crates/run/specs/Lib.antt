@@ -1,6 +1,7 @@
--- Demand 3, proved: Theorem.antt has the theorem, Corollaries.antt what follows from it in a line or two. What it is built from, in order: what a
--- permitted move does to each queue, that it keeps the rings' free slots, that it keeps the check, that one is always permitted while anything is
--- held, and what a Drain does. Reached.antt shows that the words which demand 3 starts from are there: Make and Offer lead to them.
+-- Demand 3, proved: Theorem.antt has the theorem, Corollaries.antt what follows from it in a line or two. It is built from what a permitted move does
+-- to each queue (AfterLaws.antt of the crate network), and in order: that it keeps the rings' free slots, that its packet fits where it comes to, that it
+-- keeps the check, that one is always permitted while anything is held, and what a Drain does. Reached.antt shows that the words which demand 3 starts
+-- from are there: Make and Offer lead to them.
 pub mod Queues
 pub mod Rings
 pub mod Hop

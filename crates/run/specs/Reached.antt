@@ -13,7 +13,7 @@ use lib.Dec.{T, leb, ltb, eqb}
 use lib.ListN.{length, getD, drop, replicate, length-append, length-replicate, length-drop, getD-replicate, List·getD-append}
 use lib.Seq.{ext-getD, getD-append-add}
 use Rattle.base.specs.Tests.{allOf}
-use Rattle.base.specs.Sums.{sumOf, sumBelow, sum-zero, sumOf-append}
+use Rattle.base.specs.Sums.{sumOf, sumBelow, sum-zero, sumOf-append, sumOf-one}
 use Rattle.base.specs.Parts.{span, length-span, getD-span}
 use Rattle.network.specs.declared.Sizes.{Sizes}
 use Rattle.network.specs.Sizes.{Shape, shapeOf, sized, size, sizesInRange, nodes, queues, directions, dimensions, injectionQueue, escapeQueue, capacity, mostNodes}
@@ -21,15 +21,17 @@ use Rattle.network.specs.SizesLaws.{range-of, capacity-pos}
 use Rattle.network.specs.Packet.{destination, hopsLeft, work}
 use Rattle.network.specs.Torus.{along}
 use Rattle.network.specs.TorusLaws.{Torus, inRange-torus, inRange-size, inRange-nodes, along-lt}
-use Rattle.network.specs.Layout.{headerWords, shape, need, nodeWords, queueStart, queueEnd, queueWords, queuePart, packetsOf, held, taken, putQueue, raised, total, accepted, delivered, movesMade, acceptedAt, deliveredAt, movesAt}
-use Rattle.network.specs.LayoutLaws.{Fits, start-header, start-end, end-start, end-need, packetsOf-queueWords, length-taken, taken-none, taken-same, held-put-other, length-put, shape-put, accepted-put, delivered-put, movesMade-put, total-put, length-raised, held-raised, raised-same, raised-other, shape-raised, total-raised}
+use Rattle.network.specs.Layout.{headerWords, shape, need, nodeWords, queueStart, queueEnd, queueWords, queuePart, packetsOf, held, taken, total, accepted, delivered, movesMade}
+use Rattle.network.specs.LayoutLaws.{start-header, start-end, end-start, end-need, packetsOf-queueWords, length-taken, taken-none, taken-same, total-change}
 use Rattle.network.specs.Check.{reach, isQueueOf, packetFits, ringHasRoom, packetsHeld, workLeft, mostAccepted, mostWork}
 use Rattle.network.specs.CheckLaws.{PacketFits, packet-by, Network}
+use Rattle.network.specs.SameWords.{same?, queue-stored, network-stored}
 use Rattle.network.specs.Refusals.{networkRefusal, makeRefusal, offerRules, offerRefusal}
 use Rattle.network.specs.RefusalLaws.{not-refused, neither, network-passed, network-passes, own-node-exactly}
 use Rattle.network.specs.OfferLaws.{ShortRings, destination-offered, spare-offered, distance-offered, work-offered, movedBy-offered, hops-offered}
 use Rattle.network.specs.Calls.{emptyHeader, emptyNetwork, makeWords, offered, afterOffer, offerWords}
-use Rattle.run.specs.Queues.{AllFit, taken-few, fits-words, fit-put, fit-raised, allOf-newest}
+use Rattle.network.specs.AfterLaws.{OfferTaken, offer-taken}
+use Rattle.run.specs.Queues.{taken-few, fits-by, one, packets-sum, allOf-newest}
 use Rattle.run.specs.Rings.{Room, RingRoom, ring-of, ring-by, escape-lt}
 use Rattle.run.specs.Theorem.{torus}
 
@@ -93,7 +95,7 @@ module _ (S : Shape) (w : List ℕ) (tor : Torus S) (B : Blank S w) where
       record {
         in-range = B .in-range;
         long = B .long;
-        queue = λ n q hn hq. fits-words S w n q [] (blank-part n q hn hq) (omega arith) tt;
+        queue = λ n q hn hq. fits-by S w n q (queue-stored S w n q [] (blank-part n q hn hq) (omega arith)) (rw (blank-held n q hn hq) tt);
         ring = blank-ring;
         few-accepted = omega arith;
         counted = omega arith;
@@ -200,9 +202,9 @@ make-length S w all-dimensions e =
 
 -- The packet of an offer ----------------------------------------------------------------------------------------------------------------
 
-module _ (S : Shape) (w : List ℕ) (n dest tag : ℕ) (tor : Torus S) (N : Network S w) (hn : n < nodes S) (hd : dest < nodes S)
-    (free : length (held S w n injectionQueue) < capacity S injectionQueue) (fewer : accepted w < mostAccepted) where
-  p : ℕ
+module _ (S : Shape) (w v : List ℕ) (n dest tag : ℕ) (tor : Torus S) (N : Network S w) (hn : n < nodes S) (hd : dest < nodes S)
+    (fewer : accepted w < mostAccepted) (O : OfferTaken S w v n (offered S n dest tag)) where
+  abbrev p : ℕ
   p = offered S n dest tag
 
   few-nodes : nodes S ≤ 2 ^ 16
@@ -212,7 +214,7 @@ module _ (S : Shape) (w : List ℕ) (n dest tag : ℕ) (tor : Torus S) (N : Netw
   small i h = inRange-size S i (N .in-range)
 
   offered-fits : PacketFits S n injectionQueue p
-  unfolding p reach isQueueOf
+  unfolding reach isQueueOf
   offered-fits =
       let there : destination p ≡ dest = destination-offered S n dest tag tor hn hd few-nodes small in
       record {
@@ -224,120 +226,56 @@ module _ (S : Shape) (w : List ℕ) (n dest tag : ℕ) (tor : Torus S) (N : Netw
         lower = λ t. absurd t;
       }
 
-  place : Fits S w n injectionQueue
-  place = record { node = hn; queue = omega arith; long = N .long }
-
-  joined : List ℕ
-  joined = held S w n injectionQueue ++ (p ∷ [])
-
-  joined-length : length joined ≡ length (held S w n injectionQueue) + 1
-  unfolding joined
-  joined-length = length-append (held S w n injectionQueue) (p ∷ [])
-
-  few : length joined ≤ capacity S injectionQueue
-  few = let l = joined-length in omega arith
-
-  put : List ℕ
-  put = putQueue S w n injectionQueue joined
-
-  after : List ℕ
-  after = raised acceptedAt put
-
   -- Offer ------------------------------------------------------------------------------------------------------------------------------
 
-  after-fit : AllFit S after
-  unfolding AllFit after put joined
-  after-fit =
-      fit-raised S acceptedAt put (omega arith)
-      (fit-put S w n injectionQueue joined place few
+  packets-fit : (m r : ℕ) → m < nodes S → r < queues → Dec ((n ≡ m) × (injectionQueue ≡ r)) → T (allOf (packetFits S m r) (held S v m r))
+  packets-fit m r hm hr (yes e) =
+      rw (← e .0, ← e .1, O .newest)
       (allOf-newest (packetFits S n injectionQueue) (held S w n injectionQueue) p (N .queue n injectionQueue hn (omega arith) .packets) (packet-by S n injectionQueue p offered-fits))
-      (N .queue))
+  packets-fit m r hm hr (no ne) = rw (O .others m r hm hr ne) (N .queue m r hm hr .packets)
 
-  -- the transit queues hold what they held
-  after-held : (m r : ℕ) → m < nodes S → r < queues → r ≢ injectionQueue → held S after m r ≡ held S w m r
-  unfolding after put
-  after-held m r hm hr ne = held-raised S acceptedAt put m r (omega arith) ∙ held-put-other S w n injectionQueue joined m r place few hm hr (λ e. ne (sym (e .1)))
-
-  after-ring : (d m : ℕ) → d < directions → m < nodes S → T (ringHasRoom S after d m)
+  -- the escape queues hold what they held
+  offer-ring : (d m : ℕ) → d < directions → m < nodes S → T (ringHasRoom S v d m)
   unfolding Room
-  after-ring d m hd′ hm =
+  offer-ring d m hd′ hm =
       let r : RingRoom S w d m = ring-of S w d m (N .ring d m hd′ hm) in
-      let same : held S after (along S d (r .steps) m) (escapeQueue d) ≡ held S w (along S d (r .steps) m) (escapeQueue d) =
-      after-held (along S d (r .steps) m) (escapeQueue d) (along-lt S d (r .steps) m tor hd′ hm) (escape-lt d hd′) (λ z. positive d z) in
-      ring-by S after d m (r .steps) tor hd′ (rw (taken-same S w after (along S d (r .steps) m) (escapeQueue d) same) (r .room))
+      let same : held S v (along S d (r .steps) m) (escapeQueue d) ≡ held S w (along S d (r .steps) m) (escapeQueue d) =
+      O .others (along S d (r .steps) m) (escapeQueue d) (along-lt S d (r .steps) m tor hd′ hm) (escape-lt d hd′) (λ e. transit d (e .1)) in
+      ring-by S v d m (r .steps) tor hd′ (rw (taken-same S w v (along S d (r .steps) m) (escapeQueue d) same) (r .room))
     where
-      positive : (d : ℕ) → escapeQueue d ≡ 0 → ⊥
-      positive d z = omega arith
-
-  after-length : length after ≡ length w
-  unfolding after put
-  after-length = length-raised acceptedAt put ∙ length-put S w n injectionQueue joined place few
-
-  header-there : headerWords ≤ length put
-  unfolding put need
-  header-there =
-      let a : headerWords + nodes S * nodeWords S ≤ length w = N .long in
-      let b = length-put S w n injectionQueue joined place few in
-      omega arith
-
-  after-accepted : accepted after ≡ accepted w + 1
-  unfolding accepted after put
-  after-accepted = raised-same acceptedAt put (omega arith) header-there ∙ ap (λ (x : ℕ). x + 1) (accepted-put S w n injectionQueue joined place few)
-
-  after-delivered : delivered after ≡ delivered w
-  unfolding delivered after put
-  after-delivered = raised-other acceptedAt put deliveredAt (λ z. unequal z) ∙ delivered-put S w n injectionQueue joined place few
-    where
-      unequal : deliveredAt ≡ acceptedAt → ⊥
-      unequal z = omega arith
-
-  after-moves : movesMade after ≡ movesMade w
-  unfolding movesMade after put
-  after-moves = raised-other acceptedAt put movesAt (λ z. unequal z) ∙ movesMade-put S w n injectionQueue joined place few
-    where
-      unequal : movesAt ≡ acceptedAt → ⊥
-      unequal z = omega arith
+      transit : (d : ℕ) → injectionQueue ≡ escapeQueue d → ⊥
+      transit d z = omega arith
 
   -- the sums grow by the packet
-  after-total : (f : List ℕ → ℕ) → total S after f + f (held S w n injectionQueue) ≡ total S w f + f joined
-  unfolding after put
-  after-total f = rw (total-raised S acceptedAt put f (omega arith)) (total-put S w n injectionQueue joined f place few)
-
-  after-packets : packetsHeld S after ≡ packetsHeld S w + 1
-  unfolding packetsHeld
-  after-packets = let a = after-total length in let b = joined-length in omega arith
-
-  after-work : workLeft S after ≡ workLeft S w + work p
-  unfolding workLeft joined sumOf
-  after-work =
-      let a : total S after (sumOf work) + sumOf work (held S w n injectionQueue) ≡ total S w (sumOf work) + sumOf work (held S w n injectionQueue ++ (p ∷ [])) = after-total (sumOf work) in
-      let b : sumOf work (held S w n injectionQueue ++ (p ∷ [])) ≡ sumOf work (held S w n injectionQueue) + (work p + 0) = sumOf-append work (held S w n injectionQueue) (p ∷ []) in
+  offer-sum : (g : ℕ → ℕ) → total S v (sumOf g) ≡ total S w (sumOf g) + g p
+  offer-sum g =
+      let a : total S v (sumOf g) + sumOf g (held S w n injectionQueue) ≡ total S w (sumOf g) + sumOf g (held S v n injectionQueue) =
+      total-change S w v n injectionQueue (sumOf g) hn (omega arith) (O .others) in
+      let b : sumOf g (held S v n injectionQueue) ≡ sumOf g (held S w n injectionQueue) + sumOf g (p ∷ []) =
+      ap (sumOf g) (O .newest) ∙ sumOf-append g (held S w n injectionQueue) (p ∷ []) in
+      let c : sumOf g (p ∷ []) ≡ g p = sumOf-one g p in
       omega arith
 
-  after-network : Network S after
-  unfolding AllFit p
-  after-network =
-      let x : accepted after ≡ accepted w + 1 = after-accepted in
-      let y : delivered after ≡ delivered w = after-delivered in
-      let z : movesMade after ≡ movesMade w = after-moves in
-      let h : packetsHeld S after ≡ packetsHeld S w + 1 = after-packets in
-      let k : workLeft S after ≡ workLeft S w + work p = after-work in
+  offer-network : Network S v
+  unfolding workLeft
+  offer-network =
+      let x : accepted v ≡ accepted w + 1 = O .one-accepted in
+      let y : delivered v ≡ delivered w = O .same-delivered in
+      let z : movesMade v ≡ movesMade w = O .same-moves in
+      let h : packetsHeld S v ≡ packetsHeld S w + 1 = packets-sum S v ∙ offer-sum one ∙ ap (λ (k : ℕ). k + 1) (sym (packets-sum S w)) in
+      let k : total S v (sumOf work) ≡ total S w (sumOf work) + work p = offer-sum work in
       let most : work p ≤ mostWork = work-offered S n dest tag tor hn hd few-nodes small in
       let c : delivered w + packetsHeld S w ≡ accepted w = N .counted in
-      let b : movesMade w + workLeft S w ≤ mostWork * accepted w = N .bounded in
+      let b : movesMade w + total S w (sumOf work) ≤ mostWork * accepted w = N .bounded in
       record {
         in-range = N .in-range;
-        long = rw after-length (N .long);
-        queue = after-fit;
-        ring = after-ring;
+        long = O .kept .stored .long;
+        queue = λ m r hm hr. fits-by S v m r (O .kept .stored .queue m r hm hr) (packets-fit m r hm hr (same? n injectionQueue m r));
+        ring = offer-ring;
         few-accepted = omega arith;
         counted = omega arith;
         bounded = omega arith;
       }
-
-  after-shape : shape after ≡ shape w
-  unfolding after put
-  after-shape = shape-raised acceptedAt put (omega arith) ∙ shape-put S w n injectionQueue joined place few
 
 -- what a packet from node n to node dest needs to join words that are a network. That the two differ is Offer's rule and not the check's (R86)
 pub record Accepting (S : Shape) (w : List ℕ) (n dest : ℕ) : Type 0 where
@@ -367,16 +305,19 @@ accepting S w n dest N e =
     neither-of true b e = absurd (mathlib.Core.Bool.true≢false e)
     neither-of false b e = (refl, e)
 
+-- what such an offer does
+accepted-taken : (S : Shape) (w : List ℕ) (n dest tag : ℕ) → Network S w → Accepting S w n dest → OfferTaken S w (afterOffer S w n dest tag) n (offered S n dest tag)
+accepted-taken S w n dest tag N A = offer-taken S w n dest tag (network-stored S w N) (A .node) (A .free)
+
 -- R86: words that such a packet has joined pass the check, one for the very node where it stands too, which no Offer takes any more (R174)
 pub joined-passes : (w : List ℕ) (n dest tag : ℕ) → networkRefusal w ≡ 0 → Accepting (shape w) w n dest
     → networkRefusal (afterOffer (shape w) w n dest tag) ≡ 0
-unfolding afterOffer after put joined p
 joined-passes w n dest tag e A =
     let N : Network (shape w) w = network-passed w e in
     let v : List ℕ = afterOffer (shape w) w n dest tag in
-    let same : shape v ≡ shape w = after-shape (shape w) w n dest tag (torus w N) N (A .node) (A .addressed) (A .free) (A .fewer) in
-    let M : Network (shape w) v = after-network (shape w) w n dest tag (torus w N) N (A .node) (A .addressed) (A .free) (A .fewer) in
-    network-passes v (subst (λ (S : Shape). Network S v) (sym same) M)
+    let O : OfferTaken (shape w) w v n (offered (shape w) n dest tag) = accepted-taken (shape w) w n dest tag N A in
+    let M : Network (shape w) v = offer-network (shape w) w v n dest tag (torus w N) N (A .node) (A .addressed) (A .fewer) O in
+    network-passes v (subst (λ (S : Shape). Network S v) (sym (O .kept .same-shape)) M)
 
 -- R101, R102: an offer that is not refused keeps the check
 pub offer-passes : (w : List ℕ) (n dest tag : ℕ) → offerRefusal w n dest ≡ 0 → networkRefusal (offerWords w n dest tag) ≡ 0
@@ -388,12 +329,12 @@ offer-passes w n dest tag e =
 
 -- and leaves the store as long as it was
 pub offer-length : (w : List ℕ) (n dest tag : ℕ) → offerRefusal w n dest ≡ 0 → length (offerWords w n dest tag) ≡ length w
-unfolding offerWords offerRefusal afterOffer after put joined p
+unfolding offerWords offerRefusal
 offer-length w n dest tag e =
     let (network, rules) = neither (networkRefusal w) (offerRules (shape w) w n dest) e in
     let N : Network (shape w) w = network-passed w network in
     let A : Accepting (shape w) w n dest = accepting (shape w) w n dest N rules in
-    rw (eq-eqb (offerRefusal w n dest) 0 e) (after-length (shape w) w n dest tag (torus w N) N (A .node) (A .addressed) (A .free) (A .fewer))
+    rw (eq-eqb (offerRefusal w n dest) 0 e) (accepted-taken (shape w) w n dest tag N A .kept .same-length)
 
 -- refused or not, an offer leaves a network where there was one, and makes no move
 pub offer-network : (w : List ℕ) (n dest tag : ℕ) → networkRefusal w ≡ 0 → networkRefusal (offerWords w n dest tag) ≡ 0
@@ -405,7 +346,7 @@ offer-network w n dest tag z = go (ℕ-discrete (offerRefusal w n dest) 0)
     go (no ne) = rw (ne-eqb (offerRefusal w n dest) 0 ne) z
 
 pub offer-moves : (w : List ℕ) (n dest tag : ℕ) → movesMade (offerWords w n dest tag) ≡ movesMade w
-unfolding offerWords offerRefusal afterOffer after put joined p
+unfolding offerWords offerRefusal
 offer-moves w n dest tag = go (ℕ-discrete (offerRefusal w n dest) 0)
   where
     go : Dec (offerRefusal w n dest ≡ 0) → movesMade (offerWords w n dest tag) ≡ movesMade w
@@ -413,7 +354,7 @@ offer-moves w n dest tag = go (ℕ-discrete (offerRefusal w n dest) 0)
         let (network, rules) = neither (networkRefusal w) (offerRules (shape w) w n dest) e in
         let N : Network (shape w) w = network-passed w network in
         let A : Accepting (shape w) w n dest = accepting (shape w) w n dest N rules in
-        rw (eq-eqb (offerRefusal w n dest) 0 e) (after-moves (shape w) w n dest tag (torus w N) N (A .node) (A .addressed) (A .free) (A .fewer))
+        rw (eq-eqb (offerRefusal w n dest) 0 e) (accepted-taken (shape w) w n dest tag N A .same-moves)
     go (no ne) = rw (ne-eqb (offerRefusal w n dest) 0 ne) refl
 
 -- R174: the packet of an offer that is not refused has a hop to make: where it is handed out, it has crossed a link

@@ -19,9 +19,10 @@ use Rattle.network.specs.Layout.{load, taken}
 use Rattle.network.specs.LayoutLaws.{load-escape}
 use Rattle.network.specs.Check.{hasRoom, ringHasRoom}
 use Rattle.network.specs.CheckLaws.{has-room-of, has-room-by}
-use Rattle.network.specs.Routes.{slotsNeeded, freeSlots, target}
+use Rattle.network.specs.SameWords.{same?}
+use Rattle.network.specs.Routes.{deliver, slotsNeeded, freeSlots, target}
 use Rattle.network.specs.RoutesLaws.{free-slots-is, needed-escape}
-use Rattle.run.specs.Queues.{same?}
+use Rattle.network.specs.AfterLaws.{NotTarget}
 
 -- a free slot in one queue
 unfoldable pub Room : Shape → List ℕ → ℕ → ℕ → Type 0
@@ -65,12 +66,12 @@ back-to S d n tor hd =
     let whole : 1 + (size S (dimensionOf d) - 1) ≡ size S (dimensionOf d) = omega arith in
     along-add S d (size S (dimensionOf d) - 1) 1 n tor hd ∙ ap (λ (x : ℕ). along S d x n) whole ∙ along-round S d n tor hd
 
--- how a move of a packet changes how much of the queues is taken: more of its target, by the packet's load there, less of its source n, q, no more of
--- any other queue
+-- how a move of a packet changes how much of the queues is taken: more of its target, if it has one, by the packet's load there, less of its source
+-- n, q, no more of any other queue
 pub record Shifted (S : Shape) (w v : List ℕ) (n q o : ℕ) : Type 0 where
   pub packet : ℕ
-  pub others : (m r : ℕ) → m < nodes S → r < queues → ((target S n o ≡ m) × (o ≡ r) → ⊥) → taken S v m r ≤ taken S w m r
-  pub newest : taken S v (target S n o) o ≡ taken S w (target S n o) o + load o packet
+  pub others : (m r : ℕ) → m < nodes S → r < queues → NotTarget S n o m r → taken S v m r ≤ taken S w m r
+  pub newest : o ≢ deliver → taken S v (target S n o) o ≡ taken S w (target S n o) o + load o packet
   pub source : taken S v n q < taken S w n q
 
 -- the direction and the kind of an escape queue
@@ -89,7 +90,7 @@ needs-two q d p ne = needed-escape q d p ∙ ap (λ (own : Bool). cond own 1 2) 
 
 -- a ring keeps a free slot: where the move enters it, one of two stays free at the target; where it travels along it, it frees one at the source
 pub ring-kept : (S : Shape) (w v : List ℕ) (n q o p : ℕ) → Torus S → n < nodes S → taken S w n q ≤ capacity S q
-    → slotsNeeded q o p ≤ freeSlots S w n o → Shifted S w v n q o
+    → (o ≢ deliver → slotsNeeded q o p ≤ freeSlots S w n o) → Shifted S w v n q o
     → (d m : ℕ) → d < directions → m < nodes S → T (ringHasRoom S w d m) → T (ringHasRoom S v d m)
 unfolding Room target
 ring-kept S w v n q o p tor hn few flow sh d m hd hm t = go (same? (target S n o) o a (escapeQueue d))
@@ -114,17 +115,23 @@ ring-kept S w v n q o p tor hn few flow sh d m hd hm t = go (same? (target S n o
         let freed : Room S v n q = native.Mathlib.Nat.lt-of-lt-of-le (sh .source) few in
         ring-by S v d m (old .steps + (size S (dimensionOf d) - 1)) tor hd (rw (before, ← eq) freed)
     travels eo et (no ne) =
-        let two : 2 ≤ freeSlots S w n o = rw (ap (λ (r : ℕ). slotsNeeded q r p) eo ∙ needs-two q d p ne) at flow in
+        let two : 2 ≤ freeSlots S w n o = rw (ap (λ (r : ℕ). slotsNeeded q r p) eo ∙ needs-two q d p ne) at (flow away) in
         let free : freeSlots S w n o ≡ capacity S o - taken S w (target S n o) o = free-slots-is S w n o in
-        let more : taken S v (target S n o) o ≡ taken S w (target S n o) o + load o (sh .packet) = sh .newest in
+        let more : taken S v (target S n o) o ≡ taken S w (target S n o) o + load o (sh .packet) = sh .newest away in
         let one : load o (sh .packet) ≡ 1 = load-escape o (sh .packet) (omega arith) in
         let still : Room S v (target S n o) o =
         roomy (capacity S o) (taken S w (target S n o) o) (taken S v (target S n o) o) (load o (sh .packet)) (freeSlots S w n o) two free more one in
         ring-by S v d m (old .steps) tor hd (rw (← et, ← eo) still)
       where
+        transit : (d : ℕ) → escapeQueue d ≡ deliver → ⊥
+        transit d z = omega arith
+
+        away : o ≢ deliver
+        away z = transit d (sym eo ∙ z)
+
         roomy : (c x y l f : ℕ) → 2 ≤ f → f ≡ c - x → y ≡ x + l → l ≡ 1 → y < c
         roomy c x y l f h e g one = omega arith
 
     go : Dec ((target S n o ≡ a) × (o ≡ escapeQueue d)) → T (ringHasRoom S v d m)
     go (yes e) = travels (e .1) (e .0) (ℕ-discrete q (escapeQueue d))
-    go (no ne) = ring-by S v d m (old .steps) tor hd (lt-of-le-of-lt (sh .others a (escapeQueue d) ha (escape-lt d hd) ne) (old .room))
+    go (no ne) = ring-by S v d m (old .steps) tor hd (lt-of-le-of-lt (sh .others a (escapeQueue d) ha (escape-lt d hd) (λ away. ne)) (old .room))
