@@ -234,13 +234,13 @@ no-target o free takes Entering z =
         go (inl b) = absurd (b .1 .0 z)
         go (inr b) = absurd (b .1)
 
-flow-first : (S : Shape) (w : List ℕ) (n q o : ℕ) → o < queues → FirstRule (flowTests S w n q o) (flowRules S w n q o)
+flow-first : (S : Shape) (w : List ℕ) (n q o : ℕ) → o < queues → FirstRule (flowTests S w n q o) (flowRules S w n q o (head (held S w n q)))
 unfolding flowRules
 flow-first S w n q o h = go (ℕ-discrete o deliver)
   where
-    go : Dec (o ≡ deliver) → FirstRule (flowTests S w n q o) (flowRules S w n q o)
+    go : Dec (o ≡ deliver) → FirstRule (flowTests S w n q o) (flowRules S w n q o (head (held S w n q)))
     go (yes e) = rw (eq-eqb o deliver e) (no-target o (freeSlots S w n o) (load o (head (held S w n q))) (Enters q o) e)
-    go (no ne) = flow-tests o (freeSlots S w n o) (load o (head (held S w n q))) (Enters q o) (flowRules S w n q o) ne (flow-by-free S w n q o h ne)
+    go (no ne) = flow-tests o (freeSlots S w n o) (load o (head (held S w n q))) (Enters q o) (flowRules S w n q o (head (held S w n q))) ne (flow-by-free S w n q o (head (held S w n q)) h ne)
 
 pub move-first : (w : List ℕ) (n q o : ℕ) → FirstRule (networkTests w ++ moveTests w n q o) (movedNumber (moveAnswer w n q o))
 unfolding moveRefusal moveRules

@@ -70,27 +70,27 @@ told-by false false free takes Entering few room =
 
 -- R150 to R152, R171, R172: of every output above 0, in all words: 11 exactly if less is free than the head takes, 12 exactly if just as much is free and the
 -- head enters a ring, else neither
-pub flow-by-free : (S : Shape) (w : List ℕ) (n q o : ℕ) → o < queues → o ≢ deliver
-    → ByFree (freeSlots S w n o) (load o (head (held S w n q))) (Enters q o) (flowRules S w n q o)
+pub flow-by-free : (S : Shape) (w : List ℕ) (n q o p : ℕ) → o < queues → o ≢ deliver
+    → ByFree (freeSlots S w n o) (load o p) (Enters q o) (flowRules S w n q o p)
 unfolding flowRules slotsNeeded
-flow-by-free S w n q o h ne =
+flow-by-free S w n q o p h ne =
     rw (ne-eqb o deliver ne)
-    (told-by (eqb free 0) (ltb free (cond (entersRing q o) 2 1)) free takes (Enters q o) few (room (entersRing q o) (enters-exactly q o h)))
+    (told-by (eqb free 0) (ltb free (cond (entersRing q o) 2 takes)) free takes (Enters q o) few (room (entersRing q o) (enters-exactly q o h)))
   where
     free : ℕ
     free = freeSlots S w n o
 
     takes : ℕ
-    takes = load o (head (held S w n q))
+    takes = load o p
 
     one : takes ≡ 1
-    one = load-one o (head (held S w n q))
+    one = load-one o p
 
     few : T (eqb free 0) ↔ (free < takes)
     few = ((λ t. let z = eqb→eq free 0 t in let e = one in omega arith), (λ l. let z : free ≡ 0 = (let e = one in omega arith) in rw z tt))
 
     -- whoever enters needs one slot more than he takes
-    room : (b : Bool) → T b ↔ Enters q o → T (ltb free (cond b 2 1)) ↔ ((free < takes) ⊎ ((free ≡ takes) × Enters q o))
+    room : (b : Bool) → T b ↔ Enters q o → T (ltb free (cond b 2 takes)) ↔ ((free < takes) ⊎ ((free ≡ takes) × Enters q o))
     room true enters = ((λ u. either (decLt free takes) (let l = ltb→lt free 2 u in let t = one in omega arith)), (λ c. lt→ltb free 2 (less c)))
       where
         either : Dec (free < takes) → free ≤ takes → (free < takes) ⊎ ((free ≡ takes) × Enters q o)
@@ -100,10 +100,10 @@ flow-by-free S w n q o h ne =
         less : (free < takes) ⊎ ((free ≡ takes) × Enters q o) → free < 2
         less (inl l) = let t = one in omega arith
         less (inr z) = let t = one in let k = z .0 in omega arith
-    room false enters = ((λ u. inl (let l = ltb→lt free 1 u in let t = one in omega arith)), (λ c. lt→ltb free 1 (less c)))
+    room false enters = ((λ u. inl (ltb→lt free takes u)), (λ c. lt→ltb free takes (less c)))
       where
-        less : (free < takes) ⊎ ((free ≡ takes) × Enters q o) → free < 1
-        less (inl l) = let t = one in omega arith
+        less : (free < takes) ⊎ ((free ≡ takes) × Enters q o) → free < takes
+        less (inl l) = l
         less (inr z) = absurd (enters .1 (z .1))
 
 -- what is free, and so what is told, by the capacity and what is taken of it
@@ -148,7 +148,7 @@ route-output q p o t = go (route-of q p o t)
     go (inr r) = below r
 
 -- of a standing head and one of its routes Move tells what the flow rule tells
-standing-told : (w : List ℕ) (n q o : ℕ) → Standing w n q o → moveRefusal w n q o ≡ flowRules (shape w) w n q o
+standing-told : (w : List ℕ) (n q o : ℕ) → Standing w n q o → moveRefusal w n q o ≡ flowRules (shape w) w n q o (head (held (shape w) w n q))
 unfolding moveRefusal moveRules
 standing-told w n q o s =
     elseBy-zero (networkRefusal w) _ (s .network)
@@ -166,7 +166,7 @@ pub move-by-free : (w : List ℕ) (n q o : ℕ) → Standing w n q o → o ≢ d
     → ByFree (freeSlots (shape w) w n o) (load o (head (held (shape w) w n q))) (Enters q o) (moveRefusal w n q o)
 move-by-free w n q o s ne =
     rw (standing-told w n q o s)
-    (flow-by-free (shape w) w n q o (route-output q (head (held (shape w) w n q)) o (s .route)) ne)
+    (flow-by-free (shape w) w n q o (head (held (shape w) w n q)) (route-output q (head (held (shape w) w n q)) o (s .route)) ne)
 
 pub flow-control : (w : List ℕ) (n q o : ℕ) → Standing w n q o → o ≢ deliver
     → FlowControl (capacity (shape w) o) (taken (shape w) w (target (shape w) n o) o) (load o (head (held (shape w) w n q))) (Enters q o) (moveRefusal w n q o)

@@ -256,9 +256,9 @@ module _ (S : Shape) (w v : List ℕ) (n dest tag : ℕ) (tor : Torus S) (N : Ne
       let c : sumOf g (p ∷ []) ≡ g p = sumOf-one g p in
       omega arith
 
-  offer-network : Network S v
+  taken-network : Network S v
   unfolding workLeft
-  offer-network =
+  taken-network =
       let x : accepted v ≡ accepted w + 1 = O .one-accepted in
       let y : delivered v ≡ delivered w = O .same-delivered in
       let z : movesMade v ≡ movesMade w = O .same-moves in
@@ -316,7 +316,7 @@ joined-passes w n dest tag e A =
     let N : Network (shape w) w = network-passed w e in
     let v : List ℕ = afterOffer (shape w) w n dest tag in
     let O : OfferTaken (shape w) w v n (offered (shape w) n dest tag) = accepted-taken (shape w) w n dest tag N A in
-    let M : Network (shape w) v = offer-network (shape w) w v n dest tag (torus w N) N (A .node) (A .addressed) (A .fewer) O in
+    let M : Network (shape w) v = taken-network (shape w) w v n dest tag (torus w N) N (A .node) (A .addressed) (A .fewer) O in
     network-passes v (subst (λ (S : Shape). Network S v) (sym (O .kept .same-shape)) M)
 
 -- R101, R102: an offer that is not refused keeps the check
