@@ -1,11 +1,18 @@
 # shellcheck shell=bash disable=SC2154
 # What ./bench and ./wave share: a script that runs a sheet through a program of crates/ sources this file. It sees to the files, builds
-# the program where no program is there that passed its check with the sources as they are now, and runs it. docs/DECISIONS.md: D64 to D66.
+# the program where no program is there that passed its check with the sources as they are now, and runs it. docs/DECISIONS.md: D64 to D66,
+# D116, D117.
 # The script sets before: name, the program's and the script's name; root, the folder of the repository; and lost, what is lost if the
 # output is.
-program=$root/target/bin/$name
-stamp=$root/target/$name.checked
-log=$root/target/$name.log
+
+# Which program the functions below are about: the script's own, or another that it needs.
+about() { # PROGRAM
+    crate=$1
+    program=$root/target/bin/$1
+    stamp=$root/target/$1.checked
+    log=$root/target/$1.log
+}
+about "$name"
 
 fail() {
     echo "$name: $*" >&2
@@ -46,19 +53,19 @@ built() { sha256sum <"$program"; }
 # changed, and where a check fails that has already written its program.
 why_not() {
     if [ ! -x "$program" ]; then
-        echo "the program is not built"
+        echo "the program $crate is not built"
     elif [ ! -f "$stamp" ]; then
-        echo "nothing says that target/bin/$name passed its check"
+        echo "nothing says that target/bin/$crate passed its check"
     elif [ "$(head -n 1 "$stamp")" != "$(sources)" ]; then
-        echo "target/bin/$name is older than its sources"
+        echo "target/bin/$crate is older than its sources"
     elif [ "$(tail -n 1 "$stamp")" != "$(built)" ]; then
-        echo "target/bin/$name is not the program that passed its check"
+        echo "target/bin/$crate is not the program that passed its check"
     fi
 }
 
 # How many crates the program is made of, itself one of them: what crates.txt says that it needs.
 crates_needed() {
-    LC_ALL=C awk -v "program=$name" '
+    LC_ALL=C awk -v "program=$crate" '
         function reach(crate,    list, n, k) {
             if (crate in seen || !(crate in needs)) return
             seen[crate] = 1
@@ -133,7 +140,7 @@ check() {
     trap 'end_check INT' INT
     trap 'end_check TERM' TERM
     set -m
-    (cd "$root" && exec rt check "$name") >"$log" 2>&1 </dev/null &
+    (cd "$root" && exec rt check "$crate") >"$log" 2>&1 </dev/null &
     set +m
     while kill -0 "$!" 2>/dev/null; do
         sleep "$pause"
@@ -150,23 +157,27 @@ build() { # WHY
             "The answers to a sheet can still be had from the independent simulator, of which nothing is proved:" \
             "cd compare && cargo run -q --release --offline --bin sheet < FILE"
     fi
-    echo "$name: $1; building it: rt check $name (from nothing that takes some minutes)" >&2
+    echo "$name: $1; building it: rt check $crate (from nothing that takes some minutes)" >&2
     local began=$SECONDS from kit
     kit=$(rt version 2>/dev/null | head -n 1)
     from=$(sources) && mkdir -p "$root/target" && rm -f "$stamp" && : >"$log" || fail "cannot write to $root/target"
     if ! check; then
         first_error
-        fail "the check failed, so nothing is run: rt check $name, its output is in target/$name.log"
+        fail "the check failed, so nothing is run: rt check $crate, its output is in target/$crate.log"
     fi
-    [ -x "$program" ] || fail "rt check $name left no program at $program"
+    [ -x "$program" ] || fail "rt check $crate left no program at $program"
     [ "$from" = "$(sources)" ] || fail "the sources were changed while they were checked: run it again"
     { echo "$from" && echo "kit $kit" && built; } >"$stamp" || fail "cannot write $stamp"
     echo "$name: built in $((SECONDS - began)) s" >&2
 }
-build_if_needed() {
-    local why
-    why=$(why_not)
-    [ -z "$why" ] || build "$why"
+build_if_needed() { # PROGRAM ..
+    local needed why
+    for needed in "$@"; do
+        about "$needed"
+        why=$(why_not)
+        [ -z "$why" ] || build "$why"
+    done
+    about "$name"
 }
 
 # ---- the version
@@ -193,7 +204,7 @@ version() {
     echo "commit     $(commit)"
     echo "interface  ${interface:-not known}, BENCH_VERSION of include/bench.h"
     echo "kit        $kit"
-    echo "program    ${why:-target/bin/$name passed its check}${with:+; built with $with}"
+    echo "program    ${why:-target/bin/$crate passed its check}${with:+; built with $with}"
 }
 
 # ---- the run
