@@ -74,19 +74,19 @@ crates_needed() {
             for (k = 1; k <= n; k++) reach(list[k])
         }
         { sub(/#.*/, ""); at = index($0, ":") }
-        at { needs[substr($0, 1, at - 1)] = substr($0, at + 1) }
+        at { crate = substr($0, 1, at - 1); gsub(/[ \t]/, "", crate); needs[crate] = substr($0, at + 1) }
         END { reach(program); print all + 0 }' "$root/crates.txt"
 }
-# Says how far the check is: a line where it has come further, and on a terminal one line that changes.
+# Says how far the check is: where it has come further a line, one in a second at most, and on a terminal one line that changes.
 tell_how_far() { # CRATES SECONDS
     local proved
     proved=$(grep -c '^rt: [a-z0-9_]* proved' "$log")
     if [ -t 2 ]; then
         printf '\r%s: %s of %s crates proved, %s s' "$name" "$proved" "$1" "$2" >&2
-    elif [ "$proved" != "$proved_before" ]; then
+    elif [ "$proved" != "$told_proved" ] && [ "$2" != "$told_at" ]; then
         echo "$name: $proved of $1 crates proved, $2 s" >&2
+        told_proved=$proved told_at=$2
     fi
-    proved_before=$proved
 }
 # The first thing that the prover does not accept, with the lines that belong to it, and the crate that it is in. Where the prover says
 # nothing of that kind, the end of what rt says, without the crates that are proved and those that only wait for another.
@@ -134,7 +134,7 @@ end_check() { # SIGNAL
 # rt check NAME, its output to the log. rt starts the prover in the background, where Ctrl-C does not reach it: so the check has a process
 # group of its own, and a signal that ends this script ends that group.
 check() {
-    local began=$SECONDS crates pause=0.1 proved_before=0
+    local began=$SECONDS crates pause=0.1 told_proved=0 told_at=none
     crates=$(crates_needed)
     trap 'end_check HUP' HUP
     trap 'end_check INT' INT
