@@ -374,12 +374,6 @@ total-change S w v n q f hn hq same =
     before : ℕ → ℕ → ℕ
     before m r = f (held S w m r)
 
-pub total-put : (S : Shape) (w : List ℕ) (n q : ℕ) (ps : List ℕ) (f : List ℕ → ℕ) → Fits S w n q → length ps ≤ capacity S q
-    → total S (putQueue S w n q ps) f + f (held S w n q) ≡ total S w f + f ps
-total-put S w n q ps f fits h =
-    total-change S w (putQueue S w n q ps) n q f (fits .node) (fits .queue) (λ m r hm hr ne. held-put-other S w n q ps m r fits h hm hr ne)
-    ∙ ap (λ (l : List ℕ). total S w f + f l) (held-put-same S w n q ps fits h)
-
 pub total-part : (S : Shape) (w : List ℕ) (n q : ℕ) (f : List ℕ → ℕ) → n < nodes S → q < queues → f (held S w n q) ≤ total S w f
 unfolding total
 total-part S w n q f hn hq =
