@@ -347,12 +347,18 @@ rest-raised S at w h = drop-set-lt (headerWords + nodes S * nodeWords S) w at (g
 
 -- Sums over all queues ------------------------------------------------------------------------------------------------------------------
 
+-- of two networks of as many nodes, whose sizes may differ: where every queue's number is the same, the sums are
+pub total-both : (S R : Shape) (w v : List ℕ) (f g : List ℕ → ℕ) → nodes S ≡ nodes R
+    → ((n q : ℕ) → n < nodes S → q < queues → f (held S w n q) ≡ g (held R v n q)) → total S w f ≡ total R v g
+unfolding total
+total-both S R w v f g same h =
+    sum-same (nodes S) (λ n. sumBelow queues (λ q. f (held S w n q))) (λ n. sumBelow queues (λ q. g (held R v n q)))
+    (λ n hn. sum-same queues (λ q. f (held S w n q)) (λ q. g (held R v n q)) (λ q hq. h n q hn hq))
+    ∙ ap (λ (k : ℕ). sumBelow k (λ n. sumBelow queues (λ q. g (held R v n q)))) same
+
 pub total-same : (S : Shape) (w v : List ℕ) (f : List ℕ → ℕ) → ((n q : ℕ) → n < nodes S → q < queues → held S w n q ≡ held S v n q)
     → total S w f ≡ total S v f
-unfolding total
-total-same S w v f h =
-    sum-same (nodes S) (λ n. sumBelow queues (λ q. f (held S w n q))) (λ n. sumBelow queues (λ q. f (held S v n q)))
-    (λ n hn. sum-same queues (λ q. f (held S w n q)) (λ q. f (held S v n q)) (λ q hq. ap f (h n q hn hq)))
+total-same S w v f h = total-both S S w v f f refl (λ n q hn hq. ap f (h n q hn hq))
 
 -- a change of one queue changes the sum by what that queue's number changes
 pub total-change : (S : Shape) (w v : List ℕ) (n q : ℕ) (f : List ℕ → ℕ) → n < nodes S → q < queues

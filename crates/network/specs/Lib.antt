@@ -30,4 +30,5 @@ pub mod OfferLaws
 pub mod Run
 pub mod DrainLaws
 pub mod RunLaws
+pub mod SamePackets
 pub mod Cases
