@@ -6,7 +6,7 @@ use mathlib.Core.List.{List, [], _∷_, _++_}
 use Prim.Native.Nat.{ℕ, _+_, _*_, _-_, _^_, _<_, _≤_}
 use native.Mathlib.Omega.{arith}
 use borrow.Author.Tests.{eq-eqb, ne-eqb}
-use lib.ListN.{length, getD, set, drop, replicate, length-append, replicate-append-replicate}
+use lib.ListN.{length, getD, set, drop, replicate, length-append, length-drop, replicate-append-replicate}
 use Rattle.network.specs.Sizes.{Shape, shapeOf, nodes, queues, capacity, injectionQueue, directionOf, dimensionOf}
 use Rattle.network.specs.Packet.{hop}
 use Rattle.network.specs.Torus.{neighbour}
@@ -19,7 +19,7 @@ use Rattle.network.specs.Routes.{deliver, target}
 use Rattle.network.specs.Refusals.{head}
 use Rattle.network.specs.RefusalLaws.{Permitted}
 use Rattle.network.specs.Calls.{emptyHeader, emptyNetwork, offered, afterOffer, headLeaves, packetArrives, afterMove}
-use Rattle.run.specs.Queues.{held-few, length-rest}
+use Rattle.network.specs.SameWords.{stored-few, network-stored}
 use Rattle.network.specs.AfterLaws.{Ahead, ahead}
 use Rattle.queue.specs.Queue.{CheckedQueue}
 use Rattle.network.specs.declared.Sizes.{Sizes}
@@ -129,8 +129,8 @@ module _ {S : Shape} {w v : List ℕ} {n q o : ℕ} (L : Left S w v n q o) where
 
   few : length (drop 1 (held S w n q)) ≤ capacity S q
   few =
-      let a = length-rest (held S w n q) (L .permitted .holds) in
-      let b = held-few S w n q place (L .network .queue n q (L .permitted .node) (L .permitted .queue)) in
+      let a = length-drop 1 (held S w n q) in
+      let b = stored-few S w n q place (network-stored S w (L .network) .queue n q (L .permitted .node) (L .permitted .queue)) in
       omega arith
 
   left-may : (at : ℕ) → at < headerWords → Raisable at w → Raisable at v

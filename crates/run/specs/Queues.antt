@@ -1,12 +1,11 @@
 -- The queue clause of the check by how a queue is stored and by its packets; a queue's oldest packet apart from the rest, and its newest;
 -- the number of packets as a sum. Assumes nothing.
 use mathlib.Core.Path.{_≡_, refl, ap, sym, fun-ext}
-use mathlib.Core.Logic.{_≢_}
 use mathlib.Core.List.{List, [], _∷_, _++_}
-use Prim.Native.Nat.{ℕ, suc, _≤_}
+use Prim.Native.Nat.{ℕ, _≤_}
 use native.Mathlib.Omega.{arith}
 use lib.Dec.{T}
-use lib.ListN.{length, drop}
+use lib.ListN.{drop}
 use Rattle.base.specs.Tests.{allOf, allOf-tail, allOf-append}
 use Rattle.base.specs.Sums.{sumOf, sumOf-ones}
 use Rattle.network.specs.Sizes.{Shape, capacity}
@@ -20,16 +19,12 @@ use Rattle.network.specs.SameWords.{QueueStored, stored-few}
 pub fits-by : (S : Shape) (w : List ℕ) (n q : ℕ) → QueueStored S w n q → T (allOf (packetFits S n q) (held S w n q)) → QueueFits S w n q
 fits-by S w n q l t = record { few = l .few; unused = l .unused; packets = t }
 
--- a queue that fits holds at most its capacity, and no more of it is taken
-pub held-few : (S : Shape) (w : List ℕ) (n q : ℕ) → Fits S w n q → QueueFits S w n q → length (held S w n q) ≤ capacity S q
-held-few S w n q at f = stored-few S w n q at (record { few = f .few; unused = f .unused })
-
+-- no more of a queue that fits is taken than its capacity
 pub taken-few : (S : Shape) (w : List ℕ) (n q : ℕ) → Fits S w n q → QueueFits S w n q → taken S w n q ≤ capacity S q
-taken-few S w n q at f = let e = taken-length S w n q in let l = held-few S w n q at f in omega arith
-
-pub length-rest : (ps : List ℕ) → length ps ≢ 0 → suc (length (drop 1 ps)) ≡ length ps
-length-rest [] ne = absurd (ne refl)
-length-rest (p ∷ ps) ne = refl
+taken-few S w n q at f =
+    let e = taken-length S w n q in
+    let l = stored-few S w n q at (record { few = f .few; unused = f .unused }) in
+    omega arith
 
 pub allOf-rest : (f : ℕ → mathlib.Core.Bool.Bool) (ps : List ℕ) → T (allOf f ps) → T (allOf f (drop 1 ps))
 allOf-rest f [] t = t
