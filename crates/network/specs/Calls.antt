@@ -84,14 +84,14 @@ moveWords w n q o = unlessRefused (moveRefusal w n q o) (afterMove (shape w) w n
 
 unfoldable pub moveAnswer : List ℕ → ℕ → ℕ → ℕ → Moved
 moveAnswer w n q o =
-    cond (eqb (moveRefusal w n q o) 0)
+    unlessRefused (moveRefusal w n q o)
     (cond (eqb o deliver) (Moved.Delivered (head (held (shape w) w n q))) Moved.Passed)
     (Moved.Refused (moveRefusal w n q o))
 
 -- Credit (R116) -----------------------------------------------------------------------------------------------------------------------
 
 unfoldable pub creditAnswer : List ℕ → ℕ → ℕ → Credit
-creditAnswer w n o = cond (eqb (creditRefusal w n o) 0) (Credit.Free (freeSlots (shape w) w n o)) (Credit.Refused (creditRefusal w n o))
+creditAnswer w n o = unlessRefused (creditRefusal w n o) (Credit.Free (freeSlots (shape w) w n o)) (Credit.Refused (creditRefusal w n o))
 
 -- Look (R119 to R121): what the part holds that it gives back, and where in the lent words it begins; its companion answers lookRefusal ------
 
@@ -129,7 +129,7 @@ unfoldable pub firstMove : Shape → List ℕ → Found
 firstMove S w = search (λ n. firstInNode S w n) 0 (nodes S)
 
 unfoldable pub firstAnswer : List ℕ → Found
-firstAnswer w = cond (eqb (networkRefusal w) 0) (firstMove (shape w) w) (Found.Refused (networkRefusal w))
+firstAnswer w = unlessRefused (networkRefusal w) (firstMove (shape w) w) (Found.Refused (networkRefusal w))
 
 -- Drain -------------------------------------------------------------------------------------------------------------------------------
 
@@ -138,6 +138,9 @@ pub record NamedMove : Type 0 where
   pub node : ℕ
   pub queue : ℕ
   pub output : ℕ
+
+abbrev pub moveOf : ℕ → ℕ → ℕ → NamedMove
+moveOf n q o = record { node = n; queue = q; output = o }
 
 -- a packet word handed out, and the node of its move
 pub record Delivery : Type 0 where
@@ -162,7 +165,7 @@ oneMore m ds r = record { words = r .words; moves = m ∷ r .moves; deliveries =
 unfoldable pub deliverNext : Shape → List ℕ → ℕ → ℕ → ℕ → (ℕ → List ℕ → Progress) → Progress
 deliverNext S w n q zero on = stopped w Stop.Full
 deliverNext S w n q (suc room) on =
-    oneMore (record { node = n; queue = q; output = deliver }) (record { node = n; packet = head (held S w n q) } ∷ [])
+    oneMore (moveOf n q deliver) (record { node = n; packet = head (held S w n q) } ∷ [])
     (on room (afterMove S w n q deliver))
 
 -- R127: the move that First names, and on. While anything is held it names one, so the first two cases do not come up (run/specs/Stops.antt)
@@ -170,7 +173,7 @@ unfoldable pub moveNext : Shape → List ℕ → ℕ → Found → (ℕ → List
 moveNext S w room (Found.Refused r) on = stopped w Stop.Emptied
 moveNext S w room Found.Nothing on = stopped w Stop.Emptied
 moveNext S w room (Found.Move n q o) on =
-    cond (eqb o deliver) (deliverNext S w n q room on) (oneMore (record { node = n; queue = q; output = o }) [] (on room (afterMove S w n q o)))
+    cond (eqb o deliver) (deliverNext S w n q room on) (oneMore (moveOf n q o) [] (on room (afterMove S w n q o)))
 
 -- R130 to R133: the stops, tested in this order before every move: emptied, spent, full
 unfoldable pub drainFrom : Shape → ℕ → ℕ → List ℕ → Progress
@@ -195,7 +198,7 @@ drainLedger w budget ledger = unlessRefused (networkRefusal w) (written (drained
 -- R129
 unfoldable pub drainAnswer : List ℕ → ℕ → ℕ → Drained
 drainAnswer w budget room =
-    cond (eqb (networkRefusal w) 0)
+    unlessRefused (networkRefusal w)
     (Drained.Stopped (length (drained w budget room .moves)) (length (drained w budget room .deliveries)) (drained w budget room .stop))
     (Drained.Refused (networkRefusal w))
 
@@ -230,7 +233,7 @@ foundNumber (Found.Move n q o) = 0
 unfoldable pub foundMove : Found → List NamedMove
 foundMove (Found.Refused r) = []
 foundMove Found.Nothing = []
-foundMove (Found.Move n q o) = record { node = n; queue = q; output = o } ∷ []
+foundMove (Found.Move n q o) = moveOf n q o ∷ []
 
 unfoldable pub drainedNumber : Drained → ℕ
 drainedNumber (Drained.Refused r) = r

@@ -18,7 +18,7 @@ use Rattle.network.specs.Layout.{shape, held}
 use Rattle.network.specs.Routes.{routes}
 use Rattle.network.specs.Refusals.{networkRefusal, moveRules, moveRefusal, head}
 use Rattle.network.specs.RefusalLaws.{Permitted, permitted-of, permitted-by, neither, elseBy-zero}
-use Rattle.network.specs.Calls.{firstOutput, firstInQueue, orElse, search, firstInNode, firstMove, firstAnswer, NamedMove, foundMove}
+use Rattle.network.specs.Calls.{moveOf, firstOutput, firstInQueue, orElse, search, firstInNode, firstMove, firstAnswer, NamedMove, foundMove}
 use Rattle.network.specs.Choices.{Permits, placeAmong, routePlace, Earlier, by-node, by-queue, by-route, FirstRight}
 use Rattle.network.specs.FirstLaws.{Finds, nothing, named, search-finds, finds-map, Its, queue-finds, queue-nothing, node-nothing, first-finds, first-nothing}
 
@@ -193,7 +193,7 @@ unfolding foundMove
 names (Found.Refused r) m e = absurd (suc-ne-zero 0 (sym (ap length e)))
 names Found.Nothing m e = absurd (suc-ne-zero 0 (sym (ap length e)))
 names (Found.Move n q o) m e =
-    let same : _≡_ {A = NamedMove} (record { node = n; queue = q; output = o }) m = cc in
+    let same : _≡_ {A = NamedMove} (moveOf n q o) m = cc in
     λ i. Found.Move (same i .node) (same i .queue) (same i .output)
 
 module _ (w : List ℕ) where
@@ -240,7 +240,7 @@ module _ (w : List ℕ) where
       go : (f : Found) → firstMove (shape w) w ≡ f → Finds (Permitted (shape w) w) f → foundMove (firstAnswer w) ≡ m ∷ []
       go f e nothing = absurd (first-nothing (shape w) w e (m .node) (m .queue) (m .output) (allowed m p .1))
       go f e (named {n} {q} {o} P) =
-          let k : NamedMove = record { node = n; queue = q; output = o } in
+          let k : NamedMove = moveOf n q o in
           let found : foundMove (firstAnswer w) ≡ k ∷ [] = searched z ∙ ap foundMove e in
           by k found (in-order w k m P (allowed m p .1)) (permits k z P)
         where
@@ -264,7 +264,7 @@ module _ (w : List ℕ) where
     where
       by : networkRefusal w ≡ 0 → (f : Found) → Finds (Permitted (shape w) w) f → foundMove f ≡ []
       by z f nothing = refl
-      by z f (named {n} {q} {o} P) = absurd (no-move (record { node = n; queue = q; output = o }) (permits (record { node = n; queue = q; output = o }) z P))
+      by z f (named {n} {q} {o} P) = absurd (no-move (moveOf n q o) (permits (moveOf n q o) z P))
 
       go : Dec (networkRefusal w ≡ 0) → foundMove (firstAnswer w) ≡ []
       go (no ne) = refused ne

@@ -16,7 +16,7 @@ use Rattle.network.specs.Check.{packetsHeld}
 use Rattle.network.specs.Routes.{deliver}
 use Rattle.network.specs.Refusals.{networkRefusal, head}
 use Rattle.network.specs.Run.{deliveryNodes}
-use Rattle.network.specs.Calls.{NamedMove, Delivery, Progress, afterMove, firstMove, stopped, oneMore, deliverNext, moveNext, drainFrom, drained, drainAnswer, drainedDelivered}
+use Rattle.network.specs.Calls.{NamedMove, moveOf, Delivery, Progress, afterMove, firstMove, stopped, oneMore, deliverNext, moveNext, drainFrom, drained, drainAnswer, drainedDelivered}
 
 pub record Within (budget room : ℕ) (r : Progress) : Type 0 where
   pub few-moves : length (r .moves) ≤ budget
@@ -39,7 +39,7 @@ module _ (S : Shape) (w : List ℕ) (budget : ℕ) (on : ℕ → List ℕ → Pr
   unfolding deliverNext
   within-delivery n q zero = within-stopped (suc budget) zero w Stop.Full
   within-delivery n q (suc room) =
-      within-more budget room (suc room) (record { node = n; queue = q; output = deliver }) (record { node = n; packet = head (held S w n q) } ∷ []) (on room (afterMove S w n q deliver)) (omega arith)
+      within-more budget room (suc room) (moveOf n q deliver) (record { node = n; packet = head (held S w n q) } ∷ []) (on room (afterMove S w n q deliver)) (omega arith)
       (rec room (afterMove S w n q deliver))
 
   within-next : (room : ℕ) (f : Found) → Within (suc budget) room (moveNext S w room f on)
@@ -48,9 +48,9 @@ module _ (S : Shape) (w : List ℕ) (budget : ℕ) (on : ℕ → List ℕ → Pr
   within-next room Found.Nothing = within-stopped (suc budget) room w Stop.Emptied
   within-next room (Found.Move n q o) = go (eqb o deliver)
     where
-      go : (t : Bool) → Within (suc budget) room (cond t (deliverNext S w n q room on) (oneMore (record { node = n; queue = q; output = o }) [] (on room (afterMove S w n q o))))
+      go : (t : Bool) → Within (suc budget) room (cond t (deliverNext S w n q room on) (oneMore (moveOf n q o) [] (on room (afterMove S w n q o))))
       go true = within-delivery n q room
-      go false = within-more budget room room (record { node = n; queue = q; output = o }) [] (on room (afterMove S w n q o)) (omega arith) (rec room (afterMove S w n q o))
+      go false = within-more budget room room (moveOf n q o) [] (on room (afterMove S w n q o)) (omega arith) (rec room (afterMove S w n q o))
 
 pub drain-within : (S : Shape) (budget room : ℕ) (w : List ℕ) → Within budget room (drainFrom S budget room w)
 unfolding drainFrom
@@ -84,7 +84,7 @@ module _ (S : Shape) (w : List ℕ) (on : ℕ → List ℕ → Progress) (rec : 
   matched-next room Found.Nothing = refl
   matched-next room (Found.Move n q o) = go (eqb o deliver) refl
     where
-      go : (t : Bool) → eqb o deliver ≡ t → Matched (cond t (deliverNext S w n q room on) (oneMore (record { node = n; queue = q; output = o }) [] (on room (afterMove S w n q o))))
+      go : (t : Bool) → eqb o deliver ≡ t → Matched (cond t (deliverNext S w n q room on) (oneMore (moveOf n q o) [] (on room (afterMove S w n q o))))
       go true e = matched-delivery n q room
       go false e = rw e (rec room (afterMove S w n q o))
 

@@ -20,7 +20,7 @@ use Rattle.network.specs.Calls.{unlessRefused, NamedMove, Delivery, move
 
 -- R220, R221: a Move's node, queue and output; a Drain's budget, and its ledger, which is no part of the network's words
 pub data Call : Type 0 where
-  move : ℕ → ℕ → ℕ → Call
+  move : NamedMove → Call
   drain : ℕ → List ℕ → Call
 
 -- a Drain's ledger: as it was lent, as it was left, and how many of its words the Drain answers that it wrote
@@ -59,12 +59,12 @@ wordsWritten L = take (L .written) (L .left)
 -- R224 to R227: a Move that is permitted is one move, any other none. A Drain that is not refused makes the moves that First names one after the
 -- other, as many as it answers. What a Move gave and what a Drain left in its ledger is handed out, each word at the node of its move.
 unfoldable pub outcome : Call → List ℕ → Outcome
-outcome (move n q o) w =
+outcome (move m) w =
     record {
-      words = moveWords w n q o;
-      moves = unlessRefused (moveRefusal w n q o) (record { node = n; queue = q; output = o } ∷ []) [];
-      told = unlessRefused (movedNumber (moveAnswer w n q o)) 1 0;
-      handedOut = map (λ p. record { node = n; packet = p }) (movedPackets (moveAnswer w n q o));
+      words = moveWords w (m .node) (m .queue) (m .output);
+      moves = unlessRefused (moveRefusal w (m .node) (m .queue) (m .output)) (m ∷ []) [];
+      told = unlessRefused (movedNumber (moveAnswer w (m .node) (m .queue) (m .output))) 1 0;
+      handedOut = map (λ p. record { node = m .node; packet = p }) (movedPackets (moveAnswer w (m .node) (m .queue) (m .output)));
       ledgers = [];
     }
 outcome (drain budget ledger) w =

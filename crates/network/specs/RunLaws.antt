@@ -81,7 +81,7 @@ kept-append (L ∷ Ls) Ms a b = (a .0, kept-append Ls Ms (a .1) b)
 
 call-kept : (c : Call) (w : List ℕ) → AllKept (outcome c w .ledgers)
 unfolding outcome AllKept
-call-kept (move n q o) w = tt
+call-kept (move m) w = tt
 call-kept (drain budget ledger) w = (drain-kept w budget ledger, tt)
 
 pub run-kept : (calls : List Call) (w : List ℕ) → AllKept (run calls w .ledgers)

@@ -21,7 +21,7 @@ use Rattle.network.specs.Routes.{deliver}
 use Rattle.network.specs.Refusals.{networkRefusal}
 use Rattle.network.specs.RefusalLaws.{Permitted, network-passed, network-passes}
 use Rattle.network.specs.FirstLaws.{Finds, nothing, named, first-finds}
-use Rattle.network.specs.Calls.{Progress, afterMove, firstMove, stopped, oneMore, deliverNext, moveNext, drainFrom, drained, drainWords, drainAnswer, drainedMoves, drainedDelivered}
+use Rattle.network.specs.Calls.{moveOf, Progress, afterMove, firstMove, stopped, oneMore, deliverNext, moveNext, drainFrom, drained, drainWords, drainAnswer, drainedMoves, drainedDelivered}
 use Rattle.run.specs.Step.{step}
 use Rattle.run.specs.Theorem.{torus}
 use Rattle.sheet.specs.declared.Command.{Command}
@@ -59,7 +59,7 @@ module _ (S : Shape) (w : List ℕ) (tor : Torus S) (N : Network S w) where
   handing n q room budget = deliverNext S w n q room (λ room′ w′. drainFrom S budget room′ w′)
 
   passing : ℕ → ℕ → ℕ → ℕ → ℕ → Progress
-  passing n q o room budget = oneMore (record { node = n; queue = q; output = o }) [] (drainFrom S budget room (afterMove S w n q o))
+  passing n q o room budget = oneMore (moveOf n q o) [] (drainFrom S budget room (afterMove S w n q o))
 
   next-handed : (n q room : ℕ) → Network S (afterMove S w n q deliver) → shape (afterMove S w n q deliver) ≡ shape w
       → Next S room w (handing n q room) (handing n q (oneWord room) zero)

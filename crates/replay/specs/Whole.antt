@@ -15,7 +15,7 @@ use Rattle.network.specs.Sizes.{shapeOf, sized}
 use Rattle.network.specs.Layout.{shape}
 use Rattle.network.specs.Refusals.{networkRefusal, moveRefusal, moveRules}
 use Rattle.network.specs.RefusalLaws.{neither, not-refused, elseBy-zero}
-use Rattle.network.specs.Calls.{unlessRefused, drainWords}
+use Rattle.network.specs.Calls.{moveOf, unlessRefused, drainWords}
 use Rattle.network.specs.Run.{move, drain, outcome, run, Demand3}
 use Rattle.run.specs.Theorem.{demand3}
 use Rattle.run.specs.Reached.{make-passes, make-length, offer-passes, offer-length}
@@ -90,7 +90,7 @@ moved-network w n q o z = neither (networkRefusal w) (moveRules (shape w) w n q 
 
 move-passes : (w : List ℕ) (n q o : ℕ) → moveRefusal w n q o ≡ 0 → networkRefusal (perform (Command.Move n q o) w .store) ≡ 0
 unfolding perform run outcome Demand3
-move-passes w n q o z = demand3 w (move n q o ∷ []) (moved-network w n q o z) .still-a-network
+move-passes w n q o z = demand3 w (move (moveOf n q o) ∷ []) (moved-network w n q o z) .still-a-network
 
 changed-passes : (c : Command) (w : List ℕ) → changed c w ≡ true → networkRefusal (carriedOut c w) ≡ 0
 unfolding changed carriedOut perform shapeOf
@@ -112,7 +112,7 @@ changed-length : (c : Command) (w : List ℕ) → changed c w ≡ true → lengt
 unfolding changed carriedOut perform shapeOf run outcome Demand3
 changed-length (Command.Make x y z e a j) w t = make-length (shapeOf (sized x y z e a j)) w refl (eqb-true _ 0 t)
 changed-length (Command.Offer node destination tag) w t = offer-length w node destination tag (eqb-true _ 0 t)
-changed-length (Command.Move node queue output) w t = demand3 w (move node queue output ∷ []) (moved-network w node queue output (eqb-true _ 0 t)) .same-length
+changed-length (Command.Move node queue output) w t = demand3 w (move (moveOf node queue output) ∷ []) (moved-network w node queue output (eqb-true _ 0 t)) .same-length
 changed-length (Command.Drain budget) w t = refl
 changed-length Command.Bad w t = refl
 

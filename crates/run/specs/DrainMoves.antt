@@ -21,7 +21,7 @@ use Rattle.network.specs.Routes.{deliver}
 use Rattle.network.specs.Refusals.{head}
 use Rattle.network.specs.RefusalLaws.{Permitted, network-passes}
 use Rattle.network.specs.FirstLaws.{Finds, nothing, named, first-finds}
-use Rattle.network.specs.Calls.{NamedMove, Delivery, Progress, afterMove, firstMove, stopped, oneMore, deliverNext, moveNext, drainFrom}
+use Rattle.network.specs.Calls.{NamedMove, moveOf, Delivery, Progress, afterMove, firstMove, stopped, oneMore, deliverNext, moveNext, drainFrom}
 use Rattle.network.specs.RunLaws.{leads-none, leads-one, leads-append}
 use Rattle.network.specs.ChoiceLaws.{permits}
 use Rattle.network.specs.Run.{Leads}
@@ -66,14 +66,14 @@ module _ (S : Shape) (tor : Torus S) where
           let b : Ran S w (afterMove S w n q deliver) (record { node = n; packet = head (held S w n q) } ∷ []) 1 =
           subst (λ (x : ℕ). Ran S w (afterMove S w n q x) (record { node = n; packet = head (held S w n q) } ∷ []) 1) e
           (subst (λ (ds : List Delivery). Ran S w (afterMove S w n q o) ds 1) (hands-out S w n q o e) a) in
-          goes-on S w (afterMove S w n q deliver) (record { node = n; queue = q; output = deliver }) (record { node = n; packet = head (held S w n q) } ∷ []) (on room′ (afterMove S w n q deliver)) b
+          goes-on S w (afterMove S w n q deliver) (moveOf n q deliver) (record { node = n; packet = head (held S w n q) } ∷ []) (on room′ (afterMove S w n q deliver)) b
           (rec room′ (afterMove S w n q deliver) (b .network))
 
-      go : Dec (o ≡ deliver) → (room′ : ℕ) → RanTo S w (cond (eqb o deliver) (deliverNext S w n q room′ on) (oneMore (record { node = n; queue = q; output = o }) [] (on room′ (afterMove S w n q o))))
+      go : Dec (o ≡ deliver) → (room′ : ℕ) → RanTo S w (cond (eqb o deliver) (deliverNext S w n q room′ on) (oneMore (moveOf n q o) [] (on room′ (afterMove S w n q o))))
       go (yes e) room′ = rw (eq-eqb o deliver e) (delivers e room′)
       go (no ne) room′ =
           let b : Ran S w (afterMove S w n q o) [] 1 = subst (λ (ds : List Delivery). Ran S w (afterMove S w n q o) ds 1) (hands-nothing S w n q o ne) a in
-          rw (ne-eqb o deliver ne) (goes-on S w (afterMove S w n q o) (record { node = n; queue = q; output = o }) [] (on room′ (afterMove S w n q o)) b (rec room′ (afterMove S w n q o) (b .network)))
+          rw (ne-eqb o deliver ne) (goes-on S w (afterMove S w n q o) (moveOf n q o) [] (on room′ (afterMove S w n q o)) b (rec room′ (afterMove S w n q o) (b .network)))
 
   -- a whole Drain
   pub drain-ran : (budget room : ℕ) (w : List ℕ) → Network S w → RanTo S w (drainFrom S budget room w)
@@ -104,7 +104,7 @@ module _ (S : Shape) (tor : Torus S) where
       a = step S w n q o tor N P
 
       m : NamedMove
-      m = record { node = n; queue = q; output = o }
+      m = moveOf n q o
 
       first : Leads w (m ∷ []) (afterMove S w n q o)
       first = subst (λ (T : Shape). Leads w (m ∷ []) (afterMove T w n q o)) same (leads-one w m (permits w m (network-passes w (subst (λ (T : Shape). Network T w) (sym same) N)) (subst (λ (T : Shape). Permitted T w n q o) (sym same) P)))
@@ -117,7 +117,7 @@ module _ (S : Shape) (tor : Torus S) where
       delivers : o ≡ deliver → (room′ : ℕ) → Leads w (deliverNext S w n q room′ on .moves) (deliverNext S w n q room′ on .words)
       delivers e zero = leads-none w
       delivers e (suc room′) =
-          subst (λ (x : ℕ). Leads w (record { node = n; queue = q; output = x } ∷ on room′ (afterMove S w n q x) .moves) (on room′ (afterMove S w n q x) .words)) e (later room′)
+          subst (λ (x : ℕ). Leads w (moveOf n q x ∷ on room′ (afterMove S w n q x) .moves) (on room′ (afterMove S w n q x) .words)) e (later room′)
 
       go : Dec (o ≡ deliver) → (room′ : ℕ)
           → Leads w (cond (eqb o deliver) (deliverNext S w n q room′ on) (oneMore m [] (on room′ (afterMove S w n q o))) .moves)

@@ -23,7 +23,7 @@ use Rattle.network.specs.Routes.{deliver}
 use Rattle.network.specs.Refusals.{networkRefusal, head}
 use Rattle.network.specs.RefusalLaws.{Permitted, network-passed, network-passes}
 use Rattle.network.specs.FirstLaws.{Finds, nothing, named, first-finds, first-nothing}
-use Rattle.network.specs.Calls.{NamedMove, Delivery, Progress, afterMove, firstMove, firstAnswer, stopped, oneMore, deliverNext, moveNext, drainFrom, drained, drainWords, drainAnswer, drainedMoves, drainedDelivered, drainedStop, foundMove}
+use Rattle.network.specs.Calls.{NamedMove, moveOf, Delivery, Progress, afterMove, firstMove, firstAnswer, stopped, oneMore, deliverNext, moveNext, drainFrom, drained, drainWords, drainAnswer, drainedMoves, drainedDelivered, drainedStop, foundMove}
 use Rattle.network.specs.DrainLaws.{Within, drain-within}
 use Rattle.network.specs.Choices.{NextDelivers, DrainStops}
 use Rattle.run.specs.Step.{Ran, step}
@@ -67,14 +67,14 @@ module _ (S : Shape) (tor : Torus S) where
       delivers : o ≡ deliver → (room′ : ℕ) → Why S (suc budget) room′ (deliverNext S w n q room′ on)
       delivers z zero = ledger-full refl ne (omega arith) (record { node = n; queue = q; first = e ∙ ap (λ (x : ℕ). Found.Move n q x) z }) refl
       delivers z (suc left) =
-          why-more S budget left (suc left) (record { node = n; queue = q; output = deliver }) (record { node = n; packet = head (held S w n q) } ∷ []) (on left (afterMove S w n q deliver)) (omega arith)
+          why-more S budget left (suc left) (moveOf n q deliver) (record { node = n; packet = head (held S w n q) } ∷ []) (on left (afterMove S w n q deliver)) (omega arith)
           (rec left (afterMove S w n q deliver) (subst (λ (x : ℕ). Network S (afterMove S w n q x)) z after))
 
       go : Dec (o ≡ deliver) → (room′ : ℕ)
-          → Why S (suc budget) room′ (cond (eqb o deliver) (deliverNext S w n q room′ on) (oneMore (record { node = n; queue = q; output = o }) [] (on room′ (afterMove S w n q o))))
+          → Why S (suc budget) room′ (cond (eqb o deliver) (deliverNext S w n q room′ on) (oneMore (moveOf n q o) [] (on room′ (afterMove S w n q o))))
       go (yes z) room′ = rw (eq-eqb o deliver z) (delivers z room′)
       go (no ne′) room′ =
-          rw (ne-eqb o deliver ne′) (why-more S budget room′ room′ (record { node = n; queue = q; output = o }) [] (on room′ (afterMove S w n q o)) (omega arith) (rec room′ (afterMove S w n q o) after))
+          rw (ne-eqb o deliver ne′) (why-more S budget room′ room′ (moveOf n q o) [] (on room′ (afterMove S w n q o)) (omega arith) (rec room′ (afterMove S w n q o) after))
 
   pub drain-why : (budget room : ℕ) (w : List ℕ) → Network S w → Why S budget room (drainFrom S budget room w)
   unfolding drainFrom stopped
@@ -107,7 +107,7 @@ next-delivers : (v : List ℕ) → Network (shape v) v → Delivers (shape v) v 
 unfolding firstAnswer foundMove
 next-delivers v N d =
     record {
-      next = record { node = d .node; queue = d .queue; output = deliver };
+      next = moveOf (d .node) (d .queue) deliver;
       first = rw (eq-eqb (networkRefusal v) 0 (network-passes v N)) (ap foundMove (d .first));
       delivers = refl;
     }

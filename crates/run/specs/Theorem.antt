@@ -26,7 +26,7 @@ use Rattle.network.specs.CheckLaws.{Network}
 use Rattle.network.specs.Routes.{deliver}
 use Rattle.network.specs.Refusals.{networkRefusal, moveRules, moveRefusal, head}
 use Rattle.network.specs.RefusalLaws.{network-passed, network-passes, neither, elseBy-zero, permitted-of, permitted-by}
-use Rattle.network.specs.Calls.{unlessRefused, movedNumber, Delivery, afterMove, moveWords, moveAnswer, movedPackets, drained, drainWords, drainAnswer, drainedMoves}
+use Rattle.network.specs.Calls.{moveOf, unlessRefused, movedNumber, Delivery, afterMove, moveWords, moveAnswer, movedPackets, drained, drainWords, drainAnswer, drainedMoves}
 use Rattle.network.specs.Run.{Call, move, drain, Outcome, outcome, run, Leads, ledgerOf, SomeMove, AfterRun, Demand3}
 use Rattle.network.specs.RunLaws.{drain-handed, run-kept, leads-none, leads-one, leads-append}
 use Rattle.run.specs.Step.{Ran, ran-none, ran-then, handsOut, step}
@@ -74,10 +74,10 @@ pub record Made (w : List ℕ) (r : Outcome) : Type 0 where
   pub told : r .told ≡ length (r .moves)
 
 made-move : (w : List ℕ) (n q o : ℕ) → moveRefusal w n q o ≡ 0
-    → outcome (move n q o) w
+    → outcome (move (moveOf n q o)) w
     ≡ record {
       words = afterMove (shape w) w n q o;
-      moves = record { node = n; queue = q; output = o } ∷ [];
+      moves = moveOf n q o ∷ [];
       told = 1;
       handedOut = handsOut (shape w) w n q o;
       ledgers = [];
@@ -95,14 +95,14 @@ made-move w n q o e = rw (eq-eqb (moveRefusal w n q o) 0 e) (by (eqb o deliver))
         → _≡_ {A = Outcome}
         (record {
           words = afterMove (shape w) w n q o;
-          moves = record { node = n; queue = q; output = o } ∷ [];
+          moves = moveOf n q o ∷ [];
           told = unlessRefused (movedNumber (answer t)) 1 0;
           handedOut = map (λ (x : ℕ). record { node = n; packet = x }) (movedPackets (answer t));
           ledgers = [];
         })
         (record {
           words = afterMove (shape w) w n q o;
-          moves = record { node = n; queue = q; output = o } ∷ [];
+          moves = moveOf n q o ∷ [];
           told = 1;
           handedOut = cond t (record { node = n; packet = p } ∷ []) [];
           ledgers = [];
@@ -111,7 +111,7 @@ made-move w n q o e = rw (eq-eqb (moveRefusal w n q o) 0 e) (by (eqb o deliver))
     by false = refl
 
 refused-move : (w : List ℕ) (n q o : ℕ) → moveRefusal w n q o ≢ 0
-    → outcome (move n q o) w ≡ record { words = w; moves = []; told = 0; handedOut = []; ledgers = [] }
+    → outcome (move (moveOf n q o)) w ≡ record { words = w; moves = []; told = 0; handedOut = []; ledgers = [] }
 unfolding outcome moveWords moveAnswer movedPackets movedNumber
 refused-move w n q o ne = let e : eqb (moveRefusal w n q o) 0 ≡ false = ne-eqb (moveRefusal w n q o) 0 ne in rw (e, e)
 
@@ -140,14 +140,23 @@ made-drain w budget ledger e =
 
 pub call-made : (c : Call) (w : List ℕ) → Network (shape w) w → Made w (outcome c w)
 unfolding moveRefusal drained
-call-made (move n q o) w N = go (ℕ-discrete (moveRefusal w n q o) 0)
+call-made (move m) w N = go (ℕ-discrete (moveRefusal w n q o) 0)
   where
-    go : Dec (moveRefusal w n q o ≡ 0) → Made w (outcome (move n q o) w)
+    n : ℕ
+    n = m .node
+
+    q : ℕ
+    q = m .queue
+
+    o : ℕ
+    o = m .output
+
+    go : Dec (moveRefusal w n q o ≡ 0) → Made w (outcome (move m) w)
     go (yes z) =
         rw (made-move w n q o z)
         (record {
           ran = step (shape w) w n q o (torus w N) N (permitted-of (shape w) w n q o (neither (networkRefusal w) (moveRules (shape w) w n q o) z .1));
-          leads = leads-one w (record { node = n; queue = q; output = o }) z;
+          leads = leads-one w (moveOf n q o) z;
           told = refl;
         })
     go (no ne) = rw (refused-move w n q o ne) (record { ran = ran-none (shape w) w N; leads = leads-none w; told = refl })
@@ -198,7 +207,7 @@ unfolding moveRefusal
 some-move w N ne =
     let s : Some (shape w) w = alive (shape w) w (torus w N) N ne in
     record {
-      named = record { node = s .node; queue = s .queue; output = s .output };
+      named = moveOf (s .node) (s .queue) (s .output);
       permitted =
           elseBy-zero (networkRefusal w) (moveRules (shape w) w (s .node) (s .queue) (s .output)) (network-passes w N)
           ∙ permitted-by (shape w) w (s .node) (s .queue) (s .output) (s .permitted);

@@ -20,7 +20,7 @@ use Rattle.network.specs.Routes.{deliver}
 use Rattle.network.specs.Refusals.{head}
 use Rattle.network.specs.RefusalLaws.{Permitted}
 use Rattle.network.specs.FirstLaws.{Finds, nothing, named, first-finds}
-use Rattle.network.specs.Calls.{NamedMove, Delivery, Progress, afterMove, firstMove, stopped, oneMore, deliverNext, moveNext, drainFrom}
+use Rattle.network.specs.Calls.{NamedMove, moveOf, Delivery, Progress, afterMove, firstMove, stopped, oneMore, deliverNext, moveNext, drainFrom}
 use Rattle.run.specs.Step.{step}
 use Rattle.turns.specs.declared.Turn.{Turn}
 
@@ -103,18 +103,18 @@ module _ (S : Shape) (tor : Torus S) (w : List ℕ) (N : Network S w) where
       home z zero e′ = stops e′
       home z (suc r) e′ =
           rw (ne-eqb (suc r) 0 (native.Mathlib.Nat.suc-ne-zero r))
-          (delivers (record { node = n; queue = q; output = deliver }) n b r refl refl M
+          (delivers (moveOf n q deliver) n b r refl refl M
           (e′
           ∙ ap
-          (λ (x : ℕ). oneMore (record { node = n; queue = q; output = deliver }) (record { node = n; packet = head (held S w n q) } ∷ []) (drainFrom S b r (afterMove S w n q x)))
+          (λ (x : ℕ). oneMore (moveOf n q deliver) (record { node = n; packet = head (held S w n q) } ∷ []) (drainFrom S b r (afterMove S w n q x)))
           (sym z)))
 
       go : Dec (o ≡ deliver) → (room′ : ℕ)
           → drainFrom S (suc b) room′ w
-          ≡ cond (eqb o deliver) (deliverNext S w n q room′ (λ r u. drainFrom S b r u)) (oneMore (record { node = n; queue = q; output = o }) [] (drainFrom S b room′ v))
+          ≡ cond (eqb o deliver) (deliverNext S w n q room′ (λ r u. drainFrom S b r u)) (oneMore (moveOf n q o) [] (drainFrom S b room′ v))
           → ByTurn S w (suc b) room′ (t room′) (unlessStopped (t room′) v w)
       go (yes z) room′ e′ = rw (eq-eqb o deliver z) (home z room′ (rw (eq-eqb o deliver z) at e′))
-      go (no ne) room′ e′ = rw (ne-eqb o deliver ne) (passes (record { node = n; queue = q; output = o }) b refl M (rw (ne-eqb o deliver ne) at e′))
+      go (no ne) room′ e′ = rw (ne-eqb o deliver ne) (passes (moveOf n q o) b refl M (rw (ne-eqb o deliver ne) at e′))
 
   pub by-turn : (budget room : ℕ) → ByTurn S w budget room (turnAnswer S w budget room) (turnWords S w budget room)
   unfolding turnAnswer turnWords unlessStopped
