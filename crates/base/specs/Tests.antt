@@ -1,5 +1,5 @@
 -- Tests over ranges and lists, as Booleans that compute, and the laws that turn a test into a fact and back; and a fact for each number of a range.
--- Order: below n; facts below n; for some below n; of every element; of a list's members. Assumes nothing.
+-- Order: clauses joined; below n; facts below n; for some below n; of every element; of a list's members. Assumes nothing.
 use mathlib.Core.Path.{_≡_, refl, subst}
 use mathlib.Core.Bool.{Bool, true, false, not, _&&_, _||_}
 use mathlib.Core.List.{List, [], _∷_, _++_}
@@ -21,6 +21,30 @@ and-r false b t = absurd t
 pub and-i : (a b : Bool) → T a → T b → T (a && b)
 and-i true b s t = t
 and-i false b s t = s
+
+-- a test of several clauses, joined as definitions join them, each with all that stand behind it: a && (b && c)
+unfoldable pub allPass : List Bool → Bool
+allPass [] = true
+allPass (a ∷ []) = a
+allPass (a ∷ b ∷ cs) = a && allPass (b ∷ cs)
+
+-- that each of them passes: (of a, (of b, of c))
+unfoldable pub EachPasses : List Bool → Type 0
+EachPasses [] = Unit
+EachPasses (a ∷ []) = T a
+EachPasses (a ∷ b ∷ cs) = T a × EachPasses (b ∷ cs)
+
+pub clauses-of : (cs : List Bool) → T (allPass cs) → EachPasses cs
+unfolding allPass EachPasses
+clauses-of [] t = tt
+clauses-of (a ∷ []) t = t
+clauses-of (a ∷ b ∷ cs) t = (and-l a (allPass (b ∷ cs)) t, clauses-of (b ∷ cs) (and-r a (allPass (b ∷ cs)) t))
+
+pub clauses-by : (cs : List Bool) → EachPasses cs → T (allPass cs)
+unfolding allPass EachPasses
+clauses-by [] e = tt
+clauses-by (a ∷ []) e = e
+clauses-by (a ∷ b ∷ cs) (s, e) = and-i a (allPass (b ∷ cs)) s (clauses-by (b ∷ cs) e)
 
 -- one of two tests passes
 pub or-l : (a b : Bool) → T a → T (a || b)

@@ -14,7 +14,7 @@ use Rattle.network.specs.TorusLaws.{Torus}
 use Rattle.network.specs.Layout.{headerWords, need, nodeWords, held, putQueue, raised, accepted, delivered, movesMade, acceptedAt, deliveredAt, movesAt}
 use Rattle.network.specs.LayoutLaws.{Fits, length-put, word-put, length-raised, raised-other}
 use Rattle.network.specs.Check.{mostAccepted, mostWork, packetsHeld, workLeft}
-use Rattle.network.specs.CheckLaws.{Network, network-by}
+use Rattle.network.specs.CheckLaws.{Network}
 use Rattle.network.specs.Routes.{deliver, target}
 use Rattle.network.specs.Refusals.{head}
 use Rattle.network.specs.RefusalLaws.{Permitted}
@@ -97,9 +97,6 @@ raised-may i at w v e ne may = subst (λ (l : List ℕ). Raisable at l) (sym e) 
 
 -- A packet that joins a queue -----------------------------------------------------------------------------------------------------------
 
-pub network-checked : (S : Shape) (w : List ℕ) (n q : ℕ) → Network S w → n < nodes S → q < queues → CheckedQueue S w n q
-network-checked S w n q N hn hq = checked S w n q (network-by S w N) hn hq
-
 pub arrives-may : (S : Shape) (w v : List ℕ) (n q p at : ℕ) → v ≡ packetArrives S w n q p → Fits S w n q → length (held S w n q) < capacity S q
     → at < headerWords → Raisable at w → Raisable at v
 unfolding packetArrives
@@ -161,7 +158,7 @@ module _ {S : Shape} {w v : List ℕ} {n q o : ℕ} (L : Left S w v n q o) where
     target-checked =
         subst (λ (l : List ℕ). CheckedQueue S l t o) (sym (L .left))
         (checked-put S w n q (drop 1 (held S w n q)) t o place few
-        (network-checked S w t o (L .network) (subst (λ (m : ℕ). m < nodes S) (sym next) (front .node)) (L .permitted .output)))
+        (checked S w t o (L .network) (subst (λ (m : ℕ). m < nodes S) (sym next) (front .node)) (L .permitted .output)))
 
     pub target-room : length (held S v t o) < capacity S o
     unfolding target

@@ -15,7 +15,7 @@ use borrow.Author.Tests.{eq-eqb, ne-eqb, lt-leb, lt-ltb, le-ltb, ltb-false}
 use lib.Dec.{T, leb, ltb, eqb, ltb→lt, lt→ltb, le→leb, eqb→eq}
 use lib.IntN.{ℤ, pos, negsuc}
 use lib.ListN.{length, getD, take, drop, set, replicate, length-take}
-use Rattle.base.specs.Tests.{allBelow, someBelow, allOf, elem, EachBelow, each-at, T-true, T-false, passed?, and-l, and-r, and-i, or-l, or-r, or-e, all-by}
+use Rattle.base.specs.Tests.{allBelow, someBelow, allOf, elem, EachBelow, each-at, T-true, T-false, passed?, and-l, and-r, allPass, EachPasses, clauses-by, or-l, or-r, or-e, all-by}
 use Rattle.base.specs.Sums.{sumBelow, sumOf}
 use Rattle.base.specs.Digits.{product, digit, putDigit, rotate}
 use Rattle.network.specs.declared.Moved.{Moved}
@@ -37,7 +37,7 @@ use Rattle.network.specs.Calls.{Progress, emptyHeader, emptyNetwork, mak
 use Rattle.network.specs.PacketLaws.{hops-hop-le, arrived-distance, spare-is}
 use Rattle.network.specs.TorusLaws.{Torus, size-pos, along-lt, inRange-torus, inRange-size, inRange-nodes, sizes-torus}
 use Rattle.network.specs.OfferLaws.{ShortRings, offset-nearer, offset-halfway}
-use Rattle.network.specs.CheckLaws.{Network, PacketFits, packet-of, reach-least, halfway-fits, own-fits, network-of, has-room-held}
+use Rattle.network.specs.CheckLaws.{Network, PacketFits, packet-of, reach-least, halfway-fits, own-fits, networkClauses, network-of, has-room-held}
 use Rattle.network.specs.RoutesLaws.{Onward, route-of, arrived-route, free-slots-held, needed-escape}
 use Rattle.network.specs.RefusalLaws.{elseBy-zero, network-passed, network-passes, own-node-exactly, no-node-first, permitted-by}
 
@@ -743,21 +743,20 @@ module _ (w : List ℕ) (d : ℕ) (r : RingsOfTwo w d) where
       → T (countersFit (shape w) w)
       → ((n : ℕ) → n < nodes (shape w) → inRing w d n ≤ 3)
       → networkRefusal w ≡ 0
-  unfolding isNetwork ringsHaveRoom
+  unfolding isNetwork ringsHaveRoom networkClauses allPass EachPasses
   all-else-right q others c l =
       network-passes w
       (network-of (shape w) w
-      (and-i (sizesInRange (shape w)) _ (r .in-range)
-      (and-i (leb (need (shape w)) (length w)) _ (le→leb (need (shape w)) (length w) (r .long))
-      (and-i (queuesFit (shape w) w) _ q
-      (and-i (ringsHaveRoom (shape w) w) _
-      (all-by directions (λ e. allBelow (nodes (shape w)) (λ n. ringHasRoom (shape w) w e n))
-      (λ e he. all-by (nodes (shape w)) (λ n. ringHasRoom (shape w) w e n) (λ n hn. ring e n he hn (ℕ-discrete e d))))
-      c)))))
+      (clauses-by (networkClauses (shape w) w) (r .in-range, (le→leb (need (shape w)) (length w) (r .long), (q, (rings, c))))))
     where
       ring : (e n : ℕ) → e < directions → n < nodes (shape w) → Dec (e ≡ d) → T (ringHasRoom (shape w) w e n)
       ring e n he hn (yes z) = rw z (ring-with-room n (l n hn))
       ring e n he hn (no ne) = others e n he hn ne
+
+      rings : T (ringsHaveRoom (shape w) w)
+      rings =
+          all-by directions (λ e. allBelow (nodes (shape w)) (λ n. ringHasRoom (shape w) w e n))
+          (λ e he. all-by (nodes (shape w)) (λ n. ringHasRoom (shape w) w e n) (λ n hn. ring e n he hn (ℕ-discrete e d)))
 
 -- R30: a node's number from its coordinates
 from-coordinates : (x y z n : ℕ) → 0 < x → 0 < y → n < x * (y * z) → (n / x / y % z * y + n / x % y) * x + n % x ≡ n

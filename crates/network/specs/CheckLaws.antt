@@ -3,7 +3,7 @@
 use mathlib.Core.Path.{_≡_, refl, ap, sym, _∙_}
 use mathlib.Core.Logic.{_⊎_, inl, inr, _≢_}
 use mathlib.Core.Bool.{Bool, true, false, cond, not, _&&_, _||_}
-use mathlib.Core.List.{List}
+use mathlib.Core.List.{List, [], _∷_}
 use Prim.Native.Nat.{ℕ, _+_, _*_, _-_, _%_, _<_, _≤_}
 use native.Mathlib.Decide.{ℕ-discrete}
 use native.Mathlib.Omega.{arith}
@@ -11,7 +11,7 @@ use borrow.Author.Tests.{eq-eqb, ne-eqb}
 use lib.Dec.{T, leb, ltb, eqb, leb→le, le→leb, ltb→lt, lt→ltb, eqb→eq, eqb-refl, T-not}
 use lib.IntN.{ℤ, pos, negsuc, natAbs}
 use lib.ListN.{length, getD}
-use Rattle.base.specs.Tests.{allBelow, allOf, and-l, and-r, and-i, or-l, or-r, or-e, all-at, all-by, passed?}
+use Rattle.base.specs.Tests.{allPass, EachPasses, clauses-of, clauses-by, allBelow, allOf, or-l, or-r, or-e, all-at, all-by, passed?}
 use Rattle.base.specs.Bools.{same-test}
 use Rattle.base.specs.Digits.{rotate, rotate-rotate, rotate-rounds, radix-pos}
 use Rattle.network.specs.Sizes.{Shape, size, sizesInRange, nodes, queues, directions, dimensions, dimensionOf, directionOf, isPlus, plus, minus, isEscape, injectionQueue, capacity, largestRing}
@@ -161,35 +161,26 @@ pub record PacketFits (S : Shape) (n q p : ℕ) : Type 0 where
   pub sign : q ≢ injectionQueue → hops (opposite (directionOf q)) p ≡ 0
   pub lower : T (isEscape q) → (i : ℕ) → i < dimensionOf (directionOf q) → distance i p ≡ 0
 
+packetClauses : Shape → ℕ → ℕ → ℕ → List Bool
+packetClauses S n q p = spareClear p ∷ rightPlace S n p ∷ nearEnough S q p ∷ rightSign q p ∷ lowerDone q p ∷ []
+
+placeClauses : Shape → ℕ → ℕ → List Bool
+placeClauses S n p = ltb (destination p) (nodes S) ∷ eqb (movedBy S p n) (destination p) ∷ []
+
 pub packet-of : (S : Shape) (n q p : ℕ) → T (packetFits S n q p) → PacketFits S n q p
-unfolding packetFits spareClear rightPlace nearEnough rightSign lowerDone
+unfolding packetFits spareClear rightPlace nearEnough rightSign lowerDone packetClauses placeClauses allPass EachPasses
 packet-of S n q p t =
+    let (clear, (place, (near, (sign, lower)))) = clauses-of (packetClauses S n q p) t in
+    let (addressed, arrives) = clauses-of (placeClauses S n p) place in
     record {
-      clear = eqb→eq (spare p) 0 (and-l (spareClear p) (rightPlace S n p && (nearEnough S q p && (rightSign q p && lowerDone q p))) t);
-      addressed = ltb→lt (destination p) (nodes S) (and-l (ltb (destination p) (nodes S)) (eqb (movedBy S p n) (destination p)) place);
-      arrives = eqb→eq (movedBy S p n) (destination p) (and-r (ltb (destination p) (nodes S)) (eqb (movedBy S p n) (destination p)) place);
-      near =
-          λ i h.
-          leb→le (reach i q p) (longest S i)
-          (all-at dimensions (λ j. leb (reach j q p) (longest S j)) (and-l (nearEnough S q p) (rightSign q p && lowerDone q p) rest) i h);
-      sign = λ ne. signed ne (or-e (eqb q injectionQueue) (eqb (hops (opposite (directionOf q)) p) 0) (and-l (rightSign q p) (lowerDone q p) last));
-      lower =
-          λ e i h.
-          low e i h (or-e (not (isEscape q)) (allBelow (dimensionOf (directionOf q)) (λ j. eqb (distance j p) 0)) (and-r (rightSign q p) (lowerDone q p) last));
+      clear = eqb→eq (spare p) 0 clear;
+      addressed = ltb→lt (destination p) (nodes S) addressed;
+      arrives = eqb→eq (movedBy S p n) (destination p) arrives;
+      near = λ i h. leb→le (reach i q p) (longest S i) (all-at dimensions (λ j. leb (reach j q p) (longest S j)) near i h);
+      sign = λ ne. signed ne (or-e (eqb q injectionQueue) (eqb (hops (opposite (directionOf q)) p) 0) sign);
+      lower = λ e i h. low e i h (or-e (not (isEscape q)) (allBelow (dimensionOf (directionOf q)) (λ j. eqb (distance j p) 0)) lower);
     }
   where
-    behind : T (rightPlace S n p && (nearEnough S q p && (rightSign q p && lowerDone q p)))
-    behind = and-r (spareClear p) (rightPlace S n p && (nearEnough S q p && (rightSign q p && lowerDone q p))) t
-
-    place : T (rightPlace S n p)
-    place = and-l (rightPlace S n p) (nearEnough S q p && (rightSign q p && lowerDone q p)) behind
-
-    rest : T (nearEnough S q p && (rightSign q p && lowerDone q p))
-    rest = and-r (rightPlace S n p) (nearEnough S q p && (rightSign q p && lowerDone q p)) behind
-
-    last : T (rightSign q p && lowerDone q p)
-    last = and-r (nearEnough S q p) (rightSign q p && lowerDone q p) rest
-
     signed : q ≢ injectionQueue → T (eqb q injectionQueue) ⊎ T (eqb (hops (opposite (directionOf q)) p) 0) → hops (opposite (directionOf q)) p ≡ 0
     signed ne (inl e) = absurd (ne (eqb→eq q injectionQueue e))
     signed ne (inr e) = eqb→eq (hops (opposite (directionOf q)) p) 0 e
@@ -200,19 +191,15 @@ packet-of S n q p t =
     low e i h (inr all) = eqb→eq (distance i p) 0 (all-at (dimensionOf (directionOf q)) (λ j. eqb (distance j p) 0) all i h)
 
 pub packet-by : (S : Shape) (n q p : ℕ) → PacketFits S n q p → T (packetFits S n q p)
-unfolding packetFits spareClear rightPlace nearEnough rightSign lowerDone
-packet-by S n q p f =
-    and-i (spareClear p) (rightPlace S n p && (nearEnough S q p && (rightSign q p && lowerDone q p)))
-    (eq-T (spare p) 0 (f .clear))
-    (and-i (rightPlace S n p) (nearEnough S q p && (rightSign q p && lowerDone q p))
-    (and-i (ltb (destination p) (nodes S)) (eqb (movedBy S p n) (destination p))
-    (lt→ltb (destination p) (nodes S) (f .addressed))
-    (eq-T (movedBy S p n) (destination p) (f .arrives)))
-    (and-i (nearEnough S q p) (rightSign q p && lowerDone q p)
-    (all-by dimensions (λ j. leb (reach j q p) (longest S j))
-    (λ i h. le→leb (reach i q p) (longest S i) (f .near i h)))
-    (and-i (rightSign q p) (lowerDone q p) (signed (passed? (eqb q injectionQueue))) (low (passed? (isEscape q))))))
+unfolding packetFits spareClear rightPlace nearEnough rightSign lowerDone packetClauses placeClauses allPass EachPasses
+packet-by S n q p f = clauses-by (packetClauses S n q p) (eq-T (spare p) 0 (f .clear), (place, (near, (signed (passed? (eqb q injectionQueue)), low (passed? (isEscape q))))))
   where
+    place : T (rightPlace S n p)
+    place = clauses-by (placeClauses S n p) (lt→ltb (destination p) (nodes S) (f .addressed), eq-T (movedBy S p n) (destination p) (f .arrives))
+
+    near : T (nearEnough S q p)
+    near = all-by dimensions (λ j. leb (reach j q p) (longest S j)) (λ i h. le→leb (reach i q p) (longest S i) (f .near i h))
+
     signed : T (eqb q injectionQueue) ⊎ T (not (eqb q injectionQueue)) → T (rightSign q p)
     signed (inl e) = or-l (eqb q injectionQueue) (eqb (hops (opposite (directionOf q)) p) 0) e
     signed (inr ne) =
@@ -374,37 +361,22 @@ pub record QueueFits (S : Shape) (w : List ℕ) (n q : ℕ) : Type 0 where
   pub unused : T (allOf (eqb 0) (unusedOf (queuePart S w n q)))
   pub packets : T (allOf (packetFits S n q) (held S w n q))
 
+queueClauses : Shape → List ℕ → ℕ → ℕ → List Bool
+queueClauses S w n q =
+    leb (countOf (queuePart S w n q)) (capacity S q)
+    ∷ allOf (eqb 0) (unusedOf (queuePart S w n q))
+    ∷ allOf (packetFits S n q) (held S w n q)
+    ∷ []
+
 pub queue-of : (S : Shape) (w : List ℕ) (n q : ℕ) → T (queueFits S w n q) → QueueFits S w n q
-unfolding queueFits
+unfolding queueFits queueClauses allPass EachPasses
 queue-of S w n q t =
-    record {
-      few = leb→le (countOf (queuePart S w n q)) (capacity S q) (and-l a (b && c) t);
-      unused = and-l b c (and-r a (b && c) t);
-      packets = and-r b c (and-r a (b && c) t);
-    }
-  where
-    a : Bool
-    a = leb (countOf (queuePart S w n q)) (capacity S q)
-
-    b : Bool
-    b = allOf (eqb 0) (unusedOf (queuePart S w n q))
-
-    c : Bool
-    c = allOf (packetFits S n q) (held S w n q)
+    let (few, (unused, packets)) = clauses-of (queueClauses S w n q) t in
+    record { few = leb→le (countOf (queuePart S w n q)) (capacity S q) few; unused = unused; packets = packets }
 
 pub queue-by : (S : Shape) (w : List ℕ) (n q : ℕ) → QueueFits S w n q → T (queueFits S w n q)
-unfolding queueFits
-queue-by S w n q f =
-    and-i a (b && c) (le→leb (countOf (queuePart S w n q)) (capacity S q) (f .few)) (and-i b c (f .unused) (f .packets))
-  where
-    a : Bool
-    a = leb (countOf (queuePart S w n q)) (capacity S q)
-
-    b : Bool
-    b = allOf (eqb 0) (unusedOf (queuePart S w n q))
-
-    c : Bool
-    c = allOf (packetFits S n q) (held S w n q)
+unfolding queueFits queueClauses allPass EachPasses
+queue-by S w n q f = clauses-by (queueClauses S w n q) (le→leb (countOf (queuePart S w n q)) (capacity S q) (f .few), (f .unused, f .packets))
 
 -- room in a queue, as a fact and back, and by the number held
 pub has-room-of : (S : Shape) (w : List ℕ) (n q : ℕ) → T (hasRoom S w n q) → taken S w n q < capacity S q
@@ -429,87 +401,51 @@ pub record Network (S : Shape) (w : List ℕ) : Type 0 where
   pub counted : delivered w + packetsHeld S w ≡ accepted w
   pub bounded : movesMade w + workLeft S w ≤ mostWork * accepted w
 
+unfoldable pub networkClauses : Shape → List ℕ → List Bool
+networkClauses S w = sizesInRange S ∷ leb (need S) (length w) ∷ queuesFit S w ∷ ringsHaveRoom S w ∷ countersFit S w ∷ []
+
+counterClauses : Shape → List ℕ → List Bool
+counterClauses S w =
+    leb (accepted w) mostAccepted
+    ∷ eqb (delivered w + packetsHeld S w) (accepted w)
+    ∷ leb (movesMade w + workLeft S w) (mostWork * accepted w)
+    ∷ []
+
 pub network-of : (S : Shape) (w : List ℕ) → T (isNetwork S w) → Network S w
-unfolding isNetwork queuesFit ringsHaveRoom countersFit
+unfolding isNetwork queuesFit ringsHaveRoom countersFit networkClauses counterClauses allPass EachPasses
 network-of S w t =
+    let (range, (long, (queue, (ring, counters)))) = clauses-of (networkClauses S w) t in
+    let (few, (counted, bounded)) = clauses-of (counterClauses S w) counters in
     record {
-      in-range = and-l (sizesInRange S) (b && (c && (d && e))) t;
-      long = leb→le (need S) (length w) (and-l b (c && (d && e)) t₁);
+      in-range = range;
+      long = leb→le (need S) (length w) long;
       queue =
-          λ n q hn hq.
-          queue-of S w n q
-          (all-at queues (λ r. queueFits S w n r) (all-at (nodes S) (λ m. allBelow queues (λ r. queueFits S w m r)) (and-l c (d && e) t₂) n hn) q hq);
+          λ n q hn hq. queue-of S w n q (all-at queues (λ r. queueFits S w n r) (all-at (nodes S) (λ m. allBelow queues (λ r. queueFits S w m r)) queue n hn) q hq);
       ring =
-          λ d′ n hd hn.
-          all-at (nodes S) (λ m. ringHasRoom S w d′ m)
-          (all-at directions (λ e′. allBelow (nodes S) (λ m. ringHasRoom S w e′ m)) (and-l d e t₃) d′ hd) n hn;
-      few-accepted = leb→le (accepted w) mostAccepted (and-l x (y && z) t₄);
-      counted = eqb→eq (delivered w + packetsHeld S w) (accepted w) (and-l y z (and-r x (y && z) t₄));
-      bounded = leb→le (movesMade w + workLeft S w) (mostWork * accepted w) (and-r y z (and-r x (y && z) t₄));
+          λ d n hd hn.
+          all-at (nodes S) (λ m. ringHasRoom S w d m) (all-at directions (λ e. allBelow (nodes S) (λ m. ringHasRoom S w e m)) ring d hd) n hn;
+      few-accepted = leb→le (accepted w) mostAccepted few;
+      counted = eqb→eq (delivered w + packetsHeld S w) (accepted w) counted;
+      bounded = leb→le (movesMade w + workLeft S w) (mostWork * accepted w) bounded;
     }
-  where
-    b : Bool
-    b = leb (need S) (length w)
-
-    c : Bool
-    c = queuesFit S w
-
-    d : Bool
-    d = ringsHaveRoom S w
-
-    e : Bool
-    e = countersFit S w
-
-    t₁ : T (b && (c && (d && e)))
-    t₁ = and-r (sizesInRange S) (b && (c && (d && e))) t
-
-    t₂ : T (c && (d && e))
-    t₂ = and-r b (c && (d && e)) t₁
-
-    t₃ : T (d && e)
-    t₃ = and-r c (d && e) t₂
-
-    t₄ : T e
-    t₄ = and-r d e t₃
-
-    x : Bool
-    x = leb (accepted w) mostAccepted
-
-    y : Bool
-    y = eqb (delivered w + packetsHeld S w) (accepted w)
-
-    z : Bool
-    z = leb (movesMade w + workLeft S w) (mostWork * accepted w)
 
 pub network-by : (S : Shape) (w : List ℕ) → Network S w → T (isNetwork S w)
-unfolding isNetwork queuesFit ringsHaveRoom countersFit
-network-by S w f =
-    and-i (sizesInRange S) (b && (c && (d && e))) (f .in-range)
-    (and-i b (c && (d && e)) (le→leb (need S) (length w) (f .long))
-    (and-i c (d && e)
-    (all-by (nodes S) (λ n. allBelow queues (λ q. queueFits S w n q)) (λ n hn. all-by queues (λ q. queueFits S w n q) (λ q hq. queue-by S w n q (f .queue n q hn hq))))
-    (and-i d e
-    (all-by directions (λ d′. allBelow (nodes S) (λ n. ringHasRoom S w d′ n)) (λ d′ hd. all-by (nodes S) (λ n. ringHasRoom S w d′ n) (λ n hn. f .ring d′ n hd hn)))
-    (and-i x (y && z) (le→leb (accepted w) mostAccepted (f .few-accepted))
-    (and-i y z (eq-T (delivered w + packetsHeld S w) (accepted w) (f .counted)) (le→leb (movesMade w + workLeft S w) (mostWork * accepted w) (f .bounded)))))))
+unfolding isNetwork queuesFit ringsHaveRoom countersFit networkClauses counterClauses allPass EachPasses
+network-by S w f = clauses-by (networkClauses S w) (f .in-range, (le→leb (need S) (length w) (f .long), (queue, (ring, counters))))
   where
-    b : Bool
-    b = leb (need S) (length w)
+    queue : T (queuesFit S w)
+    queue =
+        all-by (nodes S) (λ n. allBelow queues (λ q. queueFits S w n q))
+        (λ n hn. all-by queues (λ q. queueFits S w n q) (λ q hq. queue-by S w n q (f .queue n q hn hq)))
 
-    c : Bool
-    c = queuesFit S w
+    ring : T (ringsHaveRoom S w)
+    ring =
+        all-by directions (λ d. allBelow (nodes S) (λ n. ringHasRoom S w d n))
+        (λ d hd. all-by (nodes S) (λ n. ringHasRoom S w d n) (λ n hn. f .ring d n hd hn))
 
-    d : Bool
-    d = ringsHaveRoom S w
-
-    e : Bool
-    e = countersFit S w
-
-    x : Bool
-    x = leb (accepted w) mostAccepted
-
-    y : Bool
-    y = eqb (delivered w + packetsHeld S w) (accepted w)
-
-    z : Bool
-    z = leb (movesMade w + workLeft S w) (mostWork * accepted w)
+    counters : T (countersFit S w)
+    counters =
+        clauses-by (counterClauses S w) (
+          le→leb (accepted w) mostAccepted (f .few-accepted),
+          (eq-T (delivered w + packetsHeld S w) (accepted w) (f .counted), le→leb (movesMade w + workLeft S w) (mostWork * accepted w) (f .bounded)),
+        )

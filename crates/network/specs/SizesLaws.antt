@@ -1,11 +1,12 @@
 -- Sizes in range as facts: the capacities of the queues and their bounds. Assumes nothing.
 use mathlib.Core.Path.{_≡_}
-use mathlib.Core.Bool.{Bool, true, false, cond, _&&_}
+use mathlib.Core.Bool.{Bool, true, false, cond}
+use mathlib.Core.List.{List, [], _∷_}
 use Prim.Native.Nat.{ℕ, _<_, _≤_}
 use native.Mathlib.Omega.{arith}
 use borrow.Author.Tests.{ne-eqb, lt-ltb}
 use lib.Dec.{T, leb, eqb, leb→le, le→leb}
-use Rattle.base.specs.Tests.{allOf, and-l, and-r, and-i}
+use Rattle.base.specs.Tests.{allOf, allPass, EachPasses, clauses-of, clauses-by}
 use Rattle.network.specs.Sizes.{Shape, within, sizesInRange, injectionQueue, escapeQueue, isEscape, directions, capacity, largestRing, fewestEscape, mostSlots, largestCapacity}
 
 pub record Between (least most n : ℕ) : Type 0 where
@@ -13,12 +14,12 @@ pub record Between (least most n : ℕ) : Type 0 where
   pub high : n ≤ most
 
 pub between-of : (least most n : ℕ) → T (within least most n) → Between least most n
-unfolding within
-between-of least most n t = record { low = leb→le least n (and-l (leb least n) (leb n most) t); high = leb→le n most (and-r (leb least n) (leb n most) t) }
+unfolding within allPass EachPasses
+between-of least most n t = let (l, h) = clauses-of (leb least n ∷ leb n most ∷ []) t in record { low = leb→le least n l; high = leb→le n most h }
 
 pub between-by : (least most n : ℕ) → Between least most n → T (within least most n)
-unfolding within
-between-by least most n b = and-i (leb least n) (leb n most) (le→leb least n (b .low)) (le→leb n most (b .high))
+unfolding within allPass EachPasses
+between-by least most n b = clauses-by (leb least n ∷ leb n most ∷ []) (le→leb least n (b .low), le→leb n most (b .high))
 
 pub record InRange (S : Shape) : Type 0 where
   pub sizes : T (allOf (within 1 largestRing) (S .sizes))
@@ -26,34 +27,35 @@ pub record InRange (S : Shape) : Type 0 where
   pub adaptive : Between 1 mostSlots (S .adaptive)
   pub injection : Between 1 mostSlots (S .injection)
 
+rangeClauses : Shape → List Bool
+rangeClauses S =
+    allOf (within 1 largestRing) (S .sizes)
+    ∷ within fewestEscape mostSlots (S .escape)
+    ∷ within 1 mostSlots (S .adaptive)
+    ∷ within 1 mostSlots (S .injection)
+    ∷ []
+
 pub range-of : (S : Shape) → T (sizesInRange S) → InRange S
-unfolding sizesInRange
+unfolding sizesInRange rangeClauses allPass EachPasses
 range-of S t =
+    let (sizes, (escape, (adaptive, injection))) = clauses-of (rangeClauses S) t in
     record {
-      sizes = and-l a (b && (c && d)) t;
-      escape = between-of fewestEscape mostSlots (S .escape) (and-l b (c && d) (and-r a (b && (c && d)) t));
-      adaptive = between-of 1 mostSlots (S .adaptive) (and-l c d (and-r b (c && d) (and-r a (b && (c && d)) t)));
-      injection = between-of 1 mostSlots (S .injection) (and-r c d (and-r b (c && d) (and-r a (b && (c && d)) t)));
+      sizes = sizes;
+      escape = between-of fewestEscape mostSlots (S .escape) escape;
+      adaptive = between-of 1 mostSlots (S .adaptive) adaptive;
+      injection = between-of 1 mostSlots (S .injection) injection;
     }
-  where
-    a : Bool
-    a = allOf (within 1 largestRing) (S .sizes)
-
-    b : Bool
-    b = within fewestEscape mostSlots (S .escape)
-
-    c : Bool
-    c = within 1 mostSlots (S .adaptive)
-
-    d : Bool
-    d = within 1 mostSlots (S .injection)
 
 pub range-by : (S : Shape) → InRange S → T (sizesInRange S)
-unfolding sizesInRange
+unfolding sizesInRange rangeClauses allPass EachPasses
 range-by S r =
-    and-i (allOf (within 1 largestRing) (S .sizes)) (within fewestEscape mostSlots (S .escape) && (within 1 mostSlots (S .adaptive) && within 1 mostSlots (S .injection))) (r .sizes)
-    (and-i (within fewestEscape mostSlots (S .escape)) (within 1 mostSlots (S .adaptive) && within 1 mostSlots (S .injection)) (between-by fewestEscape mostSlots (S .escape) (r .escape))
-    (and-i (within 1 mostSlots (S .adaptive)) (within 1 mostSlots (S .injection)) (between-by 1 mostSlots (S .adaptive) (r .adaptive)) (between-by 1 mostSlots (S .injection) (r .injection))))
+    clauses-by (rangeClauses S) (
+      r .sizes,
+      (
+        between-by fewestEscape mostSlots (S .escape) (r .escape),
+        (between-by 1 mostSlots (S .adaptive) (r .adaptive), between-by 1 mostSlots (S .injection) (r .injection)),
+      ),
+    )
 
 -- every queue has a slot, an escape queue two, and none more than eight
 pub capacity-most : (S : Shape) (q : ℕ) → InRange S → capacity S q ≤ largestCapacity

@@ -3,12 +3,13 @@
 use mathlib.Core.Path.{_≡_, refl, ap, sym, _∙_}
 use mathlib.Core.Logic.{_⊎_, inl, inr, _≢_}
 use mathlib.Core.Bool.{Bool, true, false, cond, not, _&&_}
+use mathlib.Core.List.{List, [], _∷_}
 use Prim.Native.Nat.{ℕ, _+_, _/_, _%_, _<_, _≤_}
 use native.Mathlib.Decide.{ℕ-discrete, decLt}
 use native.Mathlib.Omega.{arith}
 use borrow.Author.Tests.{eq-eqb, ne-eqb, lt-ltb, le-ltb}
 use lib.Dec.{T, ltb, eqb, ltb→lt, lt→ltb, eqb→eq}
-use Rattle.base.specs.Tests.{all-at, all-by, and-l, and-r, and-i, T-true, passed?, T-false}
+use Rattle.base.specs.Tests.{allPass, EachPasses, clauses-of, clauses-by, all-at, all-by, and-l, and-r, and-i, T-true, passed?, T-false}
 use Rattle.base.specs.Bools.{same-test}
 use Rattle.network.specs.Sizes.{Shape, shapeOf, sizesInRange, size, nodes, dimensions, directions, dimensionOf, directionOf, isEscape, isPlus, plus, minus, injectionQueue}
 use Rattle.network.specs.Packet.{destination, spare, distance, hops}
@@ -318,22 +319,15 @@ module _ (S : Shape) (n q p : ℕ) where
 
   -- the check of a packet is that of its limits
   pub fits-is : Torus S → n < nodes S → packetFits S n q p ≡ spareClear p && (belowLimits S q p && eqb (destination p) (movedBy S p n))
-  unfolding spareClear
+  unfolding spareClear allPass EachPasses
   fits-is torus hn =
-      same-test (packetFits S n q p) (clear && (near && there))
+      same-test (packetFits S n q p) (allPass tests)
       (λ t.
       let f = packet-of S n q p t in
-      and-i clear (near && there) (eq-T (spare p) 0 (f .clear)) (and-i near there (below-by S q p (hops-below f)) (eq-T (destination p) (movedBy S p n) (sym (f .arrives)))))
+      clauses-by tests (eq-T (spare p) 0 (f .clear), (below-by S q p (hops-below f), eq-T (destination p) (movedBy S p n) (sym (f .arrives)))))
       (λ t.
-      let u = and-r clear (near && there) t in
-      packet-by S n q p
-      (clauses torus hn (below-of S q p (and-l near there u)) (eqb→eq (spare p) 0 (and-l clear (near && there) t)) (sym (eqb→eq (destination p) (movedBy S p n) (and-r near there u)))))
+      let (clear, (near, there)) = clauses-of tests t in
+      packet-by S n q p (clauses torus hn (below-of S q p near) (eqb→eq (spare p) 0 clear) (sym (eqb→eq (destination p) (movedBy S p n) there))))
     where
-      near : Bool
-      near = belowLimits S q p
-
-      clear : Bool
-      clear = eqb (spare p) 0
-
-      there : Bool
-      there = eqb (destination p) (movedBy S p n)
+      tests : List Bool
+      tests = eqb (spare p) 0 ∷ belowLimits S q p ∷ eqb (destination p) (movedBy S p n) ∷ []

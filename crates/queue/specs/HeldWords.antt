@@ -1,5 +1,5 @@
 -- The words of a checked network that the code reads: those of the header, and of a queue the number held and the head, which stand where
--- the queue starts. Order: the header; what the check says of the queue; the two words; the same at the place that the code computes.
+-- the queue starts. Order: the header; the two words; the same at the place that the code computes.
 -- Assumes nothing.
 use mathlib.Core.Path.{_≡_, ap, sym, _∙_}
 use mathlib.Core.List.{List}
@@ -17,18 +17,13 @@ use Rattle.network.specs.CheckLaws.{Network}
 use Rattle.network.specs.Refusals.{head}
 use Rattle.network.specs.declared.Sizes.{Sizes}
 use Rattle.queue.specs.Queue.{CheckedQueue}
-use Rattle.queue.specs.QueueLaws.{checked-fits, checked-count, places}
+use Rattle.queue.specs.QueueLaws.{checked, checked-fits, checked-count, places}
 use Rattle.queue.specs.QueueOf.{QueueOf}
 
 -- the header is among the words
 pub header : (S : Shape) (w : List ℕ) → Network S w → 8 ≤ length w
 unfolding need
 header S w k = let l = k .long in omega arith
-
-pub checked-of : (S : Shape) (w : List ℕ) (n q : ℕ) → Network S w → n < nodes S → q < queues → CheckedQueue S w n q
-checked-of S w n q k hn hq =
-    let f = k .queue n q hn hq in
-    record { sizes = k .in-range; node = hn; queue = hq; long = k .long; count = f .few; zeros = f .unused }
 
 -- The two words -----------------------------------------------------------------------------------------------------------------------
 
@@ -57,7 +52,7 @@ head-word S w n q k h =
 
 module _ (s : Sizes) (w : List ℕ) (n q : ℕ) (k : QueueOf (shapeOf s) w n q) where
   pub queue-checked : CheckedQueue (shapeOf s) w n q
-  queue-checked = checked-of (shapeOf s) w n q (k .network) (k .node) (k .queue)
+  queue-checked = checked (shapeOf s) w n q (k .network) (k .node) (k .queue)
 
   -- what the functions that compute places ask
   pub asked : T (sizesInRange (shapeOf s)) × (n < nodes (shapeOf s)) × (q < queues)

@@ -1,43 +1,27 @@
 -- Laws of Queue.antt. Order: what the check of a network says of a queue, and what that says of its words; a queue replaced at its place; what
 -- stays when a queue is replaced. Assumes nothing.
 use mathlib.Core.Path.{_≡_, ap, ap₂, sym, _∙_, subst}
-use mathlib.Core.Bool.{Bool, _&&_}
 use mathlib.Core.List.{List}
 use Prim.Native.Nat.{ℕ, _+_, _<_, _≤_}
 use native.Mathlib.Decide.{ℕ-discrete}
 use native.Mathlib.Omega.{arith}
-use lib.Dec.{T, leb, eqb, leb→le}
+use lib.Dec.{T, eqb}
 use lib.ListN.{length}
-use Rattle.base.specs.Tests.{and-l, and-r, allOf, allBelow, all-at}
+use Rattle.base.specs.Tests.{allOf}
 use Rattle.base.specs.Parts.{span, splice}
 use Rattle.network.specs.Sizes.{Shape, sizesInRange, nodes, queues, capacity}
 use Rattle.network.specs.Layout.{queueLength, queueStart, queueEnd, need, queueWords, queuePart, countOf, packetsOf, unusedOf, held, putQueue}
 use Rattle.network.specs.LayoutLaws.{Fits, start-end, end-length, length-queuePart, length-packetsOf, countOf-queueWords, unused-zero, part-put-same, part-put-other, length-put}
-use Rattle.network.specs.Check.{packetFits, queueFits, queuesFit, ringsHaveRoom, countersFit, isNetwork}
+use Rattle.network.specs.CheckLaws.{Network}
 use Rattle.network.specs.Refusals.{head}
 use Rattle.queue.specs.Queue.{IsQueue, QueueAt, CheckedQueue, slots}
 
 -- What the check of a network says of a queue -------------------------------------------------------------------------------------------
 
-both : (a b : Bool) → T (a && b) → (T a × T b)
-both a b t = (and-l a b t, and-r a b t)
-
-pub checked : (S : Shape) (w : List ℕ) (n q : ℕ) → T (isNetwork S w) → n < nodes S → q < queues → CheckedQueue S w n q
-unfolding isNetwork queuesFit queueFits
-checked S w n q t hn hq =
-    let network = both (sizesInRange S) (leb (need S) (length w) && (queuesFit S w && (ringsHaveRoom S w && countersFit S w))) t in
-    let long = both (leb (need S) (length w)) (queuesFit S w && (ringsHaveRoom S w && countersFit S w)) (network .1) in
-    let node = all-at (nodes S) (λ m. allBelow queues (λ r. queueFits S w m r)) (and-l (queuesFit S w) (ringsHaveRoom S w && countersFit S w) (long .1)) n hn in
-    let part = queuePart S w n q in
-    let words = both (leb (countOf part) (capacity S q)) (allOf (eqb 0) (unusedOf part) && allOf (packetFits S n q) (held S w n q)) (all-at queues (λ r. queueFits S w n r) node q hq) in
-    record {
-      sizes = network .0;
-      node = hn;
-      queue = hq;
-      long = leb→le (need S) (length w) (long .0);
-      count = leb→le (countOf part) (capacity S q) (words .0);
-      zeros = and-l (allOf (eqb 0) (unusedOf part)) (allOf (packetFits S n q) (held S w n q)) (words .1);
-    }
+pub checked : (S : Shape) (w : List ℕ) (n q : ℕ) → Network S w → n < nodes S → q < queues → CheckedQueue S w n q
+checked S w n q k hn hq =
+    let f = k .queue n q hn hq in
+    record { sizes = k .in-range; node = hn; queue = hq; long = k .long; count = f .few; zeros = f .unused }
 
 pub checked-fits : (S : Shape) (w : List ℕ) (n q : ℕ) → CheckedQueue S w n q → Fits S w n q
 checked-fits S w n q k = record { node = k .node; queue = k .queue; long = k .long }

@@ -2,10 +2,10 @@
 use borrow.Author.Needs.{needs}
 use native.Mathlib.Omega.{arith}
 use Rattle.queue.specs.Queue.{CheckedQueue}
-use Rattle.queue.specs.QueueLaws.{checked-fits}
+use Rattle.queue.specs.QueueLaws.{checked, checked-fits}
 use Rattle.network.specs.Sizes.{shapeOf, injectionQueue}
 use Rattle.network.specs.Layout.{acceptedAt}
-use Rattle.changes.proofs.ChangeLaws.{network-checked, accepted-may, arrives-may, offered-words}
+use Rattle.changes.proofs.ChangeLaws.{accepted-may, arrives-may, offered-words}
 use Rattle.changes.proofs.accept.Statement.{statement}
 use Rattle.changes.proofs.accept.Tie as tie
 
@@ -15,7 +15,7 @@ offered-requires c κs =
     (s .pre .0 .in-range, s .pre .1 .0, s .pre .1 .1 .0)
 
 injection-checked : (s : tie.Start) → CheckedQueue (shapeOf (s .args .s)) (s .args .words .now) (s .args .n) injectionQueue
-injection-checked s = network-checked (shapeOf (s .args .s)) (s .args .words .now) (s .args .n) injectionQueue (s .pre .0) (s .pre .1 .0) (omega arith)
+injection-checked s = checked (shapeOf (s .args .s)) (s .args .words .now) (s .args .n) injectionQueue (s .pre .0) (s .pre .1 .0) (omega arith)
 
 push-requires : tie.Need-push-requires
 push-requires c κs = let s = c .before .before .before in (injection-checked s, s .pre .1 .1 .1)

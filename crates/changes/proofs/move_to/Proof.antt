@@ -8,7 +8,8 @@ use Rattle.network.specs.Sizes.{shapeOf, dimensionOf, directionOf}
 use Rattle.network.specs.Packet.{hop}
 use Rattle.network.specs.TorusLaws.{sizes-torus}
 use Rattle.network.specs.Routes.{target}
-use Rattle.changes.proofs.ChangeLaws.{Left, network-checked, delivered-left, moves-handed, handed-words, target-checked, target-room, moves-arrived, moved-words}
+use Rattle.queue.specs.QueueLaws.{checked}
+use Rattle.changes.proofs.ChangeLaws.{Left, delivered-left, moves-handed, handed-words, target-checked, target-room, moves-arrived, moved-words}
 use Rattle.changes.proofs.move_to.Statement.{statement}
 use Rattle.changes.proofs.move_to.Tie as tie
 
@@ -18,7 +19,7 @@ pop-requires c κs =
     let a = s .args in
     let P = s .pre .1 .0 in
     let h = P .holds in
-    (network-checked (shapeOf (a .s)) (a .words .now) (a .n) (a .q) (s .pre .0) (P .node) (P .queue), omega arith)
+    (checked (shapeOf (a .s)) (a .words .now) (a .n) (a .q) (s .pre .0) (P .node) (P .queue), omega arith)
 
 left : (c : tie.After-pop)
     → let a = c .before .before .before .args in Left (shapeOf (a .s)) (a .words .now) (c .pop .last .0) (a .n) (a .q) (a .o)
