@@ -63,6 +63,17 @@ high c k m h = add-mul-div-left c m (pos c k h) ∙ ap (λ (x : ℕ). x + m) (di
     pos : (c k : ℕ) → c < k → 0 < k
     pos c k h = omega arith
 
+multiple : (k m t : ℕ) → t * (k * m) ≡ 0 + k * (t * m)
+multiple k m t = mul-left-comm t k m ∙ sym (zero-add (k * (t * m)))
+
+-- a multiple of the product has no digit but 0
+pub digit-multiple : (ks : List ℕ) (i t : ℕ) → Positive ks → digit ks i (t * product ks) ≡ 0
+unfolding digit product Positive
+digit-multiple [] i t p = refl
+digit-multiple (k ∷ ks) zero t p = ap (λ (n : ℕ). n % k) (multiple k (product ks) t) ∙ low 0 k (t * product ks) (p .0)
+digit-multiple (k ∷ ks) (suc i) t p =
+    ap (digit ks i) (ap (λ (n : ℕ). n / k) (multiple k (product ks) t) ∙ high 0 k (t * product ks) (p .0)) ∙ digit-multiple ks i t (p .1)
+
 pub digit-put-same : (ks : List ℕ) (i c n : ℕ) → Positive ks → i < length ks → c < getD ks i 0 → digit ks i (putDigit ks i c n) ≡ c
 unfolding digit putDigit Positive
 digit-put-same [] i c n p h hc = absurd (not-suc-le-zero h)

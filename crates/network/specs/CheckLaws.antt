@@ -13,10 +13,10 @@ use lib.IntN.{ℤ, pos, negsuc, natAbs}
 use lib.ListN.{length, getD}
 use Rattle.base.specs.Tests.{allPass, EachPasses, clauses-of, clauses-by, allBelow, allOf, or-l, or-r, or-e, all-at, all-by, passed?}
 use Rattle.base.specs.Bools.{same-test}
-use Rattle.base.specs.Digits.{rotate, rotate-rotate, rotate-rounds, radix-pos}
+use Rattle.base.specs.Digits.{digit, rotate, rotate-rotate, rotate-rounds, radix-pos}
 use Rattle.network.specs.Sizes.{Shape, size, sizesInRange, nodes, queues, directions, dimensions, dimensionOf, directionOf, isPlus, plus, minus, isEscape, injectionQueue, capacity, largestRing}
-use Rattle.network.specs.Packet.{destination, spare, offset, withOffset, distance, forward, backward, hops, hopsLeft}
-use Rattle.network.specs.PacketLaws.{OffsetRange, destination-with, spare-with, offset-with-same, offset-with-other, one-way, distance-is, arrived-distance, arrived-hops, landing, landing-plus, landing-minus}
+use Rattle.network.specs.Packet.{fields, spareField, destinationField, destination, spare, offset, withOffset, distance, forward, backward, hops, hopsLeft}
+use Rattle.network.specs.PacketLaws.{OffsetRange, field-with, offset-with-same, offset-with-other, one-way, distance-is, arrived-distance, arrived-hops, landing, landing-plus, landing-minus}
 use Rattle.network.specs.Torus.{coordinate, stride, along, neighbour, movedBy}
 use Rattle.network.specs.TorusLaws.{Torus, size-pos, coordinates-eq, movedBy-lt, movedBy-here, coordinate-landing}
 use Rattle.network.specs.Layout.{held, taken, queuePart, countOf, unusedOf, need, accepted, delivered, movesMade}
@@ -218,8 +218,12 @@ module _ (S : Shape) (n q i h p : ℕ) (tor : Torus S) (node : n < nodes S) (k :
   -- one of the two in the place of the other
   module _ (y z : ℤ) (ry : OffsetRange y) (rz : OffsetRange z) (ny : natAbs y ≡ h) (nz : natAbs z ≡ h)
       (lands : landing (size S i) (coordinate S i n) z ≡ landing (size S i) (coordinate S i n) y) where
+    field-same : (f : ℕ) → dimensions ≤ f → digit fields f (withOffset i z p) ≡ digit fields f (withOffset i y p)
+    field-same f a = field-with f i z p a k rz ∙ sym (field-with f i y p a k ry)
+
     destination-same : destination (withOffset i z p) ≡ destination (withOffset i y p)
-    destination-same = destination-with i z p k rz ∙ sym (destination-with i y p k ry)
+    unfolding destination
+    destination-same = field-same destinationField (omega arith)
 
     offset-same : (j : ℕ) → j < dimensions → j ≢ i → offset j (withOffset i z p) ≡ offset j (withOffset i y p)
     offset-same j l ne = offset-with-other i j z p k l ne rz ∙ sym (offset-with-other i j y p k l ne ry)
@@ -262,10 +266,10 @@ module _ (S : Shape) (n q i h p : ℕ) (tor : Torus S) (node : n < nodes S) (k :
         omega arith
 
     either-sign : PacketFits S n q (withOffset i y p) → PacketFits S n q (withOffset i z p)
-    unfolding hops
+    unfolding hops spare
     either-sign f =
         record {
-          clear = spare-with i z p k rz ∙ sym (spare-with i y p k ry) ∙ f .clear;
+          clear = field-same spareField (omega arith) ∙ f .clear;
           addressed = let e = destination-same in let l = f .addressed in omega arith;
           arrives = movedBy-same ∙ f .arrives ∙ sym destination-same;
           near = λ j l. let e = reach-same j l in let m = f .near j l in omega arith;

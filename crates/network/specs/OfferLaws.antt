@@ -8,9 +8,10 @@ use native.Mathlib.Omega.{arith}
 use lib.Dec.{ltb, eqb}
 use lib.IntN.{pos, negsuc, natAbs}
 use Rattle.base.specs.Sums.{sum-most}
+use Rattle.base.specs.Digits.{digit}
 use Rattle.network.specs.Sizes.{Shape, size, nodes, dimensions, largestRing}
-use Rattle.network.specs.Packet.{tag, destination, spare, offset, distance, hopsLeft, work}
-use Rattle.network.specs.PacketLaws.{OffsetRange, tag-packet, destination-packet, spare-packet, offset-packet, landing, ahead-lt, shorterWay-nearer, shorterWay-halfway, shorterWay-range, shorterWay-half, shorterWay-reaches}
+use Rattle.network.specs.Packet.{fields, destinationField, tag, offset, distance, hopsLeft, work}
+use Rattle.network.specs.PacketLaws.{OffsetRange, tag-packet, field-packet, offset-packet, landing, ahead-lt, shorterWay-nearer, shorterWay-halfway, shorterWay-range, shorterWay-half, shorterWay-reaches}
 use Rattle.network.specs.Torus.{coordinate, movedBy}
 use Rattle.network.specs.TorusLaws.{Torus, coordinate-lt, coordinates-eq, coordinate-landing, movedBy-lt, movedBy-here}
 use Rattle.network.specs.Check.{longest, mostWork}
@@ -41,13 +42,10 @@ module _ (S : Shape) (n dest tag′ : ℕ) (t : Torus S) (h : n < nodes S) (hd :
   unfolding offered
   tag-offered = tag-packet tag′ dest (λ i. offeredWay S n dest i) small ranges
 
-  pub destination-offered : destination (offered S n dest tag′) ≡ dest
+  -- of the others the destination is the one offered to, and any but it is 0
+  pub field-offered : (k : ℕ) → dimensions ≤ k → digit fields k (offered S n dest tag′) ≡ cond (eqb k destinationField) dest 0
   unfolding offered
-  destination-offered = destination-packet tag′ dest (λ i. offeredWay S n dest i) small ranges
-
-  pub spare-offered : spare (offered S n dest tag′) ≡ 0
-  unfolding offered
-  spare-offered = spare-packet tag′ dest (λ i. offeredWay S n dest i) small ranges
+  field-offered k l = field-packet k tag′ dest (λ i. offeredWay S n dest i) l small ranges
 
   pub offset-offered : (i : ℕ) → i < dimensions → offset i (offered S n dest tag′) ≡ offeredWay S n dest i
   unfolding offered

@@ -14,7 +14,7 @@ use lib.ListN.{length, getD, drop, replicate, getD-replicate, List·getD-append}
 use Rattle.base.specs.Tests.{allOf}
 use Rattle.base.specs.Sums.{sumBelow, sum-change, sum-most, term-le}
 use Rattle.network.specs.Sizes.{dimensions, directions, dimensionOf, isPlus, plus, minus}
-use Rattle.base.specs.Digits.{product, digit, putDigit, weight, Positive, positive-by, digit-weight, digit-lt, digit-put-same, digit-put-other, put-put, put-comm, put-digit, above-put}
+use Rattle.base.specs.Digits.{product, digit, putDigit, weight, Positive, positive-by, digit-weight, digit-lt, digit-multiple, digit-put-same, digit-put-other, put-put, put-comm, put-digit, above-put}
 use Rattle.network.specs.Packet.{offsetValues, destinationValues, fields, offsetField, spareField, destinationField, withOffsets, signed, unsigned, packetWord, tag, destination, spare, offset, withOffset, distance, forward, backward, hops, heading, hopsLeft, work, shrunk, hop, label, stepsAhead, goesPlus, shorterWay}
 
 -- a choice whose test is known
@@ -141,18 +141,10 @@ unfolding offset withOffset
 offset-with-other i j z p h k ne r =
     ap signed (digit-put-other fields (offsetField i) (offsetField j) (unsigned z) p fields-positive (offset-apart i j h k ne) (small i z h r))
 
--- a field above the offsets stays
-field-with : (k i : ℕ) (z : ℤ) (p : ℕ) → dimensions ≤ k → i < dimensions → OffsetRange z → digit fields k (withOffset i z p) ≡ digit fields k p
+-- a field above the offsets, by its place among the fields, stays
+pub field-with : (k i : ℕ) (z : ℤ) (p : ℕ) → dimensions ≤ k → i < dimensions → OffsetRange z → digit fields k (withOffset i z p) ≡ digit fields k p
 unfolding withOffset
 field-with k i z p l h r = digit-put-other fields (offsetField i) k (unsigned z) p fields-positive (above-apart k i l h) (small i z h r)
-
-pub destination-with : (i : ℕ) (z : ℤ) (p : ℕ) → i < dimensions → OffsetRange z → destination (withOffset i z p) ≡ destination p
-unfolding destination
-destination-with i z p h r = field-with destinationField i z p (omega arith) h r
-
-pub spare-with : (i : ℕ) (z : ℤ) (p : ℕ) → i < dimensions → OffsetRange z → spare (withOffset i z p) ≡ spare p
-unfolding spare
-spare-with i z p h r = field-with spareField i z p (omega arith) h r
 
 pub tag-with : (i : ℕ) (z : ℤ) (p : ℕ) → i < dimensions → OffsetRange z → tag (withOffset i z p) ≡ tag p
 unfolding tag withOffset
@@ -242,13 +234,9 @@ label-with i z p h r = withs-over (λ j. pos 0) dimensions i z p h (omega arith)
 hop-range : (i p : ℕ) → OffsetRange (shrunk (offset i p))
 hop-range i p = shrunk-range (offset i p) (offset-range i p)
 
-pub destination-hop : (i p : ℕ) → i < dimensions → destination (hop i p) ≡ destination p
+pub field-hop : (k i p : ℕ) → dimensions ≤ k → i < dimensions → digit fields k (hop i p) ≡ digit fields k p
 unfolding hop
-destination-hop i p h = destination-with i (shrunk (offset i p)) p h (hop-range i p)
-
-pub spare-hop : (i p : ℕ) → i < dimensions → spare (hop i p) ≡ spare p
-unfolding hop
-spare-hop i p h = spare-with i (shrunk (offset i p)) p h (hop-range i p)
+field-hop k i p l h = field-with k i (shrunk (offset i p)) p l h (hop-range i p)
 
 pub tag-hop : (i p : ℕ) → i < dimensions → tag (hop i p) ≡ tag p
 unfolding hop
@@ -450,13 +438,9 @@ arrived-label p e = withs-own (λ j. pos 0) dimensions p (omega arith) (λ i h. 
     none : (i : ℕ) → i < dimensions → digit fields (offsetField i) p ≡ 0
     none i h = signed-zero (digit fields (offsetField i) p) (arrived-distance i p h e)
 
-pub destination-label : (p : ℕ) → destination (label p) ≡ destination p
-unfolding label destination
-destination-label p = field-withs (λ j. pos 0) destinationField dimensions p (omega arith) (omega arith) (λ i h. zero-range)
-
-pub spare-label : (p : ℕ) → spare (label p) ≡ spare p
-unfolding label spare
-spare-label p = field-withs (λ j. pos 0) spareField dimensions p (omega arith) (omega arith) (λ i h. zero-range)
+pub field-label : (k p : ℕ) → dimensions ≤ k → digit fields k (label p) ≡ digit fields k p
+unfolding label
+field-label k p l = field-withs (λ j. pos 0) k dimensions p l (omega arith) (λ i h. zero-range)
 
 pub tag-label : (p : ℕ) → tag (label p) ≡ tag p
 unfolding label
@@ -471,19 +455,19 @@ tag-packet t dest offs h r =
     ∙ above-put fields destinationField dest (t * product fields) fields-positive h
     ∙ omega arith
 
-pub destination-packet : (t dest : ℕ) (offs : ℕ → ℤ) → dest < 2 ^ 16 → InRange dimensions offs → destination (packetWord t dest offs) ≡ dest
-unfolding packetWord destination
-destination-packet t dest offs h r =
-    field-withs offs destinationField dimensions (putDigit fields destinationField dest (t * product fields)) (omega arith) (omega arith) r
-    ∙ digit-put-same fields destinationField dest (t * product fields) fields-positive (omega arith) h
-
-pub spare-packet : (t dest : ℕ) (offs : ℕ → ℤ) → dest < 2 ^ 16 → InRange dimensions offs → spare (packetWord t dest offs) ≡ 0
-unfolding packetWord spare product weight
-spare-packet t dest offs h r =
-    field-withs offs spareField dimensions (putDigit fields destinationField dest (t * product fields)) (omega arith) (omega arith) r
-    ∙ digit-put-other fields destinationField spareField dest (t * product fields) fields-positive (λ e. omega arith) h
-    ∙ digit-weight fields spareField (t * product fields) (omega arith)
-    ∙ omega arith
+-- of the fields above the offsets the destination is given, and any other is 0
+pub field-packet : (k t dest : ℕ) (offs : ℕ → ℤ) → dimensions ≤ k → dest < destinationValues → InRange dimensions offs
+    → digit fields k (packetWord t dest offs) ≡ cond (eqb k destinationField) dest 0
+unfolding packetWord
+field-packet k t dest offs l h r =
+    field-withs offs k dimensions (putDigit fields destinationField dest (t * product fields)) l (omega arith) r ∙ put (ℕ-discrete k destinationField)
+  where
+    put : Dec (k ≡ destinationField) → digit fields k (putDigit fields destinationField dest (t * product fields)) ≡ cond (eqb k destinationField) dest 0
+    put (yes e) = rw e (digit-put-same fields destinationField dest (t * product fields) fields-positive (omega arith) h)
+    put (no ne) =
+        digit-put-other fields destinationField k dest (t * product fields) fields-positive ne h
+        ∙ digit-multiple fields k t fields-positive
+        ∙ sym (passed-over (eqb k destinationField) dest 0 (ne-eqb k destinationField ne))
 
 pub offset-packet : (i t dest : ℕ) (offs : ℕ → ℤ) → i < dimensions → dest < 2 ^ 16 → InRange dimensions offs → offset i (packetWord t dest offs) ≡ offs i
 unfolding packetWord

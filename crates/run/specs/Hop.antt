@@ -7,8 +7,8 @@ use native.Mathlib.Decide.{ℕ-discrete}
 use native.Mathlib.Omega.{arith}
 use lib.Dec.{T, ltb→lt}
 use Rattle.network.specs.Sizes.{Shape, nodes, directions, dimensions, dimensionOf, directionOf, isEscape, injectionQueue, adaptiveQueue, escapeQueue}
-use Rattle.network.specs.Packet.{distance, hops, heading, hop}
-use Rattle.network.specs.PacketLaws.{dimension-lt, destination-hop, spare-hop, distance-hop-same, distance-hop-other, hops-hop-same, hops-le, heading-dimension, heading-lt, hops-heading}
+use Rattle.network.specs.Packet.{spareField, destinationField, destination, spare, distance, hops, heading, hop}
+use Rattle.network.specs.PacketLaws.{dimension-lt, field-hop, distance-hop-same, distance-hop-other, hops-hop-same, hops-le, heading-dimension, heading-lt, hops-heading}
 use Rattle.network.specs.Torus.{neighbour}
 use Rattle.network.specs.TorusLaws.{Torus, movedBy-hop}
 use Rattle.network.specs.Check.{longest, reach, opposite}
@@ -72,11 +72,12 @@ going p o r = go (r .by)
 -- the packet after its hop fits the queue o of the neighbour
 pub hopped-fits : (S : Shape) (n q p o d : ℕ) → Torus S → n < nodes S → PacketFits S n q p → Going p o d
     → PacketFits S (neighbour S d n) o (hop (dimensionOf d) p)
+unfolding destination spare
 hopped-fits S n q p o d tor hn f g =
     record {
-      clear = spare-hop i p hi ∙ f .clear;
-      addressed = rw (destination-hop i p hi) (f .addressed);
-      arrives = movedBy-hop S d n p tor (g .direction) hn (g .left) ∙ f .arrives ∙ sym (destination-hop i p hi);
+      clear = field-hop spareField i p (omega arith) hi ∙ f .clear;
+      addressed = rw same (f .addressed);
+      arrives = movedBy-hop S d n p tor (g .direction) hn (g .left) ∙ f .arrives ∙ sym same;
       near = λ j hj. close j hj (ℕ-discrete j i);
       sign = λ ne. rw (g .out) other-way;
       lower = λ t j h. below t j (rw (g .out) at h);
@@ -87,6 +88,9 @@ hopped-fits S n q p o d tor hn f g =
 
     hi : i < dimensions
     hi = dimension-lt d (g .direction)
+
+    same : destination (hop i p) ≡ destination p
+    same = field-hop destinationField i p (omega arith) hi
 
     close : (j : ℕ) → j < dimensions → Dec (j ≡ i) → reach j o (hop i p) ≤ longest S j
     close j hj (yes e) =

@@ -18,7 +18,7 @@ use Rattle.base.specs.Parts.{span, length-span, getD-span}
 use Rattle.network.specs.declared.Sizes.{Sizes}
 use Rattle.network.specs.Sizes.{Shape, shapeOf, sized, size, sizesInRange, nodes, queues, directions, dimensions, injectionQueue, escapeQueue, capacity, mostNodes}
 use Rattle.network.specs.SizesLaws.{range-of, capacity-pos}
-use Rattle.network.specs.Packet.{destination, hopsLeft, work}
+use Rattle.network.specs.Packet.{spareField, destinationField, destination, spare, hopsLeft, work}
 use Rattle.network.specs.Torus.{along}
 use Rattle.network.specs.TorusLaws.{Torus, inRange-torus, inRange-size, inRange-nodes, along-lt}
 use Rattle.network.specs.Layout.{headerWords, shape, need, nodeWords, queueStart, queueEnd, queueWords, queuePart, packetsOf, held, taken, total, accepted, delivered, movesMade}
@@ -28,7 +28,7 @@ use Rattle.network.specs.CheckLaws.{PacketFits, packet-by, Network}
 use Rattle.network.specs.SameWords.{same?, queue-stored, network-stored}
 use Rattle.network.specs.Refusals.{networkRefusal, makeRefusal, offerRules, offerRefusal}
 use Rattle.network.specs.RefusalLaws.{not-refused, neither, network-passed, network-passes, own-node-exactly}
-use Rattle.network.specs.OfferLaws.{ShortRings, destination-offered, spare-offered, distance-offered, work-offered, movedBy-offered, hops-offered}
+use Rattle.network.specs.OfferLaws.{ShortRings, field-offered, distance-offered, work-offered, movedBy-offered, hops-offered}
 use Rattle.network.specs.Calls.{emptyHeader, emptyNetwork, makeWords, offered, afterOffer, offerWords}
 use Rattle.network.specs.AfterLaws.{OfferTaken, offer-taken}
 use Rattle.run.specs.Queues.{taken-few, fits-by, one, packets-sum, allOf-newest}
@@ -214,11 +214,11 @@ module _ (S : Shape) (w v : List ℕ) (n dest tag : ℕ) (tor : Torus S) (N : Ne
   small i h = inRange-size S i (N .in-range)
 
   offered-fits : PacketFits S n injectionQueue p
-  unfolding reach isQueueOf
+  unfolding reach isQueueOf spare destination
   offered-fits =
-      let there : destination p ≡ dest = destination-offered S n dest tag tor hn hd few-nodes small in
+      let there : destination p ≡ dest = field-offered S n dest tag tor hn hd few-nodes small destinationField (omega arith) in
       record {
-        clear = spare-offered S n dest tag tor hn hd few-nodes small;
+        clear = field-offered S n dest tag tor hn hd few-nodes small spareField (omega arith);
         addressed = rw there hd;
         arrives = movedBy-offered S n dest tag tor hn hd few-nodes small ∙ sym there;
         near = λ i h. distance-offered S n dest tag tor hn hd few-nodes small i h;
