@@ -12,7 +12,7 @@ use Rattle.network.specs.Packet.{hop}
 use Rattle.network.specs.Torus.{neighbour}
 use Rattle.network.specs.TorusLaws.{Torus}
 use Rattle.network.specs.Layout.{headerWords, need, nodeWords, held, putQueue, raised, accepted, delivered, movesMade, acceptedAt, deliveredAt, movesAt}
-use Rattle.network.specs.LayoutLaws.{Fits, length-put, word-put, length-raised, raised-other}
+use Rattle.network.specs.LayoutLaws.{header-long, Fits, length-put, word-put, length-raised, raised-other}
 use Rattle.network.specs.Check.{mostAccepted, mostWork, packetsHeld, workLeft}
 use Rattle.network.specs.CheckLaws.{Network}
 use Rattle.network.specs.Routes.{deliver, target}
@@ -41,27 +41,20 @@ empty-words s n w v en ev =
     rest : ℕ
     rest = nodes (shapeOf s) * nodeWords (shapeOf s)
 
-pub need-header : (S : Shape) → headerWords ≤ need S
-unfolding need
-need-header S = omega arith
-
 -- A counter that may rise ---------------------------------------------------------------------------------------------------------------
 
 abbrev pub Raisable : ℕ → List ℕ → Type 0
 Raisable at w = (at < length w) × (getD w at 0 < 2 ^ 64 - 1)
 
 module _ {S : Shape} {w : List ℕ} (N : Network S w) where
-  header : headerWords ≤ length w
-  header = let a = N .long in let b = need-header S in omega arith
-
   pub accepted-may : Raisable acceptedAt w
   unfolding accepted
-  accepted-may = let h = header in let a : getD w acceptedAt 0 ≤ mostAccepted = N .few-accepted in (omega arith, omega arith)
+  accepted-may = let h = header-long S w (N .long) in let a : getD w acceptedAt 0 ≤ mostAccepted = N .few-accepted in (omega arith, omega arith)
 
   pub delivered-may : Raisable deliveredAt w
   unfolding accepted delivered
   delivered-may =
-      let h = header in
+      let h = header-long S w (N .long) in
       let a : getD w acceptedAt 0 ≤ mostAccepted = N .few-accepted in
       let b : getD w deliveredAt 0 + packetsHeld S w ≡ getD w acceptedAt 0 = N .counted in
       (omega arith, omega arith)
@@ -69,7 +62,7 @@ module _ {S : Shape} {w : List ℕ} (N : Network S w) where
   pub moves-may : Raisable movesAt w
   unfolding accepted movesMade
   moves-may =
-      let h = header in
+      let h = header-long S w (N .long) in
       let a : getD w acceptedAt 0 ≤ mostAccepted = N .few-accepted in
       let b : getD w movesAt 0 + workLeft S w ≤ mostWork * getD w acceptedAt 0 = N .bounded in
       (omega arith, omega arith)

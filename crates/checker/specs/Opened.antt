@@ -11,8 +11,8 @@ use lib.Dec.{eqb, eqb→eq}
 use lib.ListN.{length, getD}
 use Rattle.base.specs.Tests.{true-T}
 use Rattle.network.specs.declared.Sizes.{Sizes}
-use Rattle.network.specs.Sizes.{Shape, shapeOf, sized, nodes}
-use Rattle.network.specs.Layout.{shape, headerWords, nodeWords, need}
+use Rattle.network.specs.Sizes.{Shape, shapeOf, sized}
+use Rattle.network.specs.Layout.{shape}
 use Rattle.network.specs.CheckLaws.{Network}
 use Rattle.network.specs.Refusals.{networkRefusal}
 use Rattle.network.specs.RefusalLaws.{network-passed}
@@ -37,12 +37,6 @@ opened-shut w r e ne = rw (ne-eqb (networkRefusal w) 0 (λ z. ne (e ∙ z))) (ap
 pub opened-open : (w : List ℕ) (s : Sizes) → networkRefusal w ≡ 0 → s ≡ sizesIn w → Opened.Network s ≡ opened w
 unfolding opened
 opened-open w s z e = rw (eq-eqb (networkRefusal w) 0 z) (ap Opened.Network e)
-
-pub header-long : (w : List ℕ) → networkRefusal w ≡ 0 → headerWords ≤ length w
-unfolding need
-header-long w z =
-    let l : headerWords + nodes (shape w) * nodeWords (shape w) ≤ length w = network-passed w z .long in
-    omega arith
 
 -- words that are a network, of these sizes
 pub record Open (w : List ℕ) (s : Sizes) : Type 0 where

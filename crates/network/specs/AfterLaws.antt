@@ -19,11 +19,11 @@ use Rattle.network.specs.Packet.{distance, heading, hopsLeft, hop}
 use Rattle.network.specs.PacketLaws.{heading-lt, heading-dimension}
 use Rattle.network.specs.TorusLaws.{Torus, neighbour-lt, neighbour-apart}
 use Rattle.network.specs.Layout.{headerWords, shape, need, held, putQueue, raised, total, accepted, delivered, movesMade, acceptedAt, deliveredAt, movesAt}
-use Rattle.network.specs.LayoutLaws.{Fits, load-pos, length-taken, held-put-same, held-put-other, length-put, word-put, shape-put, rest-put}
+use Rattle.network.specs.LayoutLaws.{header-long, Fits, load-pos, length-taken, held-put-same, held-put-other, length-put, word-put, shape-put, rest-put}
 use Rattle.network.specs.LayoutLaws.{length-raised, held-raised, raised-same, raised-other, shape-raised, rest-raised, total-same, total-change}
 use Rattle.network.specs.Check.{longest, reach, packetFits}
 use Rattle.network.specs.CheckLaws.{PacketFits, packet-of, Network, reach-least}
-use Rattle.network.specs.SameWords.{OtherQueue, same?, QueuesStored, stored-few, header-long, stored-put, stored-raised, network-stored}
+use Rattle.network.specs.SameWords.{OtherQueue, same?, QueuesStored, stored-few, stored-put, stored-raised, network-stored}
 use Rattle.network.specs.Routes.{deliver, target}
 use Rattle.network.specs.RoutesLaws.{Onward, route-of}
 use Rattle.network.specs.Refusals.{head}

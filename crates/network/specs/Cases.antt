@@ -8,7 +8,7 @@ use mathlib.Core.Logic.{_⊎_, inl, inr, _≢_, _↔_}
 use mathlib.Core.Bool.{Bool, true, false, not, cond, _&&_, _||_}
 use mathlib.Core.List.{List, [], _∷_, _++_, map}
 use Prim.Native.Nat.{ℕ, zero, suc, _+_, _*_, _-_, _/_, _%_, _^_, _<_, _≤_}
-use native.Mathlib.Nat.{le-trans, le-add-right, min-le-left, mod-add-div, mod-eq-of-lt, div-lt-iff-lt-mul, mul-comm, mul-one, add-comm}
+use native.Mathlib.Nat.{le-trans, min-le-left, mod-add-div, mod-eq-of-lt, div-lt-iff-lt-mul, mul-comm, mul-one, add-comm}
 use native.Mathlib.Decide.{ℕ-discrete}
 use native.Mathlib.Omega.{arith}
 use borrow.Author.Tests.{eq-eqb, ne-eqb, lt-leb, lt-ltb, le-ltb, ltb-false}
@@ -28,6 +28,7 @@ use Rattle.network.specs.SizesLaws.{escape-capacity}
 use Rattle.network.specs.Packet.{signed, unsigned, packetWord, tag, destination, spare, offset, withOffset, withOffsets, distance, forward, backward, hops, heading, hopsLeft, work, shrunk, hop, label, goesPlus, shorterWay}
 use Rattle.network.specs.Torus.{coordinate, stride, along, neighbour, movedBelow, movedBy}
 use Rattle.network.specs.Layout.{headerWords, shape, accepted, delivered, movesMade, raised, acceptedAt, movesAt, queueLength, nodeWords, queueStart, queueEnd, need, queueWords, queuePart, countOf, packetsOf, unusedOf, held, load, taken, putQueue, total}
+use Rattle.network.specs.LayoutLaws.{header-long}
 use Rattle.network.specs.Check.{spareClear, rightPlace, isQueueOf, reach, nearEnough, opposite, rightSign, lowerDone, packetFits, queueFits, queuesFit, hasRoom, ringHasRoom, ringsHaveRoom, packetsHeld, workLeft, countersFit, isNetwork}
 use Rattle.network.specs.Routes.{deliver, inOrder, without, incoming, incomingFirst, headings, routes, target, freeSlots, entersRing, slotsNeeded}
 use Rattle.network.specs.Selection.{selected}
@@ -676,10 +677,10 @@ without-budget w room e = rw (eq-eqb (networkRefusal w) 0 e) (go (eqb (packetsHe
 
 -- K11: words that are long enough for sizes in range, and no network
 no-network : (w : List ℕ) → T (sizesInRange (shape w)) → need (shape w) ≤ length w → (Network (shape w) w → ⊥) → networkRefusal w ≡ 3
-unfolding networkRefusal need
+unfolding networkRefusal
 no-network w r l none =
     rw (
-      le-ltb (length w) headerWords (le-trans (le-add-right headerWords _) l),
+      le-ltb (length w) headerWords (header-long (shape w) w l),
       T-true (sizesInRange (shape w)) r,
       le-ltb (length w) (need (shape w)) l,
       untrue (isNetwork (shape w) w) (λ t. none (network-of (shape w) w t)),

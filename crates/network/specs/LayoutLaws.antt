@@ -90,6 +90,14 @@ apart S n q m r hq hr ne = go (decLt n m) (decLt m n) (decLt q r) (decLt r q)
     go (no a) (no b) (no c) (yes d) = inr (queueBelow m r n q (omega arith) d)
     go (no a) (no b) (no c) (no d) = absurd (ne (omega arith, omega arith))
 
+-- words that are as many as the sizes need begin with a header
+pub need-header : (S : Shape) → headerWords ≤ need S
+unfolding need
+need-header S = omega arith
+
+pub header-long : (S : Shape) (w : List ℕ) → need S ≤ length w → headerWords ≤ length w
+header-long S w l = let h = need-header S in omega arith
+
 -- queue q of node n is one of the network's, and the words are as many as the sizes need
 pub record Fits (S : Shape) (w : List ℕ) (n q : ℕ) : Type 0 where
   pub node : n < nodes S

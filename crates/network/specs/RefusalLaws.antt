@@ -5,7 +5,6 @@ use mathlib.Core.Logic.{_≢_, _↔_}
 use mathlib.Core.Bool.{Bool, true, false, cond, not, _||_}
 use mathlib.Core.List.{List}
 use Prim.Native.Nat.{ℕ, suc, _+_, _<_, _≤_}
-use native.Mathlib.Nat.{le-trans, le-add-right}
 use native.Mathlib.Decide.{ℕ-discrete}
 use native.Mathlib.Omega.{arith}
 use borrow.Author.Tests.{eq-eqb, ne-eqb, lt-leb, le-leb, le-ltb, ltb-false, leb-false, eqb-false}
@@ -14,7 +13,7 @@ use lib.ListN.{length}
 use Rattle.base.specs.Tests.{elem, T-true, true-T}
 use Rattle.network.specs.Sizes.{Shape, sizesInRange, nodes, queues, capacity}
 use Rattle.network.specs.Layout.{shape, headerWords, need, held, load, taken}
-use Rattle.network.specs.LayoutLaws.{load-pos}
+use Rattle.network.specs.LayoutLaws.{header-long, load-pos}
 use Rattle.network.specs.Check.{isNetwork}
 use Rattle.network.specs.CheckLaws.{Network, network-of, network-by}
 use Rattle.network.specs.Routes.{routes, deliver, target, freeSlots, slotsNeeded}
@@ -57,10 +56,10 @@ network-passed w e =
     network-of (shape w) w (true-T (isNetwork (shape w) w) (not-not (isNetwork (shape w) w) d))
 
 pub network-passes : (w : List ℕ) → Network (shape w) w → networkRefusal w ≡ 0
-unfolding networkRefusal need
+unfolding networkRefusal
 network-passes w f =
     let l : need (shape w) ≤ length w = f .long in
-    passes (ltb (length w) headerWords) shortStore _ (le-ltb (length w) headerWords (le-trans (le-add-right headerWords _) l))
+    passes (ltb (length w) headerWords) shortStore _ (le-ltb (length w) headerWords (header-long (shape w) w l))
     (passes (not (sizesInRange (shape w))) wrongSize _ (ap not (T-true (sizesInRange (shape w)) (f .in-range)))
     (passes (ltb (length w) (need (shape w))) shortStore _ (le-ltb (length w) (need (shape w)) l)
     (passes (not (isNetwork (shape w) w)) noNetwork 0 (ap not (T-true (isNetwork (shape w) w) (network-by (shape w) w f))) refl)))

@@ -14,7 +14,7 @@ use Rattle.base.specs.Tests.{allOf, EachBelow, each-at}
 use Rattle.base.specs.Sums.{sumBelow}
 use Rattle.network.specs.Sizes.{Shape, nodes, queues, capacity}
 use Rattle.network.specs.Layout.{headerWords, shape, accepted, delivered, movesMade, raised, queueLength, nodeWords, queueStart, queueEnd, need, queueWords, queuePart, countOf, unusedOf, held, putQueue}
-use Rattle.network.specs.LayoutLaws.{node-words, start-end, end-next, Fits, countOf-queueWords, unused-zero, length-packetsOf, queueWords-packetsOf, length-queuePart, part-put-same, part-put-other, length-put, length-raised, part-raised}
+use Rattle.network.specs.LayoutLaws.{header-long, node-words, start-end, end-next, Fits, countOf-queueWords, unused-zero, length-packetsOf, queueWords-packetsOf, length-queuePart, part-put-same, part-put-other, length-put, length-raised, part-raised}
 use Rattle.network.specs.CheckLaws.{Network}
 
 -- queue q of node n is another one than queue r of node m; and two queues are the same one or not
@@ -50,10 +50,6 @@ stored-few S w n q at l = rw (length-packetsOf (capacity S q) (queuePart S w n q
 pub record QueuesStored (S : Shape) (w : List ℕ) : Type 0 where
   pub long : need S ≤ length w
   pub queue : (n q : ℕ) → n < nodes S → q < queues → QueueStored S w n q
-
-pub header-long : (S : Shape) (w : List ℕ) → need S ≤ length w → headerWords ≤ length w
-unfolding need
-header-long S w h = let l : headerWords + nodes S * nodeWords S ≤ length w = h in omega arith
 
 pub stored-put : (S : Shape) (w : List ℕ) (n q : ℕ) (ps : List ℕ) → Fits S w n q → length ps ≤ capacity S q → QueuesStored S w
     → QueuesStored S (putQueue S w n q ps)

@@ -1,6 +1,5 @@
--- The words of a checked network that the code reads: those of the header, and of a queue the number held and the head, which stand where
--- the queue starts. Order: the header; the two words; the same at the place that the code computes.
--- Assumes nothing.
+-- The words of a checked network that the code reads of a queue: the number held and the head, which stand where the queue starts. Order: the two
+-- words; the same at the place that the code computes. Assumes nothing.
 use mathlib.Core.Path.{_≡_, ap, sym, _∙_}
 use mathlib.Core.List.{List}
 use Prim.Native.Nat.{ℕ, _+_, _-_, _<_, _≤_}
@@ -11,19 +10,13 @@ use lib.Seq.{getD-take, getD-drop}
 use Rattle.base.specs.Parts.{getD-span}
 use Rattle.network.specs.Sizes.{Shape, shapeOf, sizesInRange, nodes, queues, capacity}
 use Rattle.network.specs.SizesLaws.{range-of, capacity-pos}
-use Rattle.network.specs.Layout.{need, queueStart, queueEnd, queueLength, queuePart, countOf, packetsOf, held}
+use Rattle.network.specs.Layout.{queueStart, queueEnd, queueLength, queuePart, countOf, packetsOf, held}
 use Rattle.network.specs.LayoutLaws.{end-start, end-length, count-word}
-use Rattle.network.specs.CheckLaws.{Network}
 use Rattle.network.specs.Refusals.{head}
 use Rattle.network.specs.declared.Sizes.{Sizes}
 use Rattle.queue.specs.Queue.{CheckedQueue}
 use Rattle.queue.specs.QueueLaws.{checked, checked-fits, checked-count, places}
 use Rattle.queue.specs.QueueOf.{QueueOf}
-
--- the header is among the words
-pub header : (S : Shape) (w : List ℕ) → Network S w → 8 ≤ length w
-unfolding need
-header S w k = let l = k .long in omega arith
 
 -- The two words -----------------------------------------------------------------------------------------------------------------------
 

@@ -3,14 +3,13 @@
 use mathlib.Core.Path.{_≡_, refl, ap, sym, _∙_, subst}
 use mathlib.Core.Logic.{_≢_}
 use mathlib.Core.List.{List}
-use Prim.Native.Nat.{ℕ, _≤_}
-use native.Mathlib.Nat.{le-trans}
+use Prim.Native.Nat.{ℕ}
 use lib.ListN.{length}
 use Rattle.network.specs.declared.Found.{Found}
 use Rattle.network.specs.declared.Stop.{Stop}
 use Rattle.network.specs.Sizes.{Shape}
 use Rattle.network.specs.TorusLaws.{Torus}
-use Rattle.network.specs.Layout.{held, accepted, delivered, need, headerWords}
+use Rattle.network.specs.Layout.{held, accepted, delivered}
 use Rattle.network.specs.CheckLaws.{Network}
 use Rattle.network.specs.Refusals.{head}
 use Rattle.network.specs.RefusalLaws.{Permitted}
@@ -81,8 +80,3 @@ by-nothing S w room f e = ap (turnBy S w room) e
 pub by-refused : (S : Shape) (w : List ℕ) (room r : ℕ) (f : Found) → f ≡ Found.Refused r → turnBy S w room f ≡ Turn.Stopped Stop.Emptied
 unfolding turnBy
 by-refused S w room r f e = ap (turnBy S w room) e
-
--- the header's words are there
-pub header-long : (S : Shape) (w : List ℕ) → Network S w → headerWords ≤ length w
-unfolding need
-header-long S w N = le-trans (native.Mathlib.Nat.le-add-right headerWords _) (N .long)

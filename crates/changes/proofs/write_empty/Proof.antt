@@ -5,7 +5,8 @@ use native.Mathlib.Omega.{arith}
 use lib.ListN.{length, length-set}
 use Rattle.network.specs.Sizes.{shapeOf}
 use Rattle.network.specs.Layout.{headerWords}
-use Rattle.changes.proofs.ChangeLaws.{need-header, empty-words}
+use Rattle.network.specs.LayoutLaws.{need-header}
+use Rattle.changes.proofs.ChangeLaws.{empty-words}
 use Rattle.changes.proofs.write_empty.Statement.{statement}
 use Rattle.changes.proofs.write_empty.Tie as tie
 

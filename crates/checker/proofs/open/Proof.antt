@@ -1,7 +1,9 @@
 -- `checker::open` meets its contract. Assumes nothing.
 use borrow.Author.Needs.{needs}
 use mathlib.Core.Path.{sym, _∙_}
-use Rattle.checker.specs.Opened.{opened-shut, opened-open, header-long}
+use Rattle.network.specs.LayoutLaws.{header-long}
+use Rattle.network.specs.RefusalLaws.{network-passed}
+use Rattle.checker.specs.Opened.{opened-shut, opened-open}
 use Rattle.checker.proofs.open.Statement.{statement}
 use Rattle.checker.proofs.open.Tie as tie
 
@@ -9,7 +11,7 @@ returns : tie.Need-returns
 returns c = let r = c .before .network-refusal in opened-shut _ _ (r .ensures) (c .if1 .taken)
 
 sizes-of-requires : tie.Need-sizes-of-requires
-sizes-of-requires c κs = let r = c .before .network-refusal in header-long _ (sym (r .ensures) ∙ c .if1 .left)
+sizes-of-requires c κs = let r = c .before .network-refusal in header-long _ _ (network-passed _ (sym (r .ensures) ∙ c .if1 .left) .long)
 
 returns-2 : tie.Need-returns-2
 returns-2 c = let r = c .before .before .network-refusal in opened-open _ _ (sym (r .ensures) ∙ c .before .if1 .left) (c .sizes-of .ensures)

@@ -6,7 +6,7 @@ use Rattle.network.specs.Sizes.{shapeOf}
 use Rattle.network.specs.declared.Stop.{Stop}
 use Rattle.network.specs.Layout.{accepted, delivered}
 use Rattle.turns.specs.Turns.{turn-emptied, none-held}
-use Rattle.turns.specs.Turned.{header-long}
+use Rattle.network.specs.LayoutLaws.{header-long}
 use Rattle.network.specs.TorusLaws.{sizes-torus, sizes-nodes}
 use Rattle.drains.specs.SoFar.{so-far-start, so-far-end}
 use Rattle.drains.proofs.drain_network.Statement.{statement}
@@ -15,13 +15,13 @@ use Rattle.drains.proofs.drain_network.Tie as tie
 slice-read-accepted : tie.Need-slice-read-accepted
 slice-read-accepted c =
     let a = c .before .before .before in
-    let h = header-long (shapeOf (a .args .s)) (now (a .args .words)) (a .pre) in
+    let h = header-long (shapeOf (a .args .s)) (now (a .args .words)) (a .pre .long) in
     omega arith
 
 slice-read-delivered : tie.Need-slice-read-delivered
 slice-read-delivered c =
     let a = c .before .before .before .before in
-    let h = header-long (shapeOf (a .args .s)) (now (a .args .words)) (a .pre) in
+    let h = header-long (shapeOf (a .args .s)) (now (a .args .words)) (a .pre .long) in
     omega arith
 
 returns : tie.Need-returns

@@ -13,7 +13,8 @@ use Rattle.network.specs.Layout.{accepted, delivered}
 use Rattle.network.specs.Calls.{firstInQueue, firstMove}
 use Rattle.routes.specs.Lines.{lines}
 use Rattle.queue.specs.QueueOf.{QueueOf}
-use Rattle.queue.specs.HeldWords.{header, inside-at}
+use Rattle.network.specs.LayoutLaws.{header-long}
+use Rattle.queue.specs.HeldWords.{inside-at}
 use Rattle.network.specs.TorusLaws.{sizes-nodes}
 use Rattle.first.proofs.Searching.{Reading, AtLine, AtQueue, AtNode, found-from-first, output-lt, line-none, line-refused, line-found, lines-none, end-at, queue-none, queues-begin, queue-next, queue-found, nodes-begin, node-next, node-found, nodes-none, nothing-held}
 use Rattle.first.proofs.first_move.Statement.{statement}
@@ -67,13 +68,13 @@ two-words c =
 shared-slice-read-if1 : tie.Need-shared-slice-read-if1 Inv-loop2 μ-loop2 Inv-loop μ-loop Inv-search μ-search
 shared-slice-read-if1 c =
     let f = c .before .before in
-    let l = header (shapeOf (f .args .s)) (f .args .words .now) (f .pre) in
+    let l = header-long (shapeOf (f .args .s)) (f .args .words .now) (f .pre .long) in
     omega arith
 
 shared-slice-read-if1-2 : tie.Need-shared-slice-read-if1-2 Inv-loop2 μ-loop2 Inv-loop μ-loop Inv-search μ-search
 shared-slice-read-if1-2 c =
     let f = c .before .before .before in
-    let l = header (shapeOf (f .args .s)) (f .args .words .now) (f .pre) in
+    let l = header-long (shapeOf (f .args .s)) (f .args .words .now) (f .pre .long) in
     omega arith
 
 returns : tie.Need-returns Inv-loop2 μ-loop2 Inv-loop μ-loop Inv-search μ-search

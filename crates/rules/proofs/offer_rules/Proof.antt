@@ -9,10 +9,9 @@ use borrow.Author.Tests.{eq-eqb, ne-eqb, le-leb, lt-leb}
 use lib.Dec.{leb, eqb}
 use Rattle.network.specs.Sizes.{Shape, shapeOf, nodes, capacity, injectionQueue}
 use Rattle.network.specs.Layout.{accepted, taken}
-use Rattle.network.specs.LayoutLaws.{taken-length}
+use Rattle.network.specs.LayoutLaws.{header-long, taken-length}
 use Rattle.network.specs.Check.{mostAccepted}
 use Rattle.network.specs.Refusals.{refuse, offerRules, noSuchNode, countSpent, injectionFull, ownNode}
-use Rattle.queue.specs.HeldWords.{header}
 use Rattle.rules.proofs.offer_rules.Statement.{statement}
 use Rattle.rules.proofs.offer_rules.Tie as tie
 
@@ -30,7 +29,7 @@ nodes-requires c κs = let f = c .before in f .pre .in-range
 shared-slice-read-accepted : tie.Need-shared-slice-read-accepted
 shared-slice-read-accepted c =
     let f = c .before .before .before in
-    let l = header (shapeOf (f .args .s)) (f .args .words .now) (f .pre) in
+    let l = header-long (shapeOf (f .args .s)) (f .args .words .now) (f .pre .long) in
     omega arith
 
 returns : tie.Need-returns

@@ -7,20 +7,21 @@ use Rattle.network.specs.Sizes.{shapeOf}
 use Rattle.network.specs.Layout.{accepted, delivered}
 use Rattle.network.specs.declared.Found.{Found}
 use Rattle.turns.specs.Turns.{first-permitted}
-use Rattle.turns.specs.Turned.{turned-emptied, turned-spent, turned-nowhere, turned-by, by-nothing, by-refused, header-long}
+use Rattle.network.specs.LayoutLaws.{header-long}
+use Rattle.turns.specs.Turned.{turned-emptied, turned-spent, turned-nowhere, turned-by, by-nothing, by-refused}
 use Rattle.turns.proofs.take_turn.Statement.{statement}
 use Rattle.turns.proofs.take_turn.Tie as tie
 
 slice-read-if1 : tie.Need-slice-read-if1
 slice-read-if1 c =
     let a = c .before .before .before .before in
-    let h = header-long (shapeOf (a .args .s)) (now (a .args .words)) (a .pre .0) in
+    let h = header-long (shapeOf (a .args .s)) (now (a .args .words)) (a .pre .0 .long) in
     omega arith
 
 slice-read-if1-2 : tie.Need-slice-read-if1-2
 slice-read-if1-2 c =
     let a = c .before .before .before .before .before in
-    let h = header-long (shapeOf (a .args .s)) (now (a .args .words)) (a .pre .0) in
+    let h = header-long (shapeOf (a .args .s)) (now (a .args .words)) (a .pre .0 .long) in
     omega arith
 
 returns : tie.Need-returns
