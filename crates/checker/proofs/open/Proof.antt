@@ -11,7 +11,10 @@ returns : tie.Need-returns
 returns c = let r = c .before .network-refusal in opened-shut _ _ (r .ensures) (c .if1 .taken)
 
 sizes-of-requires : tie.Need-sizes-of-requires
-sizes-of-requires c κs = let r = c .before .network-refusal in header-long _ _ (network-passed _ (sym (r .ensures) ∙ c .if1 .left) .long)
+sizes-of-requires c κs =
+    let r = c .before .network-refusal in
+    let w = c .before .before .before .args .words .now in
+    header-long _ w (network-passed w (sym (r .ensures) ∙ c .if1 .left) .long)
 
 returns-2 : tie.Need-returns-2
 returns-2 c = let r = c .before .before .network-refusal in opened-open _ _ (sym (r .ensures) ∙ c .before .if1 .left) (c .sizes-of .ensures)
