@@ -188,7 +188,7 @@ none-earlier w m F e (by-route x y l) P =
     (subst (λ (n : ℕ). moveRules (shape w) w n (e .queue) (e .output) ≡ 0) x (permitted-by (shape w) w (e .node) (e .queue) (e .output) P)))
 
 -- an answer that names a move
-names : (f : Found) (m : NamedMove) → foundMove f ≡ m ∷ [] → f ≡ Found.Move (m .node) (m .queue) (m .output)
+pub names : (f : Found) (m : NamedMove) → foundMove f ≡ m ∷ [] → f ≡ Found.Move (m .node) (m .queue) (m .output)
 unfolding foundMove
 names (Found.Refused r) m e = absurd (suc-ne-zero 0 (sym (ap length e)))
 names Found.Nothing m e = absurd (suc-ne-zero 0 (sym (ap length e)))

@@ -30,5 +30,7 @@ pub mod OfferLaws
 pub mod Run
 pub mod DrainLaws
 pub mod RunLaws
+pub mod FirstMoves
+pub mod FirstMovesLaws
 pub mod SamePackets
 pub mod Cases

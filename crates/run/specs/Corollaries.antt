@@ -1,7 +1,7 @@
 -- What a reader asks of demand 3. Order: First and an empty network; a Drain that may go on to the end; the hops left by direction; the arbiter's order
 -- of moves; the stamps of a dump. Reached.antt has that Make and accepted offers lead to networks. Assumes nothing.
 use mathlib.Core.Path.{_≡_, refl, ap, sym, _∙_}
-use mathlib.Core.Logic.{_↔_, _≢_}
+use mathlib.Core.Logic.{_↔_}
 use mathlib.Core.List.{List, [], _∷_}
 use Prim.Native.Nat.{ℕ, _+_, _-_, _<_, _≤_}
 use native.Mathlib.Decide.{ℕ-discrete}
@@ -20,6 +20,7 @@ use Rattle.network.specs.CheckLaws.{Network}
 use Rattle.network.specs.Refusals.{networkRefusal}
 use Rattle.network.specs.RefusalLaws.{network-passed, Permitted}
 use Rattle.network.specs.FirstLaws.{Finds, nothing, named, first-finds, first-nothing}
+use Rattle.network.specs.FirstMovesLaws.{held-some}
 use Rattle.network.specs.Calls.{Progress, firstMove, firstAnswer, drainFrom, drained, drainAnswer, drainedMoves, offerWords}
 use Rattle.network.specs.Run.{Call, drain, Outcome, outcome, run, isLabelled, heldWith, handedWith, hopsWith, Demand3}
 use Rattle.run.specs.Step.{Ran}
@@ -28,11 +29,6 @@ use Rattle.run.specs.DrainMoves.{drain-ran}
 use Rattle.run.specs.Stops.{Why, nothing-held, budget-used, ledger-full, drain-why}
 use Rattle.run.specs.Theorem.{torus, no-work, no-packets, run-made, demand3}
 use Rattle.run.specs.Reached.{offer-network, offer-moves}
-
--- a permitted move's queue holds something
-held-some : (S : Shape) (w : List ℕ) (n q o : ℕ) → Permitted S w n q o → packetsHeld S w ≢ 0
-unfolding packetsHeld
-held-some S w n q o P z = P .holds (ap length (total-zero S w n q z (P .node) (P .queue)))
 
 -- R124: First says none exactly when nothing is held
 pub first-none-when-empty : (w : List ℕ) → networkRefusal w ≡ 0 → (firstAnswer w ≡ Found.Nothing) ↔ (packetsHeld (shape w) w ≡ 0)

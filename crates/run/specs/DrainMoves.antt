@@ -1,6 +1,6 @@
--- What a Drain does: the same fact as a move's, and that each of its moves is one that Move makes. Order: the next move; a whole Drain; its moves one by
--- one. Assumes nothing.
-use mathlib.Core.Path.{_≡_, sym, _∙_, subst}
+-- What a Drain does: the same fact as a move's, and that each of its moves is the one that First names by then, and so one that Move makes. Order: the next
+-- move; a whole Drain; its moves one by one. Assumes nothing.
+use mathlib.Core.Path.{_≡_, refl, sym, _∙_, subst}
 use mathlib.Core.Logic.{_≢_}
 use mathlib.Core.Bool.{Bool, true, false, cond}
 use mathlib.Core.List.{List, [], _∷_, _++_}
@@ -18,13 +18,13 @@ use Rattle.network.specs.Layout.{shape, held}
 use Rattle.network.specs.Check.{packetsHeld}
 use Rattle.network.specs.CheckLaws.{Network}
 use Rattle.network.specs.Routes.{deliver}
-use Rattle.network.specs.Refusals.{head}
+use Rattle.network.specs.Refusals.{networkRefusal, head}
 use Rattle.network.specs.RefusalLaws.{Permitted, network-passes}
 use Rattle.network.specs.FirstLaws.{Finds, nothing, named, first-finds}
 use Rattle.network.specs.Calls.{NamedMove, moveOf, Delivery, Progress, afterMove, firstMove, stopped, oneMore, deliverNext, moveNext, drainFrom}
-use Rattle.network.specs.RunLaws.{leads-none, leads-one, leads-append}
-use Rattle.network.specs.ChoiceLaws.{permits}
 use Rattle.network.specs.Run.{Leads}
+use Rattle.network.specs.FirstMoves.{ByFirst}
+use Rattle.network.specs.FirstMovesLaws.{search-named, by-first-leads, by-first-one, by-first-append}
 use Rattle.run.specs.Step.{Ran, ran-none, ran-then, handsOut, step}
 
 -- moves that led from w to where r has come
@@ -92,13 +92,13 @@ module _ (S : Shape) (tor : Torus S) where
       go true r = stops S w Stop.Emptied N
       go false r = r
 
-  -- each move of a Drain is permitted where it is made, and does what Move does
-  leads-next : (w : List ℕ) (room : ℕ) (f : Found) (on : ℕ → List ℕ → Progress) → shape w ≡ S → Network S w → Finds (Permitted S w) f
-      → ((r : ℕ) (v : List ℕ) → shape v ≡ S → Network S v → Leads v (on r v .moves) (on r v .words))
-      → Leads w (moveNext S w room f on .moves) (moveNext S w room f on .words)
-  unfolding moveNext deliverNext stopped oneMore
-  leads-next w room f on same N nothing rec = leads-none w
-  leads-next w room f on same N (named {n} {q} {o} P) rec = go (ℕ-discrete o deliver) room
+  -- each move of a Drain is the one that First names in the words by then, and does what Move does
+  first-next : (w : List ℕ) (room : ℕ) (f : Found) (on : ℕ → List ℕ → Progress) → shape w ≡ S → Network S w → firstMove S w ≡ f → Finds (Permitted S w) f
+      → ((r : ℕ) (v : List ℕ) → shape v ≡ S → Network S v → ByFirst v (on r v .moves) (on r v .words))
+      → ByFirst w (moveNext S w room f on .moves) (moveNext S w room f on .words)
+  unfolding moveNext deliverNext stopped oneMore ByFirst
+  first-next w room f on same N first nothing rec = refl
+  first-next w room f on same N first (named {n} {q} {o} P) rec = go (ℕ-discrete o deliver) room
     where
       a : Ran S w (afterMove S w n q o) (handsOut S w n q o) 1
       a = step S w n q o tor N P
@@ -106,39 +106,48 @@ module _ (S : Shape) (tor : Torus S) where
       m : NamedMove
       m = moveOf n q o
 
-      first : Leads w (m ∷ []) (afterMove S w n q o)
-      first = subst (λ (T : Shape). Leads w (m ∷ []) (afterMove T w n q o)) same (leads-one w m (permits w m (network-passes w (subst (λ (T : Shape). Network T w) (sym same) N)) (subst (λ (T : Shape). Permitted T w n q o) (sym same) P)))
+      passed : networkRefusal w ≡ 0
+      passed = network-passes w (subst (λ (T : Shape). Network T w) (sym same) N)
 
-      later : (r : ℕ) → Leads w (m ∷ on r (afterMove S w n q o) .moves) (on r (afterMove S w n q o) .words)
+      one : ByFirst w (m ∷ []) (afterMove S w n q o)
+      one =
+          subst (λ (T : Shape). ByFirst w (m ∷ []) (afterMove T w n q o)) same
+          (by-first-one w m (search-named w m passed (subst (λ (T : Shape). firstMove T w ≡ Found.Move n q o) (sym same) first)))
+
+      later : (r : ℕ) → ByFirst w (m ∷ on r (afterMove S w n q o) .moves) (on r (afterMove S w n q o) .words)
       later r =
-          leads-append w (afterMove S w n q o) (on r (afterMove S w n q o) .words) (m ∷ []) (on r (afterMove S w n q o) .moves) first
+          by-first-append w (afterMove S w n q o) (on r (afterMove S w n q o) .words) (m ∷ []) (on r (afterMove S w n q o) .moves) one
           (rec r (afterMove S w n q o) (a .same-shape ∙ same) (a .network))
 
-      delivers : o ≡ deliver → (room′ : ℕ) → Leads w (deliverNext S w n q room′ on .moves) (deliverNext S w n q room′ on .words)
-      delivers e zero = leads-none w
+      delivers : o ≡ deliver → (room′ : ℕ) → ByFirst w (deliverNext S w n q room′ on .moves) (deliverNext S w n q room′ on .words)
+      delivers e zero = refl
       delivers e (suc room′) =
-          subst (λ (x : ℕ). Leads w (moveOf n q x ∷ on room′ (afterMove S w n q x) .moves) (on room′ (afterMove S w n q x) .words)) e (later room′)
+          subst (λ (x : ℕ). ByFirst w (moveOf n q x ∷ on room′ (afterMove S w n q x) .moves) (on room′ (afterMove S w n q x) .words)) e (later room′)
 
       go : Dec (o ≡ deliver) → (room′ : ℕ)
-          → Leads w (cond (eqb o deliver) (deliverNext S w n q room′ on) (oneMore m [] (on room′ (afterMove S w n q o))) .moves)
+          → ByFirst w (cond (eqb o deliver) (deliverNext S w n q room′ on) (oneMore m [] (on room′ (afterMove S w n q o))) .moves)
           (cond (eqb o deliver) (deliverNext S w n q room′ on) (oneMore m [] (on room′ (afterMove S w n q o))) .words)
       go (yes e) room′ = rw (eq-eqb o deliver e) (delivers e room′)
       go (no ne) room′ = rw (ne-eqb o deliver ne) (later room′)
 
-  pub drain-leads : (budget room : ℕ) (w : List ℕ) → shape w ≡ S → Network S w → Leads w (drainFrom S budget room w .moves) (drainFrom S budget room w .words)
-  unfolding drainFrom stopped
-  drain-leads zero room w same N = go (eqb (packetsHeld S w) 0)
+  pub drain-by-first : (budget room : ℕ) (w : List ℕ) → shape w ≡ S → Network S w → ByFirst w (drainFrom S budget room w .moves) (drainFrom S budget room w .words)
+  unfolding drainFrom stopped ByFirst
+  drain-by-first zero room w same N = go (eqb (packetsHeld S w) 0)
     where
-      go : (t : Bool) → Leads w (cond t (stopped w Stop.Emptied) (stopped w Stop.Spent) .moves) (cond t (stopped w Stop.Emptied) (stopped w Stop.Spent) .words)
-      go true = leads-none w
-      go false = leads-none w
-  drain-leads (suc budget) room w same N =
+      go : (t : Bool) → ByFirst w (cond t (stopped w Stop.Emptied) (stopped w Stop.Spent) .moves) (cond t (stopped w Stop.Emptied) (stopped w Stop.Spent) .words)
+      go true = refl
+      go false = refl
+  drain-by-first (suc budget) room w same N =
       go (eqb (packetsHeld S w) 0)
-      (leads-next w room (firstMove S w) (λ room′ w′. drainFrom S budget room′ w′) same N (first-finds S w) (λ r v s M. drain-leads budget r v s M))
+      (first-next w room (firstMove S w) (λ room′ w′. drainFrom S budget room′ w′) same N refl (first-finds S w) (λ r v s M. drain-by-first budget r v s M))
     where
       rest : Progress
       rest = moveNext S w room (firstMove S w) (λ room′ w′. drainFrom S budget room′ w′)
 
-      go : (t : Bool) → Leads w (rest .moves) (rest .words) → Leads w (cond t (stopped w Stop.Emptied) rest .moves) (cond t (stopped w Stop.Emptied) rest .words)
-      go true l = leads-none w
+      go : (t : Bool) → ByFirst w (rest .moves) (rest .words) → ByFirst w (cond t (stopped w Stop.Emptied) rest .moves) (cond t (stopped w Stop.Emptied) rest .words)
+      go true l = refl
       go false l = l
+
+  -- so each of them is permitted
+  pub drain-leads : (budget room : ℕ) (w : List ℕ) → shape w ≡ S → Network S w → Leads w (drainFrom S budget room w .moves) (drainFrom S budget room w .words)
+  drain-leads budget room w same N = by-first-leads w (drainFrom S budget room w .moves) (drainFrom S budget room w .words) (drain-by-first budget room w same N)

@@ -13,3 +13,4 @@ pub mod Theorem
 pub mod Stops
 pub mod Reached
 pub mod Corollaries
+pub mod FirstMoves
