@@ -2,6 +2,8 @@
 pub mod Tests
 pub mod Bools
 pub mod Sums
+pub mod Joins
+pub mod Rearrangement
 pub mod Digits
 pub mod Numbers
 pub mod Parts

@@ -32,5 +32,7 @@ pub mod DrainLaws
 pub mod RunLaws
 pub mod FirstMoves
 pub mod FirstMovesLaws
+pub mod InLists
+pub mod InListsLaws
 pub mod SamePackets
 pub mod Cases

@@ -14,3 +14,4 @@ pub mod Stops
 pub mod Reached
 pub mod Corollaries
 pub mod FirstMoves
+pub mod InLists
