@@ -91,11 +91,14 @@ module _ {x y z last : ℕ} {dx dy dz : Sign} (d : Decided dx dy dz x y z last) 
   by-z-first {q} row = answer q z x y (d .z-is) (d .x-is) (d .y-is) (z-first q row (adaptiveX dx) (adaptiveY dy) (adaptiveZ dz))
 
 -- the list of the signs of a head's offsets is its routes
-pub are-routes : (q p : ℕ) {dx dy dz : Sign} → q < queues → dx ≡ sign (offset 0 p) → dy ≡ sign (offset 1 p) → dz ≡ sign (offset 2 p)
-    → selection q dx dy dz ≡ routes q p
+pub are-cases : (q p : ℕ) {dx dy dz : Sign} → dx ≡ sign (offset 0 p) → dy ≡ sign (offset 1 p) → dz ≡ sign (offset 2 p)
+    → selection q dx dy dz ≡ selection q (sign (offset 0 p)) (sign (offset 1 p)) (sign (offset 2 p))
+are-cases q p {dx} {dy} {dz} x y z =
+    ap₂ (λ (a b : Sign). selection q a b dz) x y ∙ ap (selection q (sign (offset 0 p)) (sign (offset 1 p))) z
+
+pub are-routes : (q p : ℕ) → q < queues → selection q (sign (offset 0 p)) (sign (offset 1 p)) (sign (offset 2 p)) ≡ routes q p
 unfolding selected
-are-routes q p {dx} {dy} {dz} h x y z =
-    ap₂ (λ (a b : Sign). selection q a b dz) x y ∙ ap (selection q (sign (offset 0 p)) (sign (offset 1 p))) z ∙ selection-routes q p h
+are-routes q p h = selection-routes q p h
 
 -- An output looked for among the lines ------------------------------------------------------------------------------------------------
 

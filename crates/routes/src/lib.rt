@@ -10,8 +10,9 @@ ghost use Prim.Native.Nat.{_<_};
 ghost use lib.ListN.{length};
 ghost use Rattle.base.specs.Tests.{elem};
 ghost use Rattle.network.specs.Sizes.{queues};
+ghost use Rattle.network.specs.Packet.{offset};
 ghost use Rattle.network.specs.Routes.{routes};
-ghost use Rattle.network.specs.Selection.{adaptiveX, adaptiveY, adaptiveZ, lastCase};
+ghost use Rattle.network.specs.Selection.{sign, adaptiveX, adaptiveY, adaptiveZ, lastCase, selection};
 ghost use Rattle.routes.specs.Lines.{lines, applies, outputsFrom, unlessZero};
 
 // How many lines the selection list has, one for each dimension and the last, and the number of the last. The code counts them from 0: the
@@ -74,11 +75,12 @@ fn last_case(dx: Sign, dy: Sign, dz: Sign) -> u64
 }
 
 // What each line gives of the head p of queue q, in their order. The number of the queue says which dimension is the incoming one and comes
-// first; for the injection queue that is x.
+// first; for the injection queue that is x. The contract names both statements of the routes: the paper's rule, and its cases, by which the code decides.
 pub fn routes(q: u64, p: u64) -> [u64; LINES as usize]
     requires { ⌜ q < queues ⌝ }
     ensures each { λ r. ⌜ length r ≡ lines ⌝ }
     ensures these { λ r. ⌜ outputsFrom 0 r ≡ routes q p ⌝ }
+    ensures cases { λ r. ⌜ outputsFrom 0 r ≡ selection q (sign (offset 0 p)) (sign (offset 1 p)) (sign (offset 2 p)) ⌝ }
 {
     let dx = sign(0, p);
     let dy = sign(1, p);

@@ -43,7 +43,7 @@ reading : (c : tie.After-routes Inv-loop μ-loop)
 reading c =
     let f = c .before .before .before .before in
     let a = f .before .before .before in
-    record { queue = a .pre .0; at = f .queue-start .ensures; some = c .before .before .if1 .left; each = c .routes .ensures .0; these = c .routes .ensures .1 }
+    record { queue = a .pre .0; at = f .queue-start .ensures; some = c .before .before .if1 .left; each = c .routes .ensures .0; these = c .routes .ensures .1 .0 }
 
 queue-start-requires : tie.Need-queue-start-requires Inv-loop μ-loop
 queue-start-requires c κs =

@@ -55,7 +55,7 @@ reading : (c : tie.After-routes Inv-loop2 μ-loop2 Inv-loop μ-loop Inv-search �
     → Reading (entry (c .before .before .before .before .before .before .before) .args .s) (entry (c .before .before .before .before .before .before .before) .args .words .now) (c .before .before .before .before .before .before .before .search .n) (c .before .before .before .before .before .loop .q) (c .before .before .before .before .before .loop .start) (c .routes .result)
 reading c =
     let f = c .before .before .before .before in
-    record { queue = queue-of f; at = f .before .loop .inv .place; some = c .before .before .if2 .taken; each = c .routes .ensures .0; these = c .routes .ensures .1 }
+    record { queue = queue-of f; at = f .before .loop .inv .place; some = c .before .before .if2 .taken; each = c .routes .ensures .0; these = c .routes .ensures .1 .0 }
 
 -- the two words of the queue are among those lent
 two-words : (c : tie.In-loop Inv-loop2 μ-loop2 Inv-loop μ-loop Inv-search μ-search) → c .before .loop .start + 1 < length (entry (c .before .before .before) .args .words .now)

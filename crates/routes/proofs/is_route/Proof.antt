@@ -27,7 +27,7 @@ ended : {k : ℕ} (r : List ℕ) → length r ≡ lines → k ≤ lines → line
 ended r e h l = omega arith
 
 loop-holds : tie.Need-loop-holds Inv-loop μ-loop
-loop-holds c = (omega arith, ap (elem (c .before .args .o)) (c .routes .ensures .1))
+loop-holds c = (omega arith, ap (elem (c .before .args .o)) (c .routes .ensures .1 .0))
 
 returns : tie.Need-returns Inv-loop μ-loop
 returns c =
