@@ -18,8 +18,15 @@ Inv-loop near₀ s count place₀ n₀ near place n = NearTo (shapeOf s) (direct
 abbrev μ-loop : tie.MeasureT-loop
 μ-loop near₀ s count place₀ n₀ near place n = count - n
 
+-- where the function starts, and the turn, from behind it
+abbrev start : tie.At-loop Inv-loop μ-loop → tie.Start Inv-loop μ-loop
+start c = c .before .before .before
+
+abbrev turn : tie.After-next-place Inv-loop μ-loop → tie.In-loop Inv-loop μ-loop
+turn c = c .before .before .before .before .before
+
 -- n is a node
-is-node : (c : tie.In-loop Inv-loop μ-loop) → c .before .loop .n < nodes (shapeOf (c .before .before .before .before .args .s))
+is-node : (c : tie.In-loop Inv-loop μ-loop) → c .before .loop .n < nodes (shapeOf (start (c .before) .args .s))
 is-node c = let e = c .before .before .nodes .ensures in let h = c .loop-test .taken in omega arith
 
 loop-holds : tie.Need-loop-holds Inv-loop μ-loop
@@ -37,18 +44,19 @@ next-place-requires c κs = c .before .before .before .before .before .loop .inv
 
 add-n : tie.Need-add-n Inv-loop μ-loop
 add-n c =
-    let h = is-node (c .before .before .before .before .before) in
-    let m = sizes-nodes _ (c .before .before .before .before .before .before .before .before .before .pre .0) in
+    let h = is-node (turn c) in
+    let m = sizes-nodes _ (start (turn c .before) .pre .0) in
     omega arith
 
 loop-less : tie.Need-loop-less Inv-loop μ-loop
-loop-less c = omega (arith, c .before .before .before .before .before .loop-test .taken)
+loop-less c = omega (arith, turn c .loop-test .taken)
 
 loop-again : tie.Need-loop-again Inv-loop μ-loop
 loop-again c =
-    let l = c .before .before .before .before .before .before .loop in
-    let h = is-node (c .before .before .before .before .before) in
-    (c .before .before .before .fill-node .ensures, walk-next _ _ _ _ (l .inv .1) h (c .next-place .ensures .0) (c .next-place .ensures .1), omega arith, c .before .before .before .fill-node .kept .0 ∙ l .inv .3)
+    let i = turn c .before .loop .inv in
+    let h = is-node (turn c) in
+    let f = c .before .before .before .fill-node in
+    (f .ensures, walk-next _ _ _ _ (i .1) h (c .next-place .ensures .0) (c .next-place .ensures .1), omega arith, f .kept .0 ∙ i .3)
 
 same-length : tie.Need-same-length Inv-loop μ-loop
 same-length c = c .before .loop .inv .3
@@ -58,8 +66,9 @@ returns c =
     let e = c .before .before .nodes .ensures in
     let k = c .loop-test .left in
     let l = c .before .loop .inv .2 in
-    let all : directions * c .before .loop .n ≡ directions * nodes (shapeOf (c .before .before .before .before .args .s)) = omega arith in
-    subst (λ (i : ℕ). NearTo (shapeOf (c .before .before .before .before .args .s)) i (c .before .loop .near)) all (c .before .loop .inv .0)
+    let S = shapeOf (start (c .before) .args .s) in
+    let all : directions * c .before .loop .n ≡ directions * nodes S = omega arith in
+    subst (λ (i : ℕ). NearTo S i (c .before .loop .near)) all (c .before .loop .inv .0)
 
 pub fill-spec : {M : Type 1} → statement M
 fill-spec =

@@ -20,7 +20,9 @@ cast-near c =
 returns : tie.Need-returns
 returns c =
     let a = c .before .before in
-    near-more (directions * a .args .n + a .args .d) (c .step-from .result) (a .args .d) (a .args .n) (a .pre .1) (let h = a .pre .0 .2 in let l = a .pre .0 .1 in omega arith) refl (a .pre .0 .1) (c .step-from .ensures)
+    let h = a .pre .0 .2 in
+    let l = a .pre .0 .1 in
+    near-more (directions * a .args .n + a .args .d) (c .step-from .result) (a .args .d) (a .args .n) (a .pre .1) (omega arith) refl l (c .step-from .ensures)
 
 pub fill-entry-spec : {M : Type 1} → statement M
 fill-entry-spec =
