@@ -21,36 +21,40 @@ add-end c = omega (arith, c .before .before .good)
 loop-holds : tie.Need-loop-holds Inv-loop μ-loop
 loop-holds c = walk-start _ _ _
 
+-- where the function starts
+abbrev start : tie.At-loop Inv-loop μ-loop → tie.Start Inv-loop μ-loop
+start c = c .before .before .before
+
 -- the next place is not past the end
-within : (c : tie.In-loop Inv-loop μ-loop) → c .before .loop .at + c .before .before .before .before .args .r .node ≤ c .before .before .before .before .args .first + c .before .before .before .before .args .r .step
-within c = walk-room (c .before .before .before .before .pre .rings) (c .before .loop .inv) (c .loop-test .taken)
+within : (c : tie.In-loop Inv-loop μ-loop) → c .before .loop .at + start (c .before) .args .r .node ≤ start (c .before) .args .first + start (c .before) .args .r .step
+within c = walk-room (start (c .before) .pre .rings) (c .before .loop .inv) (c .loop-test .taken)
 
 ring-room-requires : tie.Need-ring-room-requires Inv-loop μ-loop
-ring-room-requires c κs = let p = c .before .before .before .before .pre in let n = within c in rings-at p (omega (arith, p))
+ring-room-requires c κs = let p = start (c .before) .pre in let n = within c in rings-at p (omega (arith, p))
 
 returns : tie.Need-returns Inv-loop μ-loop
 unfolding groupRoom
 returns c =
-    let st = c .before .before .before .before .before .before in
+    let st = start (c .before .before .before) in
     sym
     (walk-fails (st .pre .rings) (c .before .before .before .loop .inv) (λ m. ringRoom (st .args .words .now) (st .args .r) m) (c .before .before .loop-test .taken)
     (sym (c .before .ring-room .ensures) ∙ not-true _ (c .if1 .taken)))
 
 add-at : tie.Need-add-at Inv-loop μ-loop
 add-at c =
-    let st = c .before .before .before .before .before .before in
+    let st = start (c .before .before .before) in
     let n = within (c .before .before) in
     omega (arith, st .pre, st .good)
 
 loop-less : tie.Need-loop-less Inv-loop μ-loop
-loop-less c = let s = c .before .before .before .before .before .before .pre .rings .some in omega arith
+loop-less c = let s = start (c .before .before .before) .pre .rings .some in omega arith
 
 loop-again : tie.Need-loop-again Inv-loop μ-loop
 loop-again c = walk-more (c .before .before .before .loop .inv) (sym (c .before .ring-room .ensures) ∙ not-false _ (c .if1 .left))
 
 returns-2 : tie.Need-returns-2 Inv-loop μ-loop
 unfolding groupRoom
-returns-2 c = sym (walk-all (c .before .before .before .before .pre .rings) (c .before .loop .inv) (c .loop-test .left))
+returns-2 c = sym (walk-all (start (c .before) .pre .rings) (c .before .loop .inv) (c .loop-test .left))
 
 pub group-room-spec : {M : Type 1} → statement M
 group-room-spec =
