@@ -33,7 +33,8 @@ returns : tie.Need-returns Inv-loop μ-loop
 returns c =
     let f = c .before .before .before in
     let r = f .before .before in
-    sym (elem-here (r .before .args .o) (r .routes .result) (f .before .loop .k) (within (r .routes .result) (r .routes .ensures .0) (f .loop-test .taken)) (c .before .before .if1 .taken) (sym (c .before .applies .ensures) ∙ c .if2 .taken))
+    let h = within (r .routes .result) (r .routes .ensures .0) (f .loop-test .taken) in
+    sym (elem-here (r .before .args .o) (r .routes .result) (f .before .loop .k) h (c .before .before .if1 .taken) (sym (c .before .applies .ensures) ∙ c .if2 .taken))
     ∙ f .before .loop .inv .1
 
 loop-again : tie.Need-loop-again Inv-loop μ-loop
