@@ -18,7 +18,7 @@ const PIECE: usize = 1024;
 const OUT_ROOM: usize = (PIECE + 1) * COMMAND_ROOM;
 
 // How far the sheet has come: the bytes that are pending of a line, and whether to read on.
-struct Turn {
+struct AfterRead {
     pending: usize,
     more: bool,
 }
@@ -56,14 +56,14 @@ fn read_once(
     line: &mut [u8; HELD_BYTES],
     pending: usize,
     out: &mut [u8; OUT_ROOM],
-) -> Turn
+) -> AfterRead
     ensures { λ r. ⌜ ((buffer : List ℕ) → Reached buffer (sheet (now (store .entry)) (now (line .entry)) pending) → Reached buffer (sheet (now (store .exit)) (now (line .exit)) (r .pending))) ⌝ }
 {
     let mut piece = [0u8; PIECE];
     let got = libc::read(STDIN_FILENO, &mut piece);
     if got < 0 {
         tell_unread();
-        return Turn {
+        return AfterRead {
             pending: pending,
             more: false,
         };
@@ -71,7 +71,7 @@ fn read_once(
     let n = io::count(got, &piece);
     let answered = session::answer_read(store, line, pending, &piece[..n], out);
     let written = write_first(out, answered.at);
-    Turn {
+    AfterRead {
         pending: answered.count,
         more: written && got > 0,
     }
@@ -86,9 +86,9 @@ fn main() {
     let mut more = true;
     let mut turns = u64::MAX;
     while turns > 0 && more {
-        let turn = read_once(&mut store, &mut line, pending, &mut out);
-        pending = turn.pending;
-        more = turn.more;
+        let after = read_once(&mut store, &mut line, pending, &mut out);
+        pending = after.pending;
+        more = after.more;
         turns -= 1;
     }
 }

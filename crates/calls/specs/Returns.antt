@@ -26,22 +26,22 @@ use Rattle.network.specs.RefusalLaws.{elseBy-zero, elseBy-first, neither, not-r
 use Rattle.network.specs.Calls.{NamedMove, Delivery, emptyNetwork, makeWords, afterOffer, offerWords, afterMove, moveWords, moveAnswer, creditAnswer, lookPart, firstMove, firstAnswer, drainFrom, drained, drainWords, drainLedger, drainAnswer}
 
 -- an answer, and the words that are left
-pub record Answers {A : Type 0} (answer said : A) (words left : List ℕ) : Type 0 where
+pub record AnswerAndWords {A : Type 0} (answer said : A) (words left : List ℕ) : Type 0 where
   pub says : said ≡ answer
   pub leaves : left ≡ words
 
 -- Make --------------------------------------------------------------------------------------------------------------------------------
 
-pub make-wrong-size : (S : Shape) (w : List ℕ) → sizesInRange S ≡ false → Answers (makeRefusal S w) 2 (makeWords S w) w
+pub make-wrong-size : (S : Shape) (w : List ℕ) → sizesInRange S ≡ false → AnswerAndWords (makeRefusal S w) 2 (makeWords S w) w
 unfolding makeRefusal makeWords
 make-wrong-size S w e = record { says = rw e; leaves = rw e }
 
-pub make-short : (S : Shape) (w : List ℕ) → sizesInRange S ≡ true → length w < need S → Answers (makeRefusal S w) 1 (makeWords S w) w
+pub make-short : (S : Shape) (w : List ℕ) → sizesInRange S ≡ true → length w < need S → AnswerAndWords (makeRefusal S w) 1 (makeWords S w) w
 unfolding makeRefusal makeWords
 make-short S w e l = record { says = rw (e, lt-ltb (length w) (need S) l); leaves = rw (e, lt-ltb (length w) (need S) l) }
 
 pub make-made : (S : Shape) (w : List ℕ) → sizesInRange S ≡ true → need S ≤ length w
-    → Answers (makeRefusal S w) 0 (makeWords S w) (emptyNetwork S ++ drop (need S) w)
+    → AnswerAndWords (makeRefusal S w) 0 (makeWords S w) (emptyNetwork S ++ drop (need S) w)
 unfolding makeRefusal makeWords
 make-made S w e l = record { says = rw (e, le-ltb (length w) (need S) l); leaves = rw (e, le-ltb (length w) (need S) l) }
 
@@ -51,7 +51,7 @@ after-check S w r f z e x = elseBy-zero (networkRefusal w) (f (shape w)) z ∙ a
 
 -- Offer -------------------------------------------------------------------------------------------------------------------------------
 
-pub offer-refused : (w : List ℕ) (n d t r : ℕ) → offerRefusal w n d ≡ r → r ≢ 0 → Answers (offerRefusal w n d) r (offerWords w n d t) w
+pub offer-refused : (w : List ℕ) (n d t r : ℕ) → offerRefusal w n d ≡ r → r ≢ 0 → AnswerAndWords (offerRefusal w n d) r (offerWords w n d t) w
 unfolding offerWords
 offer-refused w n d t r e ne = record { says = sym e; leaves = rw (ne-eqb (offerRefusal w n d) 0 (λ z. ne (sym e ∙ z))) }
 
@@ -64,7 +64,7 @@ unfolding offerRefusal
 offer-rules S w n d z e = after-check S w (offerRules S w n d) (λ T. offerRules T w n d) z e refl
 
 pub offer-taken : (S : Shape) (w : List ℕ) (n d t : ℕ) → networkRefusal w ≡ 0 → S ≡ shape w → offerRules S w n d ≡ 0
-    → Answers (offerRefusal w n d) 0 (offerWords w n d t) (afterOffer S w n d t)
+    → AnswerAndWords (offerRefusal w n d) 0 (offerWords w n d t) (afterOffer S w n d t)
 unfolding offerWords
 offer-taken S w n d t z e r =
     record {
@@ -82,14 +82,14 @@ pub move-rules : (S : Shape) (w : List ℕ) (n q o : ℕ) → networkRefusal w �
 unfolding moveRefusal
 move-rules S w n q o z e = after-check S w (moveRules S w n q o) (λ T. moveRules T w n q o) z e refl
 
-pub move-refused : (w : List ℕ) (n q o r : ℕ) → moveRefusal w n q o ≡ r → r ≢ 0 → Answers (moveAnswer w n q o) (Moved.Refused r) (moveWords w n q o) w
+pub move-refused : (w : List ℕ) (n q o r : ℕ) → moveRefusal w n q o ≡ r → r ≢ 0 → AnswerAndWords (moveAnswer w n q o) (Moved.Refused r) (moveWords w n q o) w
 unfolding moveAnswer moveWords
 move-refused w n q o r e ne =
     let no′ : eqb (moveRefusal w n q o) 0 ≡ false = ne-eqb (moveRefusal w n q o) 0 (λ z. ne (sym e ∙ z)) in
     record { says = rw no′ (ap Moved.Refused (sym e)); leaves = rw no′ }
 
 pub move-delivered : (S : Shape) (w : List ℕ) (n q o p : ℕ) → networkRefusal w ≡ 0 → S ≡ shape w → moveRules S w n q o ≡ 0 → o ≡ 0 → p ≡ head (held S w n q)
-    → Answers (moveAnswer w n q o) (Moved.Delivered p) (moveWords w n q o) (afterMove S w n q o)
+    → AnswerAndWords (moveAnswer w n q o) (Moved.Delivered p) (moveWords w n q o) (afterMove S w n q o)
 unfolding moveAnswer moveWords
 move-delivered S w n q o p z e r d h =
     let yes′ : eqb (moveRefusal w n q o) 0 ≡ true = eq-eqb (moveRefusal w n q o) 0 (move-rules S w n q o z e ∙ r) in
@@ -99,7 +99,7 @@ move-delivered S w n q o p z e r d h =
     }
 
 pub move-passed : (S : Shape) (w : List ℕ) (n q o : ℕ) → networkRefusal w ≡ 0 → S ≡ shape w → moveRules S w n q o ≡ 0 → o ≢ 0
-    → Answers (moveAnswer w n q o) Moved.Passed (moveWords w n q o) (afterMove S w n q o)
+    → AnswerAndWords (moveAnswer w n q o) Moved.Passed (moveWords w n q o) (afterMove S w n q o)
 unfolding moveAnswer moveWords
 move-passed S w n q o z e r ne =
     let yes′ : eqb (moveRefusal w n q o) 0 ≡ true = eq-eqb (moveRefusal w n q o) 0 (move-rules S w n q o z e ∙ r) in

@@ -1,6 +1,6 @@
 // The calls (RULES R90 to R134) on lent words. Each does its own checking: it refuses by the number of the first rule that applies, and
 // then has written nothing; else its answer and every word are what the definitions of the crate `network` say (specs/Calls.antt). Where
-// the answer is an enum, `told` is the number and every value that it stands for (specs/Returns.antt there). All tests come first, then
+// the answer is an enum, `told` is the number and every value that it stands for (specs/Answers.antt there). All tests come first, then
 // one change that cannot fail. No call asks anything of its caller.
 
 use checker::Opened;
@@ -50,11 +50,11 @@ pub fn offer(words: &mut [u64], node: u64, destination: u64, tag: u32) -> u64
 {
     let opened = checker::open(words);
     match opened {
-        Opened::Refused(broken) => broken,
+        Opened::Refused(refusal) => refusal,
         Opened::Network(s) => {
-            let turned_away = rules::offer_rules(words, s, node, destination);
-            if turned_away != 0 {
-                return turned_away;
+            let refusal = rules::offer_rules(words, s, node, destination);
+            if refusal != 0 {
+                return refusal;
             }
             changes::accept(words, s, node, destination, tag);
             0
@@ -70,11 +70,11 @@ pub fn move_packet(words: &mut [u64], node: u64, queue: u64, output: u64) -> Mov
 {
     let opened = checker::open(words);
     match opened {
-        Opened::Refused(broken) => Moved::Refused(broken),
+        Opened::Refused(refusal) => Moved::Refused(refusal),
         Opened::Network(s) => {
-            let barred = rules::move_rules(words, s, node, queue, output);
-            if barred != 0 {
-                return Moved::Refused(barred);
+            let refusal = rules::move_rules(words, s, node, queue, output);
+            if refusal != 0 {
+                return Moved::Refused(refusal);
             }
             let p = changes::make_move(words, s, node, queue, output);
             if output == DELIVER {
@@ -92,11 +92,11 @@ pub fn credit(words: &[u64], node: u64, output: u64) -> Credit
 {
     let opened = checker::open(words);
     match opened {
-        Opened::Refused(broken) => Credit::Refused(broken),
+        Opened::Refused(refusal) => Credit::Refused(refusal),
         Opened::Network(s) => {
-            let unknown = rules::credit_rules(s, node, output);
-            if unknown != 0 {
-                return Credit::Refused(unknown);
+            let refusal = rules::credit_rules(s, node, output);
+            if refusal != 0 {
+                return Credit::Refused(refusal);
             }
             Credit::Free(flow::free_slots(words, s, node, output))
         }
@@ -109,7 +109,7 @@ pub fn look_refusal(words: &[u64], node: u64, queue: u64) -> u64
 {
     let opened = checker::open(words);
     match opened {
-        Opened::Refused(broken) => broken,
+        Opened::Refused(refusal) => refusal,
         Opened::Network(s) => rules::look_rules(s, node, queue),
     }
 }
@@ -152,7 +152,7 @@ pub fn first(words: &[u64]) -> Found
 {
     let opened = checker::open(words);
     match opened {
-        Opened::Refused(broken) => Found::Refused(broken),
+        Opened::Refused(refusal) => Found::Refused(refusal),
         Opened::Network(s) => first::first_move(words, s),
     }
 }
@@ -167,7 +167,7 @@ pub fn drain(words: &mut [u64], budget: u32, ledger: &mut [u64]) -> Drained
 {
     let opened = checker::open(words);
     match opened {
-        Opened::Refused(broken) => Drained::Refused(broken),
+        Opened::Refused(refusal) => Drained::Refused(refusal),
         Opened::Network(s) => drains::drain_network(words, s, budget, ledger),
     }
 }

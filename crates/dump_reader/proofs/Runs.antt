@@ -13,7 +13,7 @@ use borrow.Author.Tests.{leb-true}
 use Rattle.base.specs.Tests.{and-l, and-r, T-true, true-T}
 use Rattle.waveform.specs.declared.ValueLine.{ValueLine}
 use Rattle.waveform.specs.Dump.{mostVariables}
-use Rattle.waveform.specs.Reading.{isValueLine, readValue, Run, oneMore, runWithin, run, neededFrom, needed, applied}
+use Rattle.waveform.specs.Reading.{isValueLine, readValue, ValueRun, oneMore, runWithin, valueRun, neededFrom, needed, applied}
 use Rattle.dump_reader.specs.Parsing.{ValueFrom, RunOf}
 use Rattle.dump_reader.proofs.Lines.{onward, onward-drop, Within, value-within}
 
@@ -21,10 +21,10 @@ use Rattle.dump_reader.proofs.Lines.{onward, onward-drop, Within, value
 abbrev rises : ℕ → List ℕ → Bool
 rises from bs = readValue bs .good && leb from (readValue bs .variable)
 
-abbrev rest : ℕ → List ℕ → Run
+abbrev rest : ℕ → List ℕ → ValueRun
 rest from bs = runWithin (length bs) from bs
 
-abbrev noRun : Run
+abbrev noRun : ValueRun
 noRun = record { changes = []; length = 0 }
 
 rises-good : (from : ℕ) (bs : List ℕ) → rises from bs ≡ true → readValue bs .good ≡ true
@@ -61,7 +61,7 @@ within-any (suc n) (suc m) from bs h k =
     line : ValueLine
     line = readValue bs
 
-    next : ℕ → Run
+    next : ℕ → ValueRun
     next lines = runWithin lines (suc (line .variable)) (drop (line .length) bs)
 
     go : (t : Bool) → rises from bs ≡ t → (length (drop (line .length) bs) ≤ n → length (drop (line .length) bs) ≤ m → next n ≡ next m)
@@ -87,7 +87,7 @@ unfolding runWithin neededFrom oneMore
 needed-grows zero from bs = omega arith
 needed-grows (suc n) from bs = go (rises from bs) refl (needed-grows n (suc (readValue bs .variable)) (drop (readValue bs .length) bs))
   where
-    next : Run
+    next : ValueRun
     next = runWithin n (suc (readValue bs .variable)) (drop (readValue bs .length) bs)
 
     go : (t : Bool) → rises from bs ≡ t → suc (readValue bs .variable) ≤ neededFrom (suc (readValue bs .variable)) (next .changes)
@@ -96,7 +96,7 @@ needed-grows (suc n) from bs = go (rises from bs) refl (needed-grows n (suc (rea
     go false e h = rw (within-stop (suc n) from bs e) (omega arith)
 
 -- a line that goes on with a run ends among the bytes, and its variable is one of those of the largest network
-pub record Goes (bs : List ℕ) (at : ℕ) (line : ValueLine) : Type 0 where
+pub record LineContinues (bs : List ℕ) (at : ℕ) (line : ValueLine) : Type 0 where
   pub within : at + line .length ≤ length bs
   pub some : 1 ≤ line .length
   pub small : line .variable < mostVariables
@@ -117,7 +117,7 @@ module _ (bs : List ℕ) (at from : ℕ) {line : ValueLine} (r : ValueFrom from 
         ∙ ap (λ s. oneMore line (rest (suc (line .variable)) s)) (drop-drop (line .length) at bs)
         ∙ ap (λ n. oneMore line (rest n (drop (at + line .length) bs))) (sym (add-one (line .variable)))
 
-    pub line-goes : at ≤ length bs → Goes bs at line
+    pub line-goes : at ≤ length bs → LineContinues bs at line
     line-goes h =
         let w : Within (drop at bs) line = rw (v .line e) (value-within (drop at bs)) in
         let d = length-drop at bs in
@@ -131,12 +131,12 @@ rest-end bs at from h = ap (rest from) (drop-of-length-le bs h)
 pub record Reading (bs : List ℕ) (at from named : ℕ) : Type 0 where
   pub within : at ≤ length bs
   pub few : named ≤ at
-  pub counted : length (run bs .changes) ≡ named + length (rest from (drop at bs) .changes)
-  pub needs : needed (run bs .changes) ≡ neededFrom from (rest from (drop at bs) .changes)
-  pub bytes : run bs .length ≡ at + rest from (drop at bs) .length
+  pub counted : length (valueRun bs .changes) ≡ named + length (rest from (drop at bs) .changes)
+  pub needs : needed (valueRun bs .changes) ≡ neededFrom from (rest from (drop at bs) .changes)
+  pub bytes : valueRun bs .length ≡ at + rest from (drop at bs) .length
 
 pub reading-none : (bs : List ℕ) → Reading bs 0 0 0
-unfolding run
+unfolding valueRun
 reading-none bs = record { within = omega arith; few = omega arith; counted = omega arith; needs = refl; bytes = omega arith }
 
 module _ {bs : List ℕ} {at from named : ℕ} (p : Reading bs at from named) where
@@ -168,7 +168,7 @@ module _ {bs : List ℕ} {at from named : ℕ} (p : Reading bs at from named) wh
           counted = omega arith;
           needs =
               p .needs
-              ∙ ap (λ (r : Run). neededFrom from (r .changes)) n
+              ∙ ap (λ (r : ValueRun). neededFrom from (r .changes)) n
               ∙ ap (λ m. neededFrom m (rest (line .variable + 1) (drop (at + line .length) bs) .changes)) (sym (add-one (line .variable)));
           bytes = omega arith;
         }
@@ -177,27 +177,27 @@ module _ {bs : List ℕ} {at from named : ℕ} (p : Reading bs at from named) wh
 pub record Applying (bs list : List ℕ) (at from : ℕ) (fills : List ℕ) : Type 0 where
   pub within : at ≤ length bs
   pub same : length fills ≡ length list
-  pub left : applied (run bs .changes) list ≡ applied (rest from (drop at bs) .changes) fills
+  pub left : applied (valueRun bs .changes) list ≡ applied (rest from (drop at bs) .changes) fills
   pub room : neededFrom from (rest from (drop at bs) .changes) ≤ length fills
 
-pub applying-none : (bs list : List ℕ) → needed (run bs .changes) ≤ length list → Applying bs list 0 0 list
-unfolding run
+pub applying-none : (bs list : List ℕ) → needed (valueRun bs .changes) ≤ length list → Applying bs list 0 0 list
+unfolding valueRun
 applying-none bs list h = record { within = omega arith; same = refl; left = refl; room = h }
 
 module _ {bs list : List ℕ} {at from : ℕ} {fills : List ℕ} (p : Applying bs list at from fills) where
-  applying-done : rest from (drop at bs) ≡ noRun → fills ≡ applied (run bs .changes) list
+  applying-done : rest from (drop at bs) ≡ noRun → fills ≡ applied (valueRun bs .changes) list
   unfolding applied
-  applying-done e = sym (p .left ∙ ap (λ (r : Run). applied (r .changes) fills) e)
+  applying-done e = sym (p .left ∙ ap (λ (r : ValueRun). applied (r .changes) fills) e)
 
-  pub applying-end : length bs ≤ at → fills ≡ applied (run bs .changes) list
+  pub applying-end : length bs ≤ at → fills ≡ applied (valueRun bs .changes) list
   applying-end h = applying-done (rest-end bs at from h)
 
   module _ {line : ValueLine} (v : ValueFrom from (onward bs at) line) where
-    pub applying-stop : line .good ≡ false → fills ≡ applied (run bs .changes) list
+    pub applying-stop : line .good ≡ false → fills ≡ applied (valueRun bs .changes) list
     applying-stop e = applying-done (rest-stop bs at from v e)
 
     module _ (e : line .good ≡ true) where
-      next : Run
+      next : ValueRun
       next = rest (line .variable + 1) (drop (at + line .length) bs)
 
       next-room : neededFrom (line .variable + 1) (next .changes) ≤ length fills
@@ -222,6 +222,6 @@ module _ {bs list : List ℕ} {at from : ℕ} {fills : List ℕ} (p : Applying b
           record {
             within = omega arith;
             same = l ∙ p .same;
-            left = p .left ∙ ap (λ (r : Run). applied (r .changes) fills) (rest-next bs at from v e);
+            left = p .left ∙ ap (λ (r : ValueRun). applied (r .changes) fills) (rest-next bs at from v e);
             room = omega arith;
           }

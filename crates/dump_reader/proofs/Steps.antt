@@ -17,19 +17,19 @@ use Rattle.waveform.specs.declared.TimeStamp.{TimeStamp}
 use Rattle.waveform.specs.declared.Names.{Names}
 use Rattle.waveform.specs.declared.StepRead.{StepRead}
 use Rattle.waveform.specs.Dump.{valuesBegin, valuesEnd}
-use Rattle.waveform.specs.Reading.{startsWith, readStamp, run, needed, readNames, Step, behindNames, behindStamp, applied}
+use Rattle.waveform.specs.Reading.{startsWith, readStamp, valueRun, needed, readNames, Step, behindNames, behindStamp, applied}
 use Rattle.waveform.specs.Reading.{readLater, headerStamp, headerValues, tellsAll, readHeader, readStep}
 use Rattle.waveform.specs.StartLaws.{starts-long}
 use Rattle.waveform.specs.Calls.{readRefusal, stepTold, readAnswer, readList}
-use Rattle.waveform.specs.Answers.{ReadTells, read-tells}
-use Rattle.dump_reader.specs.declared.Run.{Run}
+use Rattle.waveform.specs.StepAnswers.{ReadTells, read-tells}
+use Rattle.dump_reader.specs.declared.ValueRun.{ValueRun}
 use Rattle.dump_reader.specs.declared.Parsed.{Parsed}
 use Rattle.dump_reader.specs.Parsing.{noStep, RunOf, ParsedOf, LaterOf, HeaderOf, StepOf}
 use Rattle.dump_reader.proofs.Lines.{onward, onward-drop, stamp-within}
 use Rattle.dump_reader.proofs.Headers.{names-within}
 
 -- values that tell every variable, test by test
-module _ (count : ℕ) (bs : List ℕ) {r : Run} (f : RunOf bs r) where
+module _ (count : ℕ) (bs : List ℕ) {r : ValueRun} (f : RunOf bs r) where
   tells-by : tellsAll count bs
       ≡ (eqb (r .named) count && (eqb (r .needed) count && (startsWith valuesEnd (drop (r .length) bs) && eqb (r .length + length valuesEnd) (length bs))))
   unfolding tellsAll
@@ -49,15 +49,15 @@ module _ (count : ℕ) (bs : List ℕ) {r : Run} (f : RunOf bs r) where
   tells-last n m e = sym (tells-by ∙ rw (eq-eqb (r .named) count n, eq-eqb (r .needed) count m, e) refl)
 
 -- so many changes, and a list as long
-tells-count : (count : ℕ) (bs : List ℕ) → tellsAll count bs ≡ true → (length (run bs .changes) ≡ count) × (needed (run bs .changes) ≡ count)
+tells-count : (count : ℕ) (bs : List ℕ) → tellsAll count bs ≡ true → (length (valueRun bs .changes) ≡ count) × (needed (valueRun bs .changes) ≡ count)
 unfolding tellsAll
 tells-count count bs e =
-    let named = eqb (length (run bs .changes)) count in
-    let long = eqb (needed (run bs .changes)) count in
-    let end = startsWith valuesEnd (drop (run bs .length) bs) && eqb (run bs .length + length valuesEnd) (length bs) in
+    let named = eqb (length (valueRun bs .changes)) count in
+    let long = eqb (needed (valueRun bs .changes)) count in
+    let end = startsWith valuesEnd (drop (valueRun bs .length) bs) && eqb (valueRun bs .length + length valuesEnd) (length bs) in
     let t = true-T (tellsAll count bs) e in (
-      eqb-true (length (run bs .changes)) count (T-true named (and-l named (long && end) t)),
-      eqb-true (needed (run bs .changes)) count (T-true long (and-l long end (and-r named (long && end) t))),
+      eqb-true (length (valueRun bs .changes)) count (T-true named (and-l named (long && end) t)),
+      eqb-true (needed (valueRun bs .changes)) count (T-true long (and-l long end (and-r named (long && end) t))),
     )
 
 pub no-step : (bs : List ℕ) (s : Step) → s .good ≡ false → ParsedOf bs s noStep
@@ -81,7 +81,7 @@ module _ (bs : List ℕ) {stamp : TimeStamp} (s : stamp ≡ readStamp bs) where
   pub later-place : stamp .length ≤ length bs
   later-place = rw s (stamp-within bs)
 
-  module _ {r : Run} (f : RunOf (onward bs (stamp .length)) r) where
+  module _ {r : ValueRun} (f : RunOf (onward bs (stamp .length)) r) where
     values-there : onward bs (stamp .length) ≡ behindStamp bs
     values-there = onward-drop bs (stamp .length) ∙ ap (λ (t : TimeStamp). drop (t .length) bs) s
 
@@ -247,13 +247,13 @@ module _ (bs list : List ℕ) {p : Parsed} (f : StepOf bs p) where
     answer-short h = refused bs list shortPage (refusal-by ∙ rw (lt-ltb (length list) (p .needed) h) refl) (λ z. omega arith)
 
     module _ (h : p .needed ≤ length list) where
-      pub values-room : needed (run (onward bs (p .values)) .changes) ≤ length list
+      pub values-room : needed (valueRun (onward bs (p .values)) .changes) ≤ length list
       values-room =
-          let e : needed (run (onward bs (p .values)) .changes) ≡ p .needed
+          let e : needed (valueRun (onward bs (p .values)) .changes) ≡ p .needed
           = ap (λ s. needed (run s .changes)) (onward-drop bs (p .values)) ∙ ap needed (f .values g) ∙ sym (f .needed g) in
           omega arith
 
-      module _ {after : List ℕ} (a : after ≡ applied (run (onward bs (p .values)) .changes) list) where
+      module _ {after : List ℕ} (a : after ≡ applied (valueRun (onward bs (p .values)) .changes) list) where
         passed : (r : StepRead) → r ≡ stepTold (readStep bs) → Answered bs list after r
         unfolding readAnswer readList
         passed r e =

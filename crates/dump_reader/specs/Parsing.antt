@@ -13,9 +13,9 @@ use Rattle.waveform.specs.declared.TimeStamp.{TimeStamp}
 use Rattle.waveform.specs.declared.ValueLine.{ValueLine}
 use Rattle.waveform.specs.declared.Names.{Names}
 use Rattle.waveform.specs.Dump.{mostVariables, variableLines}
-use Rattle.waveform.specs.Reading.{isEnded, readValue, run, needed, variablesFrom, Step, readLater, readHeader, readStep}
+use Rattle.waveform.specs.Reading.{isEnded, readValue, valueRun, needed, variablesFrom, Step, readLater, readHeader, readStep}
 use Rattle.dump_reader.specs.declared.Field.{Field}
-use Rattle.dump_reader.specs.declared.Run.{Run}
+use Rattle.dump_reader.specs.declared.ValueRun.{ValueRun}
 use Rattle.dump_reader.specs.declared.Counted.{Counted}
 use Rattle.dump_reader.specs.declared.Parsed.{Parsed}
 
@@ -50,11 +50,11 @@ pub record ValueFrom (least : ℕ) (bs : List ℕ) (r : ValueLine) : Type 0 wher
   pub good : r .good ≡ (readValue bs .good && leb least (readValue bs .variable))
   pub line : r .good ≡ true → r ≡ readValue bs
 
-pub record RunOf (bs : List ℕ) (r : Run) : Type 0 where
-  pub named : r .named ≡ length (run bs .changes)
-  pub needed : r .needed ≡ needed (run bs .changes)
+pub record RunOf (bs : List ℕ) (r : ValueRun) : Type 0 where
+  pub named : r .named ≡ length (valueRun bs .changes)
+  pub needed : r .needed ≡ needed (valueRun bs .changes)
   pub within : r .length ≤ length bs
-  pub length : r .length ≡ run bs .length
+  pub length : r .length ≡ valueRun bs .length
 
 pub record CountedOf (bs : List ℕ) (start : ℕ) (r : Counted) : Type 0 where
   pub count : r .count ≡ variablesFrom mostVariables 0 (drop start bs)

@@ -21,9 +21,9 @@ ghost use Prim.Native.Nat.{_<_, _≤_};
 ghost use lib.Dec.{eqb};
 ghost use lib.ListN.{length, getD, drop};
 ghost use Rattle.waveform.specs.Dump.{mostVariables, variableLine};
-ghost use Rattle.waveform.specs.Reading.{startsWith, readStamp, run, needed, readNames, tellsAll, applied};
+ghost use Rattle.waveform.specs.Reading.{startsWith, readStamp, valueRun, needed, readNames, tellsAll, applied};
 ghost use Rattle.waveform.specs.Calls.{readAnswer, readList};
-ghost use Rattle.waveform.specs.Answers.{ReadTells};
+ghost use Rattle.waveform.specs.StepAnswers.{ReadTells};
 ghost use Rattle.dump_reader.specs.Parsing.{noField, noStamp, noValue, noNames, noStep};
 ghost use Rattle.dump_reader.specs.Parsing.{FieldOf, ValueFrom, RunOf, CountedOf, LaterOf, HeaderOf, StepOf};
 
@@ -162,13 +162,13 @@ fn read_value(bytes: &[u8], least: usize) -> ValueLine
 }
 
 // Values one after another: how many there are, how long a list they need, and how many bytes they have.
-pub struct Run {
+pub struct ValueRun {
     pub named: usize,
     pub needed: usize,
     pub length: usize,
 }
 
-fn read_run(bytes: &[u8]) -> Run
+fn read_run(bytes: &[u8]) -> ValueRun
     ensures { λ r. ⌜ RunOf (now (bytes .entry)) r ⌝ }
 {
     let mut at = 0;
@@ -177,7 +177,7 @@ fn read_run(bytes: &[u8]) -> Run
     while at < bytes.len() {
         let line = read_value(&bytes[at..], from);
         if !line.good {
-            return Run {
+            return ValueRun {
                 named,
                 needed: from,
                 length: at,
@@ -187,7 +187,7 @@ fn read_run(bytes: &[u8]) -> Run
         from = line.variable + 1;
         named += 1;
     }
-    Run {
+    ValueRun {
         named,
         needed: from,
         length: at,
@@ -196,8 +196,8 @@ fn read_run(bytes: &[u8]) -> Run
 
 // The same values once more, put into the list, which is long enough.
 fn apply_run(bytes: &[u8], fills: &mut [u8])
-    requires { ⌜ needed (run (now bytes) .changes) ≤ length (now fills) ⌝ }
-    ensures { λ _. ⌜ now (fills .exit) ≡ applied (run (now (bytes .entry)) .changes) (now (fills .entry)) ⌝ }
+    requires { ⌜ needed (valueRun (now bytes) .changes) ≤ length (now fills) ⌝ }
+    ensures { λ _. ⌜ now (fills .exit) ≡ applied (valueRun (now (bytes .entry)) .changes) (now (fills .entry)) ⌝ }
 {
     let mut at = 0;
     let mut from = 0;

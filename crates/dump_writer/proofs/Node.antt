@@ -14,7 +14,7 @@ use Rattle.network.specs.CheckLaws.{Network}
 use Rattle.base.specs.Sums.{sumBelow}
 use Rattle.waveform.specs.Dump.{variablesOf, fills}
 use Rattle.waveform.specs.DumpLaws.{held-word}
-use Rattle.dump_writer.specs.Writing.{Filled, FillsAdded, filled-none, filled-length, filled-more, filled-all}
+use Rattle.dump_writer.specs.Writing.{FirstFills, FillsAdded, filled-none, filled-length, filled-more, filled-all}
 
 -- where the number held of a queue stands, and that it is small
 pub record CountAt (S : Shape) (w : List ℕ) (n q at : ℕ) : Type 0 where
@@ -37,12 +37,12 @@ pub record NodeRead (S : Shape) (w : List ℕ) (n : ℕ) (before counts : List �
   pub within : q ≤ queues
   pub place : at ≡ queueStart S n q
   pub same : length counts ≡ length before
-  pub added : (lent : List ℕ) → Filled S w (n * queues) lent before → Filled S w (n * queues + q) lent counts
+  pub added : (lent : List ℕ) → FirstFills S w (n * queues) lent before → FirstFills S w (n * queues + q) lent counts
 
 pub node-none : (S : Shape) (w : List ℕ) (n : ℕ) (counts : List ℕ) (at : ℕ) → at ≡ queueStart S n 0 → NodeRead S w n counts counts at 0
 node-none S w n counts at e =
     let z : n * queues ≡ n * queues + 0 = omega arith in
-    record { within = omega arith; place = e; same = refl; added = λ lent f. subst (λ k. Filled S w k lent counts) z f }
+    record { within = omega arith; place = e; same = refl; added = λ lent f. subst (λ k. FirstFills S w k lent counts) z f }
 
 module _ {S : Shape} {w : List ℕ} {n : ℕ} {before counts : List ℕ} {at q : ℕ} (r : NodeRead S w n before counts at q)
     (k : Network S w) (hn : n < nodes S) (all : length before ≡ variablesOf S) where
@@ -70,7 +70,7 @@ module _ {S : Shape} {w : List ℕ} {n : ℕ} {before counts : List ℕ} {at q :
             let g = r .added lent f in
             let l = filled-length g in
             let t = r .same in
-            subst (λ j. Filled S w j lent (set counts (n * queues + q) (getD w at 0))) o
+            subst (λ j. FirstFills S w j lent (set counts (n * queues + q) (getD w at 0))) o
             (filled-more g (omega arith) (getD w at 0) (node-count hq .word ∙ ap₂ (λ a b. length (held S w a b)) (sym d) (sym m)));
       }
 
@@ -78,13 +78,13 @@ module _ {S : Shape} {w : List ℕ} {n : ℕ} {before counts : List ℕ} {at q :
   node-all h lent f =
       let b = r .within in
       let e : q ≡ queues = omega arith in
-      subst (λ j. Filled S w (n * queues + j) lent counts) e (r .added lent f)
+      subst (λ j. FirstFills S w (n * queues + j) lent counts) e (r .added lent f)
 
 -- the nodes before node n have been read
 pub record NodesRead (S : Shape) (w lent counts : List ℕ) (start n : ℕ) : Type 0 where
   pub within : n ≤ nodes S
   pub place : start ≡ headerWords + n * nodeWords S
-  pub filled : Filled S w (n * queues) lent counts
+  pub filled : FirstFills S w (n * queues) lent counts
 
 pub nodes-none : (S : Shape) (w lent : List ℕ) → NodesRead S w lent lent headerWords 0
 nodes-none S w lent = record { within = omega arith; place = omega arith; filled = filled-none S w lent }
@@ -109,7 +109,7 @@ module _ {S : Shape} {w lent counts : List ℕ} {start n : ℕ} (r : NodesRead S
       let p = r .place in
       let e : n * queues + queues ≡ (n + 1) * queues = omega arith in
       let m : (n + 1) * nodeWords S ≡ n * nodeWords S + nodeWords S = ap (λ k. k * nodeWords S) (add-one n) ∙ suc-mul n (nodeWords S) in
-      record { within = omega arith; place = omega arith; filled = subst (λ j. Filled S w j lent after) e (f lent (r .filled)) }
+      record { within = omega arith; place = omega arith; filled = subst (λ j. FirstFills S w j lent after) e (f lent (r .filled)) }
 
   pub nodes-all : nodes S ≤ n → length lent ≡ variablesOf S → counts ≡ fills S w
   nodes-all h l =

@@ -21,19 +21,19 @@ use Rattle.waveform.specs.DumpLaws.{fillsTo-length, fills-length}
 use Rattle.waveform.specs.Calls.{fillsNow, writtenStep, writeRules, writeRefusal, writeAnswer, writePage, writeList}
 
 -- the fills of the first i queues stand in a list that was lent
-pub record Filled (S : Shape) (w : List ℕ) (i : ℕ) (lent counts : List ℕ) : Type 0 where
+pub record FirstFills (S : Shape) (w : List ℕ) (i : ℕ) (lent counts : List ℕ) : Type 0 where
   pub within : i ≤ length lent
   pub same : counts ≡ fillsTo S w i ++ drop i lent
 
 -- those of node n come to those of the nodes before it
 abbrev pub FillsAdded : Shape → List ℕ → ℕ → List ℕ → List ℕ → Type 0
-FillsAdded S w n before after = (lent : List ℕ) → Filled S w (n * queues) lent before → Filled S w (n * queues + queues) lent after
+FillsAdded S w n before after = (lent : List ℕ) → FirstFills S w (n * queues) lent before → FirstFills S w (n * queues + queues) lent after
 
-pub filled-none : (S : Shape) (w lent : List ℕ) → Filled S w 0 lent lent
+pub filled-none : (S : Shape) (w lent : List ℕ) → FirstFills S w 0 lent lent
 unfolding fillsTo
 filled-none S w lent = record { within = omega arith; same = refl }
 
-module _ {S : Shape} {w : List ℕ} {i : ℕ} {lent counts : List ℕ} (f : Filled S w i lent counts) where
+module _ {S : Shape} {w : List ℕ} {i : ℕ} {lent counts : List ℕ} (f : FirstFills S w i lent counts) where
   pub filled-length : length counts ≡ length lent
   filled-length =
       let a = ap length (f .same) ∙ length-append (fillsTo S w i) (drop i lent) in
@@ -42,7 +42,7 @@ module _ {S : Shape} {w : List ℕ} {i : ℕ} {lent counts : List ℕ} (f : Fill
       let b = f .within in
       omega arith
 
-  pub filled-more : i < length lent → (v : ℕ) → v ≡ length (held S w (i / queues) (i % queues)) → Filled S w (i + 1) lent (set counts i v)
+  pub filled-more : i < length lent → (v : ℕ) → v ≡ length (held S w (i / queues) (i % queues)) → FirstFills S w (i + 1) lent (set counts i v)
   unfolding fillsTo
   filled-more h v e =
       let n : suc i ≡ i + 1 = omega arith in

@@ -28,7 +28,7 @@ ghost use Rattle.network.specs.CheckLaws.{Network};
 ghost use Rattle.sheet.specs.Output.{Room, Put};
 ghost use Rattle.waveform.specs.Dump.{variablesOf, mostVariables, fills as fillsOf, variableLines, valueLines, changes, stepBytes};
 ghost use Rattle.waveform.specs.Calls.{writeAnswer, writePage, writeList};
-ghost use Rattle.waveform.specs.Answers.{WriteTells};
+ghost use Rattle.waveform.specs.StepAnswers.{WriteTells};
 ghost use Rattle.dump_writer.specs.Writing.{FillsAdded, countsAnswer, countsPage, countsList};
 
 // The fixed bytes of a header.

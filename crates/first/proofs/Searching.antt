@@ -30,7 +30,7 @@ use Rattle.network.specs.Calls.{firstOutput, firstInQueue, orElse, search, firs
 use Rattle.network.specs.FirstLaws.{Finds, nothing, named, first-finds}
 use Rattle.network.specs.declared.Sizes.{Sizes}
 use Rattle.queue.specs.QueueLaws.{checked-fits}
-use Rattle.routes.specs.Lines.{lines, applies, outputsFrom}
+use Rattle.routes.specs.Lines.{selectionLines, applies, outputsFrom}
 use Rattle.routes.specs.LinesLaws.{line-taken, line-passed, lines-end, line-member}
 use Rattle.queue.specs.QueueOf.{QueueOf}
 use Rattle.queue.specs.HeldWords.{queue-checked, count-read, head-read}
@@ -113,7 +113,7 @@ pub record Reading (s : Sizes) (w : List ℕ) (n q start : ℕ) (r : List ℕ) :
   pub queue : QueueOf (shapeOf s) w n q
   pub at : start ≡ queueStart (shapeOf s) n q
   pub some : getD w start 0 ≢ 0
-  pub each : length r ≡ lines
+  pub each : length r ≡ selectionLines
   pub these : outputsFrom 0 r ≡ routes q (getD w (start + 1) 0)
 
 -- what First finds by line j and those behind it is what it finds
@@ -131,13 +131,13 @@ module _ {s : Sizes} {w : List ℕ} {n q start : ℕ} {r : List ℕ} (k : Readin
   lines-are : outputsFrom 0 r ≡ routes q (head (held (shapeOf s) w n q))
   lines-are = k .these ∙ ap (routes q) the-head
 
-  among : (j : ℕ) → j < lines → j < length r
+  among : (j : ℕ) → j < selectionLines → j < length r
   among j h = let e = k .each in omega arith
 
-  is-route : (j : ℕ) → j < lines → applies j (getD r j 0) ≡ true → T (elem (getD r j 0) (routes q (head (held (shapeOf s) w n q))))
+  is-route : (j : ℕ) → j < selectionLines → applies j (getD r j 0) ≡ true → T (elem (getD r j 0) (routes q (head (held (shapeOf s) w n q))))
   is-route j h a = subst (λ (os : List ℕ). T (elem (getD r j 0) os)) lines-are (line-member r j (among j h) a)
 
-  pub output-lt : (j : ℕ) → j < lines → applies j (getD r j 0) ≡ true → getD r j 0 < queues
+  pub output-lt : (j : ℕ) → j < selectionLines → applies j (getD r j 0) ≡ true → getD r j 0 < queues
   output-lt j h a = route-lt q (head (held (shapeOf s) w n q)) (getD r j 0) (is-route j h a)
 
   -- before the first line
@@ -147,10 +147,10 @@ module _ {s : Sizes} {w : List ℕ} {n q start : ℕ} {r : List ℕ} (k : Readin
 
   -- the next line, where this one gives nothing or the flow rule refuses what it gives; the move, where it lets it pass; and nothing, where no
   -- line is left
-  pub line-none : (j : ℕ) → j < lines → applies j (getD r j 0) ≡ false → FoundFrom s w n q r j → FoundFrom s w n q r (j + 1)
+  pub line-none : (j : ℕ) → j < selectionLines → applies j (getD r j 0) ≡ false → FoundFrom s w n q r j → FoundFrom s w n q r (j + 1)
   line-none j h a inv = ap (firstOutput (shapeOf s) w n q) (sym (line-passed r j (among j h) a)) ∙ inv
 
-  pub line-refused : (j : ℕ) → j < lines → applies j (getD r j 0) ≡ true → flowRules (shapeOf s) w n q (getD r j 0) (getD w (start + 1) 0) ≢ 0 → FoundFrom s w n q r j
+  pub line-refused : (j : ℕ) → j < selectionLines → applies j (getD r j 0) ≡ true → flowRules (shapeOf s) w n q (getD r j 0) (getD w (start + 1) 0) ≢ 0 → FoundFrom s w n q r j
       → FoundFrom s w n q r (j + 1)
   line-refused j h a ne inv =
       sym
@@ -158,7 +158,7 @@ module _ {s : Sizes} {w : List ℕ} {n q start : ℕ} {r : List ℕ} (k : Readin
       ∙ output-on (shapeOf s) w n q (getD r j 0) (outputsFrom (j + 1) (drop (j + 1) r)) (flow-refuses (shapeOf s) w n q (getD r j 0) (λ z. ne (ap (flowRules (shapeOf s) w n q (getD r j 0)) the-head ∙ z))))
       ∙ inv
 
-  pub line-found : (j : ℕ) → j < lines → applies j (getD r j 0) ≡ true → flowRules (shapeOf s) w n q (getD r j 0) (getD w (start + 1) 0) ≡ 0 → FoundFrom s w n q r j
+  pub line-found : (j : ℕ) → j < selectionLines → applies j (getD r j 0) ≡ true → flowRules (shapeOf s) w n q (getD r j 0) (getD w (start + 1) 0) ≡ 0 → FoundFrom s w n q r j
       → firstInQueue (shapeOf s) w n q ≡ Found.Move n q (getD r j 0)
   line-found j h a e inv =
       sym inv
@@ -167,7 +167,7 @@ module _ {s : Sizes} {w : List ℕ} {n q start : ℕ} {r : List ℕ} (k : Readin
       (flow-passes (shapeOf s) w n q (getD r j 0) (k .queue .node) (k .queue .queue) holds (is-route j h a)
       (ap (flowRules (shapeOf s) w n q (getD r j 0)) (sym the-head) ∙ e))
 
-  pub lines-none : (j : ℕ) → j ≤ lines → lines ≤ j → FoundFrom s w n q r j → firstInQueue (shapeOf s) w n q ≡ Found.Nothing
+  pub lines-none : (j : ℕ) → j ≤ selectionLines → selectionLines ≤ j → FoundFrom s w n q r j → firstInQueue (shapeOf s) w n q ≡ Found.Nothing
   lines-none j h l inv =
       sym inv
       ∙ ap (firstOutput (shapeOf s) w n q) (lines-end r j (let e = k .each in omega arith))
@@ -191,7 +191,7 @@ queue-none s w n q start k at z = empty (shapeOf s) w n q (sym (count-read s w n
 
 -- what is left of the lines is found
 pub record AtLine (s : Sizes) (w : List ℕ) (n q : ℕ) (r : List ℕ) (j : ℕ) : Type 0 where
-  pub within : j ≤ lines
+  pub within : j ≤ selectionLines
   pub left : FoundFrom s w n q r j
 
 -- nothing was found yet, and what is left is found: of a node's queues, of the nodes

@@ -18,7 +18,7 @@ use lib.Pow.{pow-pos, shl-exact}
 use lib.Seq.{getD-set-same, getD-set-other}
 use Rattle.network.specs.Sizes.{queues}
 use Rattle.base.specs.Bits.{bit, bit-none, bit-or, bit-ones, bit-one, one-bit, one-exact, shifted-below, shifted-from}
-use Rattle.headset.specs.Set.{nodeHeads, heads, firstWord, firstHead, setWords, wordNodes, nodeBits, bitOf, member, IsSet, Replaced, put, BitPut, Filled, United, Inserted, NodeInserted, Removed, LowestBit, Lowest}
+use Rattle.headset.specs.Set.{nodeHeads, heads, firstWord, firstHead, setWords, wordNodes, nodeBits, bitOf, member, IsSet, Replaced, put, BitPut, HeadsBelow, United, Inserted, NodeInserted, Removed, LowestBit, LowestMember}
 use Rattle.headset.proofs.WordBits.{bit-put}
 
 -- A word replaced, a bit set or cleared --------------------------------------------------------------------------------------------------
@@ -132,7 +132,7 @@ late-above s a w old k b late e h say r =
         ∙ ap (λ (x : Bool). cond x b (bitOf s m)) (ne-eqb m k z)
         ∙ late .others m l (λ y. z (omega (arith, e, y)))
 
--- a set again: no bit speaks of word 0, and what is said of a word that was not 0 is so while it is not 0
+-- a set again: word 0 has no bit in the index, and what is said of a word that was not 0 is so while it is not 0
 late-top : (s : List ℕ) (w old : ℕ) → Late s w old → w ≡ 0 → IsSet s
 late-top s w old late e = record { words = late .words; tells = λ k l. late .others k l (λ z. omega arith) }
 
@@ -258,7 +258,7 @@ module _ (s a : List ℕ) (h : ℕ) (i : IsSet s) (l : h < heads) (ra : BitPut s
       let is = eqb-false _ _ some in
       record { set = late-same a _ _ late-word (cleared-some s a (firstHead + h) ra is) is; members = removed-members }
 
-  -- it is 0 now; b is a with the bit cleared that speaks of it
+  -- it is 0 now; b is a with its bit in the index cleared
   module _ (b : List ℕ) (none : eqb (getD a ((firstHead + h) / 64) 0) 0 ≡ true) (rb : BitPut a b (64 + h / 64) false) where
     late-part : Late b ((64 + h / 64) / 64) (getD a ((64 + h / 64) / 64) 0)
     late-part = late-above a b _ _ (64 + h / 64) false late-word (omega arith) (omega arith) (sym (ap not none)) rb
@@ -266,13 +266,13 @@ module _ (s a : List ℕ) (h : ℕ) (i : IsSet s) (l : h < heads) (ra : BitPut s
     part-members : (m : ℕ) → member b m ≡ (not (eqb m h) && member s m)
     part-members m = same-members a b (64 + h / 64) m false (omega arith) rb ∙ removed-members m
 
-    -- the word of that bit still speaks of one
+    -- the word of that bit still has one set
     pub removed-two : eqb (getD b ((64 + h / 64) / 64) 0) 0 ≡ false → Removed s b h
     removed-two some =
         let is = eqb-false _ _ some in
         record { set = late-same b _ _ late-part (cleared-some a b (64 + h / 64) rb is) is; members = part-members }
 
-    -- it too is 0 now; c is b with the bit of word 0 cleared that speaks of it
+    -- it too is 0 now; c is b with its bit of word 0 cleared
     pub removed-three : (c : List ℕ) → eqb (getD b ((64 + h / 64) / 64) 0) 0 ≡ true → BitPut b c (h / 64 / 64) false → Removed s c h
     removed-three c none-above rc =
         record {
@@ -295,7 +295,7 @@ zeros-bit : (n k : ℕ) → bitOf (zeros n) k ≡ false
 unfolding bitOf
 zeros-bit n k = ap (λ (x : ℕ). bit x (k % 64)) (zeros-word n (k / 64)) ∙ bit-none (k % 64)
 
-pub filled-none : (s : List ℕ) → s ≡ zeros setWords → Filled s 0
+pub filled-none : (s : List ℕ) → s ≡ zeros setWords → HeadsBelow s 0
 unfolding member
 filled-none s e =
     rw e (record {
@@ -316,7 +316,7 @@ one-more x n b = sym (and-or-distrib-right (eqb x n) (ltb x n) b) ∙ ap (λ (c 
     go (no y) (yes z) = ap₂ _||_ (ne-eqb x n y) (lt-ltb x n z) ∙ sym (lt-ltb x (n + 1) (omega arith))
     go (no y) (no z) = ap₂ _||_ (ne-eqb x n y) (le-ltb x n (omega arith)) ∙ sym (le-ltb x (n + 1) (omega arith))
 
-pub filled-more : (before after : List ℕ) (n : ℕ) → Filled before n → NodeInserted before after n → Filled after (n + 1)
+pub filled-more : (before after : List ℕ) (n : ℕ) → HeadsBelow before n → NodeInserted before after n → HeadsBelow after (n + 1)
 filled-more before after n f i =
     record {
       set = i .set;
@@ -351,11 +351,11 @@ bit-at : (s : List ℕ) (k i j : ℕ) → k / 64 ≡ i → k % 64 ≡ j → bitO
 unfolding bitOf
 bit-at s k i j e f = ap₂ (λ (x y : ℕ). bit (getD s x 0) y) e f
 
--- a bit that is set speaks of a word in which one is set
+-- a bit of the index that is set belongs to a word in which one is set
 lowest-small : (s : List ℕ) (from b w t : ℕ) → IsSet s → LowestFrom s from b → from + b < firstHead → w ≡ 1 + (from + b) → LowestBit (getD s w 0) t → t < 64
 lowest-small s from b w t i first h e l = l .some (λ z. used-word s (from + b) i h (first .found) (ap (λ (x : ℕ). getD s x 0) (sym e) ∙ z))
 
--- one level down: bit k from `from` on speaks of the bits 64 * k to 64 * k + 63 from 64 * (1 + from) on
+-- one level down: bit k from `from` on is the index of the bits 64 * k to 64 * k + 63 from 64 * (1 + from) on
 none-below : (s : List ℕ) (from n : ℕ) → IsSet s → from + n ≤ firstHead → ((k : ℕ) → k < n → bitOf s (from + k) ≡ false)
     → (m : ℕ) → m < 64 * n → bitOf s (64 * (1 + from) + m) ≡ false
 none-below s from n i h none m l =
@@ -381,7 +381,7 @@ lowest-below s from b w t i first h e l =
 top-bit : (s : List ℕ) (k : ℕ) → k < 64 → bitOf s (0 + k) ≡ bit (getD s 0 0) k
 top-bit s k l = bit-at s (0 + k) 0 k (omega arith) (omega arith)
 
-pub lowest-empty : (s : List ℕ) → IsSet s → getD s 0 0 ≡ 0 → Lowest s heads
+pub lowest-empty : (s : List ℕ) → IsSet s → getD s 0 0 ≡ 0 → LowestMember s heads
 unfolding member
 lowest-empty s i e =
     record {
@@ -391,7 +391,7 @@ lowest-empty s i e =
       found = λ l. absurd (let z : ⊥ = omega arith in z);
     }
 
--- i is the lowest bit of word 0, t that of the word of which i speaks, and u that of the word of heads of which t speaks
+-- i is the lowest bit of word 0, t that of the word whose bit i is, and u that of the word of heads whose bit t is
 lowest-first : (s : List ℕ) (i : ℕ) → i < 64 → LowestBit (getD s 0 0) i → LowestFrom s 0 i
 lowest-first s i h l = record { below = λ m b. top-bit s m (omega arith) ∙ l .below m b; found = top-bit s i h ∙ l .found h }
 
@@ -405,7 +405,7 @@ lowest-there s i t k h first l =
     omega arith
 
 pub lowest-at : (s : List ℕ) (i t u : ℕ) → IsSet s → i < 64 → LowestBit (getD s 0 0) i → LowestBit (getD s (1 + i) 0) t
-    → LowestBit (getD s (firstWord + (64 * i + t)) 0) u → Lowest s (64 * (64 * i + t) + u)
+    → LowestBit (getD s (firstWord + (64 * i + t)) 0) u → LowestMember s (64 * (64 * i + t) + u)
 unfolding member
 lowest-at s i t u k h first second l =
     let words = k .words in
@@ -420,8 +420,8 @@ lowest-at s i t u k h first second l =
 -- The lowest one out ------------------------------------------------------------------------------------------------------------------
 
 -- below the lowest there was no member, and it is out itself: the next one is at the lowest bit of the same word, if that has one left
-pub lowest-next : (s a : List ℕ) (h u : ℕ) → Lowest s h → h < heads → Removed s a h → LowestBit (getD a (firstWord + h / 64) 0) u → u < 64
-    → Lowest a (64 * (h / 64) + u)
+pub lowest-next : (s a : List ℕ) (h u : ℕ) → LowestMember s h → h < heads → Removed s a h → LowestBit (getD a (firstWord + h / 64) 0) u → u < 64
+    → LowestMember a (64 * (h / 64) + u)
 unfolding member
 lowest-next s a h u l small r b few =
     record {

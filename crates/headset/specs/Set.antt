@@ -19,7 +19,7 @@ nodeHeads = 16
 abbrev pub heads : ℕ
 heads = nodeHeads * mostNodes
 
--- the words that speak of others, word 0 of the next 64 and these of the words of the heads; the first bit behind them; and all words
+-- the words of the index, word 0 of the next 64 and these of the words of the heads; the first bit behind them; and all words
 abbrev pub firstWord : ℕ
 firstWord = 1 + 64
 
@@ -63,7 +63,7 @@ abbrev pub BitPut : List ℕ → List ℕ → ℕ → Bool → Type 0
 BitPut before after k b = Replaced before after (k / 64) (put (getD before (k / 64) 0) (k % 64) b)
 
 -- the set of the heads of the nodes below count
-pub record Filled (after : List ℕ) (count : ℕ) : Type 0 where
+pub record HeadsBelow (after : List ℕ) (count : ℕ) : Type 0 where
   pub set : IsSet after
   pub members : (m : ℕ) → member after m ≡ (ltb (m / nodeHeads) count && ltb (m % nodeHeads) queues)
 
@@ -88,7 +88,7 @@ pub record Removed (before after : List ℕ) (h : ℕ) : Type 0 where
   pub members : (m : ℕ) → member after m ≡ (not (eqb m h) && member before m)
 
 -- r is the lowest member, or `heads` where there is none
-pub record Lowest (set : List ℕ) (r : ℕ) : Type 0 where
+pub record LowestMember (set : List ℕ) (r : ℕ) : Type 0 where
   pub most : r ≤ heads
   pub below : (m : ℕ) → m < r → member set m ≡ false
   pub found : r < heads → member set r ≡ true

@@ -9,7 +9,7 @@ use native.Mathlib.Omega.{arith}
 use lib.Dec.{eqb}
 use lib.ListN.{List·getD-eq-default}
 use Rattle.base.specs.Bits.{bit}
-use Rattle.headset.specs.Set.{heads, firstHead, bitOf, member, IsSet, Lowest}
+use Rattle.headset.specs.Set.{heads, firstHead, bitOf, member, IsSet, LowestMember}
 
 pub none-beyond : (set : List ℕ) → IsSet set → (m : ℕ) → heads ≤ m → member set m ≡ false
 unfolding member bitOf bit
@@ -19,7 +19,7 @@ none-beyond set k m h =
     ∙ ap (λ (x : ℕ). eqb (x % 2) 1) (zero-div (2 ^ ((firstHead + m) % 64)))
 
 -- `heads`: the set is empty
-pub lowest-none : (set : List ℕ) → IsSet set → Lowest set heads → (m : ℕ) → member set m ≡ false
+pub lowest-none : (set : List ℕ) → IsSet set → LowestMember set heads → (m : ℕ) → member set m ≡ false
 lowest-none set k l m = go (decLt m heads)
   where
     go : Dec (m < heads) → member set m ≡ false

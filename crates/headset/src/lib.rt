@@ -1,7 +1,7 @@
 // A set of heads of queues as the bits of SET_WORDS lent words. The head of queue q of node n is number NODE_HEADS * n + q.
-// Bit k of the words is bit k % 64 of word k / 64. The first FIRST_WORD words speak of others: bit k says that word 1 + k is not 0. So word 0
-// speaks of words 1 to 64, and these of the words behind them, which hold the heads: head h is bit FIRST_HEAD + h. The lowest head is found with
-// three counts of trailing zeros. Order: all heads of the nodes below a number; one head in, the heads of one node in, one head out; the lowest
+// Bit k of the words is bit k % 64 of word k / 64. The first FIRST_WORD words are an index: bit k says that word 1 + k is not 0. So word 0
+// is the index of words 1 to 64, and these of the words behind them, which hold the heads: head h is bit FIRST_HEAD + h. The lowest head is found
+// with three counts of trailing zeros. Order: all heads of the nodes below a number; one head in, the heads of one node in, one head out; the lowest
 // head, and the lowest one out; one bit.
 use network::MOST_NODES;
 use network::QUEUES;
@@ -11,15 +11,15 @@ ghost use Prim.Native.Nat.{_<_, _≤_, _/_};
 ghost use lib.Dec.{eqb};
 ghost use lib.ListN.{length, getD, replicate};
 ghost use Rattle.network.specs.Sizes.{mostNodes};
-ghost use Rattle.headset.specs.Set.{heads, setWords, IsSet, BitPut, Filled, United, Inserted, NodeInserted, Removed, LowestBit, Lowest};
+ghost use Rattle.headset.specs.Set.{heads, setWords, IsSet, BitPut, HeadsBelow, United, Inserted, NodeInserted, Removed, LowestBit, LowestMember};
 
 // The numbers that a node has for the heads of its queues, and the numbers of the heads of all nodes.
 pub const NODE_HEADS: u64 = 16;
 
 pub const HEADS: u64 = NODE_HEADS * MOST_NODES;
 
-// The words that speak of others: word 0, and one for each of its bits. Those that have no words to speak of are always 0, so that one rule
-// tells, for both levels, which bit speaks of which word. The first bit behind them, and all words.
+// The words of the index: word 0, and one for each of its bits. Those that have no words to index are always 0, so that one rule tells, for
+// both levels, which bit belongs to which word. The first bit behind them, and all words.
 const WORD_BITS: u64 = 64;
 
 const FIRST_WORD: u64 = 1 + WORD_BITS;
@@ -37,7 +37,7 @@ const NODE_BITS: u64 = (1 << QUEUES) - 1;
 pub fn fill(set: &mut [u64], count: u64)
     requires { ⌜ now set ≡ replicate setWords 0 ⌝ }
     requires { ⌜ count ≤ mostNodes ⌝ }
-    ensures { λ _. ⌜ Filled (now (set .exit)) count ⌝ }
+    ensures { λ _. ⌜ HeadsBelow (now (set .exit)) count ⌝ }
 {
     let mut n = 0;
     while n < count {
@@ -66,8 +66,8 @@ pub fn insert_node(set: &mut [u64], n: u64)
     unite(set, n / WORD_NODES, heads);
 }
 
-// The heads whose bits are given, of which there is one at least, become members in word FIRST_WORD + i. Bit WORD_BITS + i speaks of it, and bit
-// i / WORD_BITS of the word of that bit.
+// The heads whose bits are given, of which there is one at least, become members in word FIRST_WORD + i. Its bit in the index is WORD_BITS + i, and that of
+// the word of that bit i / WORD_BITS.
 fn unite(set: &mut [u64], i: u64, bits: u64)
     requires { ⌜ IsSet (now set) ⌝ }
     requires { ⌜ i < heads / 64 ⌝ }
@@ -81,7 +81,7 @@ fn unite(set: &mut [u64], i: u64, bits: u64)
     set_bit(set, i / WORD_BITS);
 }
 
-// Head h is a member no longer. Where its word is 0 now, the bit that speaks of the word is cleared too, and so on upwards.
+// Head h is a member no longer. Where its word is 0 now, its bit in the index is cleared too, and so on upwards.
 fn remove(set: &mut [u64], h: u64)
     requires { ⌜ IsSet (now set) ⌝ }
     requires { ⌜ h < heads ⌝ }
@@ -100,7 +100,7 @@ fn remove(set: &mut [u64], h: u64)
 // The lowest member, or HEADS where there is none. Word 1 + i is the lowest of words 1 to 64 that is not 0, word FIRST_WORD + j of those of the heads.
 pub fn lowest(set: &[u64]) -> u64
     requires { ⌜ IsSet (now set) ⌝ }
-    ensures { λ r. ⌜ Lowest (now (set .entry)) r ⌝ }
+    ensures { λ r. ⌜ LowestMember (now (set .entry)) r ⌝ }
 {
     let top = set[0];
     if top == 0 {
@@ -115,9 +115,9 @@ pub fn lowest(set: &[u64]) -> u64
 pub fn remove_lowest(set: &mut [u64], h: u64) -> u64
     requires { ⌜ IsSet (now set) ⌝ }
     requires { ⌜ h < heads ⌝ }
-    requires { ⌜ Lowest (now set) h ⌝ }
+    requires { ⌜ LowestMember (now set) h ⌝ }
     ensures set { λ _. ⌜ Removed (now (set .entry)) (now (set .exit)) h ⌝ }
-    ensures lowest { λ r. ⌜ Lowest (now (set .exit)) r ⌝ }
+    ensures lowest { λ r. ⌜ LowestMember (now (set .exit)) r ⌝ }
 {
     remove(set, h);
     let i = h / WORD_BITS;

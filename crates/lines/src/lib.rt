@@ -6,7 +6,7 @@ use sheet::Pending;
 ghost use mathlib.Core.Path.{_≡_};
 ghost use Prim.Native.Nat.{_≤_};
 ghost use lib.ListN.{length};
-ghost use Rattle.sheet.specs.Cutting.{heldBytes, endedAnswer, Took, finishedAnswer};
+ghost use Rattle.sheet.specs.Cutting.{heldBytes, endedAnswer, ByteFed, finishedAnswer};
 
 // The bytes that a line may have without its end.
 pub const LINE_LIMIT: usize = 64;
@@ -38,7 +38,7 @@ fn ended(buf: &[u8], count: usize) -> Fed
 // One byte more. After the end of a line nothing is pending.
 pub fn feed(buf: &mut [u8], pending: Pending, b: u8) -> Fed
     requires { ⌜ heldBytes ≤ length (now buf) ⌝ }
-    ensures { λ r. ⌜ Took (now (buf .entry)) (pending .count) b (now (buf .exit)) r ⌝ }
+    ensures { λ r. ⌜ ByteFed (now (buf .entry)) (pending .count) b (now (buf .exit)) r ⌝ }
 {
     let count = pending.count;
     if b == b'\n' {

@@ -1,5 +1,5 @@
 -- What each helper of Run.antt states, said without it, in the lists of InLists.antt. Order: a label counted; all that is held; what was handed out; a packet at
--- home; moves that lead from words to words; some move; ledgers. Assumes nothing.
+-- at-destination; moves that lead from words to words; some move; ledgers. Assumes nothing.
 use mathlib.Core.Path.{_≡_, refl, ap, sym, _∙_, fun-ext}
 use mathlib.Core.Logic.{_↔_}
 use mathlib.Core.Bool.{Bool, cond, _&&_}
@@ -24,7 +24,7 @@ use Rattle.network.specs.Refusals.{moveRefusal}
 use Rattle.network.specs.Calls.{NamedMove, Delivery, moveWords, moveAnswer, movedNumber}
 use Rattle.network.specs.Answers.{move-tells}
 use Rattle.network.specs.Choices.{Permits}
-use Rattle.network.specs.Run.{move, Ledger, outcome, run, Leads, isLabelled, heldWith, handedWith, atHome, SomeMove, LedgerKept, AllKept}
+use Rattle.network.specs.Run.{move, Ledger, outcome, run, Leads, isLabelled, heldWith, handedWith, atDestination, SomeMove, LedgerKept, AllKept}
 use Rattle.network.specs.InLists.{allHeld, wordsOf, nodesOf, asMoves, Answered, LedgersKept}
 
 -- A label counted -------------------------------------------------------------------------------------------------------------------------
@@ -81,7 +81,7 @@ handed-with-is l ds =
     ∙ sym (sumOf-map (λ x. oneIf (ℕ-discrete l x)) label (wordsOf ds))
     ∙ sym (count-sum ℕ-discrete l (map label (wordsOf ds)))
 
--- A packet at home ------------------------------------------------------------------------------------------------------------------------
+-- A packet at at-destination ------------------------------------------------------------------------------------------------------------------------
 
 -- two lists that begin with equal elements and go on alike
 begin-same : {A : Type 0} (x y : A) (xs ys : List A) → x ≡ y → xs ≡ ys → _≡_ {A = List A} (x ∷ xs) (y ∷ ys)
@@ -93,9 +93,9 @@ first-same x y xs ys e = ap (λ (l : List _). getD l 0 x) e
 rest-same : {A : Type 0} (x y : A) (xs ys : List A) → _≡_ {A = List A} (x ∷ xs) (y ∷ ys) → xs ≡ ys
 rest-same x y xs ys e = ap (λ (l : List _). drop 1 l) e
 
--- `atHome`, of all that was handed out: each word is its own label, and the list of destinations is the list of nodes
-pub at-home-is : (ds : List Delivery) → T (allOf atHome ds) ↔ ((map label (wordsOf ds) ≡ wordsOf ds) × (map destination (wordsOf ds) ≡ nodesOf ds))
-unfolding allOf atHome
+-- `atDestination`, of all that was handed out: each word is its own label, and the list of destinations is the list of nodes
+pub at-home-is : (ds : List Delivery) → T (allOf atDestination ds) ↔ ((map label (wordsOf ds) ≡ wordsOf ds) × (map destination (wordsOf ds) ≡ nodesOf ds))
+unfolding allOf atDestination
 at-home-is [] = ((λ t. (refl, refl)), (λ e. tt))
 at-home-is (d ∷ ds) = ((λ t. of t (at-home-is ds .0)), (λ e. by (e .0) (e .1) (at-home-is ds .1)))
   where
@@ -108,19 +108,19 @@ at-home-is (d ∷ ds) = ((λ t. of t (at-home-is ds .0)), (λ e. by (e .0) (e .1
     there : Bool
     there = eqb (destination p) (d .node)
 
-    of : T ((own && there) && allOf atHome ds) → (T (allOf atHome ds) → (map label (wordsOf ds) ≡ wordsOf ds) × (map destination (wordsOf ds) ≡ nodesOf ds))
+    of : T ((own && there) && allOf atDestination ds) → (T (allOf atDestination ds) → (map label (wordsOf ds) ≡ wordsOf ds) × (map destination (wordsOf ds) ≡ nodesOf ds))
         → (map label (wordsOf (d ∷ ds)) ≡ wordsOf (d ∷ ds)) × (map destination (wordsOf (d ∷ ds)) ≡ nodesOf (d ∷ ds))
     of t later =
-        let here = and-l (own && there) (allOf atHome ds) t in
-        let rest = later (and-r (own && there) (allOf atHome ds) t) in (
+        let here = and-l (own && there) (allOf atDestination ds) t in
+        let rest = later (and-r (own && there) (allOf atDestination ds) t) in (
           begin-same (label p) p (map label (wordsOf ds)) (wordsOf ds) (eqb→eq (label p) p (and-l own there here)) (rest .0),
           begin-same (destination p) (d .node) (map destination (wordsOf ds)) (nodesOf ds) (eqb→eq (destination p) (d .node) (and-r own there here)) (rest .1),
         )
 
     by : map label (wordsOf (d ∷ ds)) ≡ wordsOf (d ∷ ds) → map destination (wordsOf (d ∷ ds)) ≡ nodesOf (d ∷ ds)
-        → ((map label (wordsOf ds) ≡ wordsOf ds) × (map destination (wordsOf ds) ≡ nodesOf ds) → T (allOf atHome ds)) → T ((own && there) && allOf atHome ds)
+        → ((map label (wordsOf ds) ≡ wordsOf ds) × (map destination (wordsOf ds) ≡ nodesOf ds) → T (allOf atDestination ds)) → T ((own && there) && allOf atDestination ds)
     by a b later =
-        and-i (own && there) (allOf atHome ds)
+        and-i (own && there) (allOf atDestination ds)
         (and-i own there
         (same (label p) p (first-same (label p) p (map label (wordsOf ds)) (wordsOf ds) a))
         (same (destination p) (d .node) (first-same (destination p) (d .node) (map destination (wordsOf ds)) (nodesOf ds) b)))

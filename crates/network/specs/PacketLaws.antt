@@ -165,22 +165,22 @@ unfolding tag product
 tag-within p h = omega arith
 
 -- the offsets of the first so many dimensions replaced
-abbrev pub InRange : ℕ → (ℕ → ℤ) → Type 0
-InRange m offs = (i : ℕ) → i < m → OffsetRange (offs i)
+abbrev pub OffsetsInRange : ℕ → (ℕ → ℤ) → Type 0
+OffsetsInRange m offs = (i : ℕ) → i < m → OffsetRange (offs i)
 
 module _ (offs : ℕ → ℤ) where
-  tag-withs : (m : ℕ) (p : ℕ) → m ≤ dimensions → InRange m offs → tag (withOffsets m offs p) ≡ tag p
+  tag-withs : (m : ℕ) (p : ℕ) → m ≤ dimensions → OffsetsInRange m offs → tag (withOffsets m offs p) ≡ tag p
   unfolding withOffsets
   tag-withs zero p h r = refl
   tag-withs (suc m) p h r = tag-with m (offs m) (withOffsets m offs p) (omega arith) (r m (omega arith)) ∙ tag-withs m p (omega arith) (λ i l. r i (omega arith))
 
-  field-withs : (k m : ℕ) (p : ℕ) → dimensions ≤ k → m ≤ dimensions → InRange m offs → digit fields k (withOffsets m offs p) ≡ digit fields k p
+  field-withs : (k m : ℕ) (p : ℕ) → dimensions ≤ k → m ≤ dimensions → OffsetsInRange m offs → digit fields k (withOffsets m offs p) ≡ digit fields k p
   unfolding withOffsets
   field-withs k zero p l h r = refl
   field-withs k (suc m) p l h r =
       field-with k m (offs m) (withOffsets m offs p) l (omega arith) (r m (omega arith)) ∙ field-withs k m p l (omega arith) (λ i j. r i (omega arith))
 
-  pub offset-withs : (m i : ℕ) (p : ℕ) → m ≤ dimensions → i < m → InRange m offs → offset i (withOffsets m offs p) ≡ offs i
+  pub offset-withs : (m i : ℕ) (p : ℕ) → m ≤ dimensions → i < m → OffsetsInRange m offs → offset i (withOffsets m offs p) ≡ offs i
   unfolding withOffsets
   offset-withs zero i p h l r = absurd (omega arith)
   offset-withs (suc m) i p h l r = go (ℕ-discrete i m) (λ k. offset-withs m i p (omega arith) k (λ j q. r j (omega arith)))
@@ -190,7 +190,7 @@ module _ (offs : ℕ → ℤ) where
       go (no ne) later = offset-with-other m i (offs m) (withOffsets m offs p) (omega arith) (omega arith) ne (r m (omega arith)) ∙ later (omega arith)
 
   -- another dimension's offset may be replaced before or after
-  withs-comm : (m i : ℕ) (z : ℤ) (p : ℕ) → m ≤ i → i < dimensions → OffsetRange z → InRange m offs
+  withs-comm : (m i : ℕ) (z : ℤ) (p : ℕ) → m ≤ i → i < dimensions → OffsetRange z → OffsetsInRange m offs
       → withOffsets m offs (withOffset i z p) ≡ withOffset i z (withOffsets m offs p)
   unfolding withOffsets
   withs-comm zero i z p h k s r = refl
@@ -199,7 +199,7 @@ module _ (offs : ℕ → ℤ) where
       ∙ with-comm m i (offs m) z (withOffsets m offs p) (omega arith) k (λ e. omega arith) (r m (omega arith)) s
 
   -- and one of their own is replaced anyway
-  withs-over : (m i : ℕ) (z : ℤ) (p : ℕ) → i < m → m ≤ dimensions → OffsetRange z → InRange m offs → withOffsets m offs (withOffset i z p) ≡ withOffsets m offs p
+  withs-over : (m i : ℕ) (z : ℤ) (p : ℕ) → i < m → m ≤ dimensions → OffsetRange z → OffsetsInRange m offs → withOffsets m offs (withOffset i z p) ≡ withOffsets m offs p
   unfolding withOffsets
   withs-over zero i z p h k s r = absurd (omega arith)
   withs-over (suc m) i z p h k s r = go (ℕ-discrete i m) (λ l. withs-over m i z p l (omega arith) s (λ j q. r j (omega arith)))
@@ -448,7 +448,7 @@ tag-label p = tag-withs (λ j. pos 0) dimensions p (omega arith) (λ i h. zero-r
 
 -- The word that fields make -----------------------------------------------------------------------------------------------------------
 
-pub tag-packet : (t dest : ℕ) (offs : ℕ → ℤ) → dest < 2 ^ 16 → InRange dimensions offs → tag (packetWord t dest offs) ≡ t
+pub tag-packet : (t dest : ℕ) (offs : ℕ → ℤ) → dest < 2 ^ 16 → OffsetsInRange dimensions offs → tag (packetWord t dest offs) ≡ t
 unfolding packetWord tag product
 tag-packet t dest offs h r =
     tag-withs offs dimensions (putDigit fields destinationField dest (t * product fields)) (omega arith) r
@@ -456,7 +456,7 @@ tag-packet t dest offs h r =
     ∙ omega arith
 
 -- of the fields above the offsets the destination is given, and any other is 0
-pub field-packet : (k t dest : ℕ) (offs : ℕ → ℤ) → dimensions ≤ k → dest < destinationValues → InRange dimensions offs
+pub field-packet : (k t dest : ℕ) (offs : ℕ → ℤ) → dimensions ≤ k → dest < destinationValues → OffsetsInRange dimensions offs
     → digit fields k (packetWord t dest offs) ≡ cond (eqb k destinationField) dest 0
 unfolding packetWord
 field-packet k t dest offs l h r =
@@ -469,7 +469,7 @@ field-packet k t dest offs l h r =
         ∙ digit-multiple fields k t fields-positive
         ∙ sym (passed-over (eqb k destinationField) dest 0 (ne-eqb k destinationField ne))
 
-pub offset-packet : (i t dest : ℕ) (offs : ℕ → ℤ) → i < dimensions → dest < 2 ^ 16 → InRange dimensions offs → offset i (packetWord t dest offs) ≡ offs i
+pub offset-packet : (i t dest : ℕ) (offs : ℕ → ℤ) → i < dimensions → dest < 2 ^ 16 → OffsetsInRange dimensions offs → offset i (packetWord t dest offs) ≡ offs i
 unfolding packetWord
 offset-packet i t dest offs k h r = offset-withs offs dimensions i (putDigit fields destinationField dest (t * product fields)) (omega arith) k r
 

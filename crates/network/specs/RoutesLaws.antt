@@ -79,7 +79,7 @@ heads (i ∷ is) p d t = go (ℕ-discrete (distance i p) 0) (λ s. heads is p d 
     go (no ne) r = first ne (or-e (eqb d (heading i p)) (elem d (headings is p)) (rw (ne-eqb (distance i p) 0 ne) at t)) r
 
 -- the first heading in the order of the dimensions: that of the lowest dimension in which a hop is left
-pub record Lowest (i count p : ℕ) : Type 0 where
+pub record LowestHeading (i count p : ℕ) : Type 0 where
   pub dimension : ℕ
   pub from : i ≤ dimension
   pub below : dimension < i + count
@@ -91,7 +91,7 @@ pub record AllDone (i count p : ℕ) : Type 0 where
   pub done : (j : ℕ) → i ≤ j → j < i + count → distance j p ≡ 0
   pub none : headings (inOrder i count) p ≡ []
 
-pub lowest : (i count p : ℕ) → Lowest i count p ⊎ AllDone i count p
+pub lowest : (i count p : ℕ) → LowestHeading i count p ⊎ AllDone i count p
 unfolding headings inOrder
 lowest i zero p = inr (record { done = λ j a b. absurd (outside j a b); none = refl })
   where
@@ -106,7 +106,7 @@ lowest i (suc count) p = go (ℕ-discrete (distance i p) 0) (lowest (suc i) coun
         split (yes e) = rw (← e) z
         split (no ne) = up j (omega arith) b
 
-    go : Dec (distance i p ≡ 0) → Lowest (suc i) count p ⊎ AllDone (suc i) count p → Lowest i (suc count) p ⊎ AllDone i (suc count) p
+    go : Dec (distance i p ≡ 0) → LowestHeading (suc i) count p ⊎ AllDone (suc i) count p → LowestHeading i (suc count) p ⊎ AllDone i (suc count) p
     go (no ne) r =
         inl
         (record {
@@ -214,7 +214,7 @@ route-of q p o t = go (ℕ-discrete (hopsLeft p) 0)
           by = inl (e ∙ ap adaptiveQueue (h .this-way));
         }
 
-    escape : Lowest 0 dimensions p ⊎ AllDone 0 dimensions p → T (elem o escapes) → Onward p o
+    escape : LowestHeading 0 dimensions p ⊎ AllDone 0 dimensions p → T (elem o escapes) → Onward p o
     escape (inl l) s =
         let e : o ≡ escapeQueue (heading (l .dimension) p) = elem-one o (escapeQueue (heading (l .dimension) p)) (rw (l .only) at s) in
         record {
@@ -256,7 +256,7 @@ pub escape-route : (q p : ℕ) → hopsLeft p ≢ 0 → EscapeRoute q p
 unfolding routes hopsLeft
 escape-route q p ne = go (lowest 0 dimensions p)
   where
-    go : Lowest 0 dimensions p ⊎ AllDone 0 dimensions p → EscapeRoute q p
+    go : LowestHeading 0 dimensions p ⊎ AllDone 0 dimensions p → EscapeRoute q p
     go (inl l) =
         record {
           dimension = l .dimension;

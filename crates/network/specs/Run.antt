@@ -111,8 +111,8 @@ unfoldable pub hopsWith : ℕ → ℕ → Shape → List ℕ → ℕ
 hopsWith l d S w = total S w (sumOf (hopsOf l d))
 
 -- R230, R231
-unfoldable pub atHome : Delivery → Bool
-atHome d = eqb (label (d .packet)) (d .packet) && eqb (destination (d .packet)) (d .node)
+unfoldable pub atDestination : Delivery → Bool
+atDestination d = eqb (label (d .packet)) (d .packet) && eqb (destination (d .packet)) (d .node)
 
 -- R213, R237: some move is permitted
 pub record SomeMove (w : List ℕ) : Type 0 where
@@ -132,7 +132,7 @@ AllKept (L ∷ Ls) = LedgerKept L × AllKept Ls
 -- what holds after every run, of the words w at its start and what the run gave
 pub record AfterRun (w : List ℕ) (r : Outcome) : Type 0 where
   -- R230, R231: what was handed out has no hop left and is where it was addressed to
-  pub handed-out-at-home : T (allOf atHome (r .handedOut))
+  pub handed-out-at-destination : T (allOf atDestination (r .handedOut))
   -- R232, of every label
   pub none-lost-or-doubled : (l : ℕ) → handedWith l (r .handedOut) + heldWith l (shape w) (r .words) ≡ heldWith l (shape w) w
   -- R225: the moves are as many as the answers tell of; R226: and they lead to the words as they are

@@ -17,7 +17,7 @@ use Rattle.base.specs.Sums.{sumBelow}
 use Rattle.network.specs.declared.Sign.{Sign}
 use Rattle.network.specs.Sizes.{dimensions, queues, plus, minus, adaptiveQueue, escapeQueue}
 use Rattle.network.specs.Packet.{offset, withOffsets, distance, backward, heading, hopsLeft}
-use Rattle.network.specs.PacketLaws.{InRange, offset-withs, arrived-distance}
+use Rattle.network.specs.PacketLaws.{OffsetsInRange, offset-withs, arrived-distance}
 use Rattle.network.specs.Routes.{inOrder, without, incoming, incomingFirst, headings, routes, deliver}
 use Rattle.network.specs.Selection.{sign, adaptiveX, adaptiveY, adaptiveZ, inTurn, lastCase, selection, selected}
 
@@ -179,7 +179,7 @@ selection-routes q p h = go (ℕ-discrete (hopsLeft p) 0)
         (sym (escapes p ∙ escape-case (sign (offset 0 p)) (sign (offset 1 p)) (sign (offset 2 p)) (not-all p ne))))
 
 -- the same by the offsets: all that their fields can hold, from −16 to 15, whatever else the word says
-pub selection-offsets : (q p : ℕ) (offsets : ℕ → ℤ) → q < queues → InRange dimensions offsets
+pub selection-offsets : (q p : ℕ) (offsets : ℕ → ℤ) → q < queues → OffsetsInRange dimensions offsets
     → selection q (sign (offsets 0)) (sign (offsets 1)) (sign (offsets 2)) ≡ routes q (withOffsets dimensions offsets p)
 unfolding selected
 selection-offsets q p offsets h r =

@@ -38,8 +38,8 @@ above-is i p b e small =
     ∙ ap (λ (v : ℕ). halfOffsets + v) (ap (λ (x : ℕ). forward (signed x)) e ∙ sym (hops-plus i p))
 
 -- neither limit is 0, or one is and the other is 1
-abbrev Some : ℕ → ℕ → Type 0
-Some forward back = ((1 ≤ forward) × (1 ≤ back)) ⊎ (forward + back ≡ 1)
+abbrev SomePass : ℕ → ℕ → Type 0
+SomePass forward back = ((1 ≤ forward) × (1 ≤ back)) ⊎ (forward + back ≡ 1)
 
 -- Offsets in a row: as many as both limits let pass, 0 being counted once, from the last one back on. Where a limit is 0, none passes.
 module _ (forward back a f b : ℕ) where
@@ -49,12 +49,12 @@ module _ (forward back a f b : ℕ) where
   abbrev end : ℕ
   end = halfOffsets + 1 - back + (forward + back - 1)
 
-  there : Some forward back → OneWay f b → back ≤ halfOffsets → a + b ≡ halfOffsets + f → first ≤ a → a < end → (f < forward) × (b < back)
+  there : SomePass forward back → OneWay f b → back ≤ halfOffsets → a + b ≡ halfOffsets + f → first ≤ a → a < end → (f < forward) × (b < back)
   there (inl n) (inl z) h e l m = let x = n .0 in let y = n .1 in (omega arith, omega arith)
   there (inl n) (inr z) h e l m = let x = n .0 in let y = n .1 in (omega arith, omega arith)
   there (inr n) w h e l m = absurd (let x : ⊥ = omega arith in x)
 
-  in-row : Some forward back → OneWay f b → back ≤ halfOffsets → a + b ≡ halfOffsets + f → leb first a && ltb a end ≡ ltb f forward && ltb b back
+  in-row : SomePass forward back → OneWay f b → back ≤ halfOffsets → a + b ≡ halfOffsets + f → leb first a && ltb a end ≡ ltb f forward && ltb b back
   in-row some way h e =
       same-test (leb first a && ltb a end) (ltb f forward && ltb b back)
       (λ t.
@@ -73,10 +73,10 @@ module _ (s : Sizes) (q i : ℕ) (t : T (sizesInRange (shapeOf s))) where
   abbrev backs : ℕ
   backs = limit (shapeOf s) q (minus i)
 
-  some-passing : Some forwards backs
+  some-passing : SomePass forwards backs
   some-passing = by (ℕ-discrete forwards 0) (ℕ-discrete backs 0)
     where
-      by : Dec (forwards ≡ 0) → Dec (backs ≡ 0) → Some forwards backs
+      by : Dec (forwards ≡ 0) → Dec (backs ≡ 0) → SomePass forwards backs
       by (yes z) d = let e = limit-none (shapeOf s) q (plus i) z (minus i) (λ x. omega arith) (omega arith) in inr (omega arith)
       by (no x) (yes z) = let e = limit-none (shapeOf s) q (minus i) z (plus i) (λ x. omega arith) (omega arith) in inr (omega arith)
       by (no x) (no y) = inl (omega arith, omega arith)

@@ -14,19 +14,19 @@ use Rattle.base.specs.Digits.{weight}
 use Rattle.network.specs.Sizes.{shapeOf, sizesInRange, size, queues}
 use Rattle.network.specs.TorusLaws.{inRange-size}
 use Rattle.network.specs.declared.Sizes.{Sizes}
-use Rattle.packet_check.specs.Tables.{ringWords, dimensionWords, passing, Part, Filled, RingTable, DimensionPart}
+use Rattle.packet_check.specs.Tables.{ringWords, dimensionWords, passing, Part, PartWritten, RingTable, DimensionPart}
 use Rattle.packet_check.proofs.Offsets.{moved-above}
 
 -- A part filled word by word ---------------------------------------------------------------------------------------------------------------
 
 module _ (before : List ℕ) (start : ℕ) (g : ℕ → ℕ) where
-  pub filled-none : Filled before before start 0 g
+  pub filled-none : PartWritten before before start 0 g
   filled-none = record { words = refl; part = λ j h. absurd (none j h); kept = λ j h. refl }
     where
       none : (j : ℕ) → j < 0 → ⊥
       none j h = omega arith
 
-  pub filled-more : (tables : List ℕ) (j v : ℕ) → start + j < length before → Filled before tables start j g → v ≡ g j → Filled before (set tables (start + j) v) start (j + 1) g
+  pub filled-more : (tables : List ℕ) (j v : ℕ) → start + j < length before → PartWritten before tables start j g → v ≡ g j → PartWritten before (set tables (start + j) v) start (j + 1) g
   filled-more tables j v within f e =
       record {
         words = length-set tables (start + j) v ∙ f .words;
@@ -46,11 +46,11 @@ module _ (before : List ℕ) (start : ℕ) (g : ℕ → ℕ) where
           ap (λ (n : ℕ). getD (set tables (start + j) v) (start + n) 0) s ∙ getD-set-same tables (start + j) v 0 (omega arith) ∙ e ∙ ap g (sym s)
       each m l (no n) = getD-set-other tables (start + j) (start + m) v 0 (behind m n) ∙ f .part m (omega arith)
 
-  pub filled-all : (tables : List ℕ) (j count : ℕ) → Filled before tables start j g → j ≤ count → count ≤ j → Filled before tables start count g
-  filled-all tables j count f l m = subst (λ (n : ℕ). Filled before tables start n g) (let e : j ≡ count = omega arith in e) f
+  pub filled-all : (tables : List ℕ) (j count : ℕ) → PartWritten before tables start j g → j ≤ count → count ≤ j → PartWritten before tables start count g
+  filled-all tables j count f l m = subst (λ (n : ℕ). PartWritten before tables start n g) (let e : j ≡ count = omega arith in e) f
 
 -- a part that ends before another one is filled stays
-pub part-kept : (before after : List ℕ) (start count other more : ℕ) (g h : ℕ → ℕ) → Part before start count g → Filled before after other more h → start + count ≤ other → Part after start count g
+pub part-kept : (before after : List ℕ) (start count other more : ℕ) (g h : ℕ → ℕ) → Part before start count g → PartWritten before after other more h → start + count ≤ other → Part after start count g
 part-kept before after start count other more g h part f l j k = f .kept (start + j) (omega arith) ∙ part j k
 
 -- A ring ---------------------------------------------------------------------------------------------------------------------------------
@@ -71,7 +71,7 @@ on-ring j c k e h = let l = mod-lt j h in omega arith
 -- The parts of the dimensions --------------------------------------------------------------------------------------------------------------
 
 -- one that ends before a part that is filled stays
-pub dimension-kept : (s : Sizes) (i : ℕ) (before after : List ℕ) (start count : ℕ) (g : ℕ → ℕ) → T (sizesInRange (shapeOf s)) → DimensionPart s i before → Filled before after start count g
+pub dimension-kept : (s : Sizes) (i : ℕ) (before after : List ℕ) (start count : ℕ) (g : ℕ → ℕ) → T (sizesInRange (shapeOf s)) → DimensionPart s i before → PartWritten before after start count g
     → (i + 1) * dimensionWords ≤ start → DimensionPart s i after
 dimension-kept s i before after start count g t part f h =
     let short = inRange-size (shapeOf s) i t in
@@ -82,8 +82,8 @@ dimension-kept s i before after start count g t part f h =
 
 -- one more: its ring is filled, and then the offsets that pass
 pub dimension-more : (s : Sizes) (i k w : ℕ) (before between after : List ℕ) → T (sizesInRange (shapeOf s)) → ((m : ℕ) → m < i → DimensionPart s m before)
-    → k ≡ size (shapeOf s) i → w ≡ weight (shapeOf s .sizes) i → Filled before between (i * dimensionWords) (3 * k) (λ j. w * (j % k))
-    → Filled between after (i * dimensionWords + ringWords) queues (λ q. passing (shapeOf s) q i) → (m : ℕ) → m < i + 1 → DimensionPart s m after
+    → k ≡ size (shapeOf s) i → w ≡ weight (shapeOf s .sizes) i → PartWritten before between (i * dimensionWords) (3 * k) (λ j. w * (j % k))
+    → PartWritten between after (i * dimensionWords + ringWords) queues (λ q. passing (shapeOf s) q i) → (m : ℕ) → m < i + 1 → DimensionPart s m after
 dimension-more s i k w before between after t parts ek ew f g m l = each (ℕ-discrete m i)
   where
     own : DimensionPart s i after

@@ -41,7 +41,7 @@ distanceAt a = (a - halfOffsets) + (halfOffsets - a)
 abbrev pub Part : List ℕ → ℕ → ℕ → (ℕ → ℕ) → Type 0
 Part tables start count g = (j : ℕ) → j < count → getD tables (start + j) 0 ≡ g j
 
-pub record Filled (before after : List ℕ) (start count : ℕ) (g : ℕ → ℕ) : Type 0 where
+pub record PartWritten (before after : List ℕ) (start count : ℕ) (g : ℕ → ℕ) : Type 0 where
   pub words : length after ≡ length before
   pub part : Part after start count g
   pub kept : (j : ℕ) → j < start → getD after j 0 ≡ getD before j 0

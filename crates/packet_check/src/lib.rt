@@ -26,7 +26,7 @@ ghost use Rattle.network.specs.Sizes.{shapeOf, sizesInRange, size, dimensions, 
 ghost use Rattle.network.specs.Packet.{offsetValues, hops, work};
 ghost use Rattle.network.specs.Check.{packetFits};
 ghost use Rattle.torus.specs.Geometry.{nodeAt, OnTorus};
-ghost use Rattle.packet_check.specs.Tables.{ringWords, dimensionWords, firstDistance, tableWords, row, passing, distanceAt, Filled, Tables};
+ghost use Rattle.packet_check.specs.Tables.{ringWords, dimensionWords, firstDistance, tableWords, row, passing, distanceAt, PartWritten, Tables};
 
 // Offsets in a row, as the bits of a word: bit a for the one that stands a above the least. They are those with fewer hops forward than the one
 // limit and fewer back than the other, 0 being counted once.
@@ -88,7 +88,7 @@ pub const TABLE_WORDS: usize = (FIRST_DISTANCE + OFFSET_VALUES) as usize;
 // Fills the rounds of dimension i, for a ring of k nodes. The coordinate is carried along, so that nothing is divided.
 fn fill_ring(tables: &mut [u64], i: u64, k: u64, weight: u64)
     requires { ⌜ (length (now tables) ≡ tableWords) × (i < dimensions) × (1 ≤ k) × (k ≤ largestRing) × (weight ≤ mostNodes) ⌝ }
-    ensures { λ _. ⌜ Filled (now (tables .entry)) (now (tables .exit)) (i * dimensionWords) (3 * k) (λ j. weight * (j % k)) ⌝ }
+    ensures { λ _. ⌜ PartWritten (now (tables .entry)) (now (tables .exit)) (i * dimensionWords) (3 * k) (λ j. weight * (j % k)) ⌝ }
 {
     let mut c = 0;
     let mut j = 0;
@@ -102,7 +102,7 @@ fn fill_ring(tables: &mut [u64], i: u64, k: u64, weight: u64)
 // Fills the offsets of dimension i that pass, queue by queue.
 fn fill_passing(tables: &mut [u64], s: Sizes, i: u64)
     requires { ⌜ T (sizesInRange (shapeOf s)) × (length (now tables) ≡ tableWords) × (i < dimensions) ⌝ }
-    ensures { λ _. ⌜ Filled (now (tables .entry)) (now (tables .exit)) (i * dimensionWords + ringWords) queues (λ q. passing (shapeOf s) q i) ⌝ }
+    ensures { λ _. ⌜ PartWritten (now (tables .entry)) (now (tables .exit)) (i * dimensionWords + ringWords) queues (λ q. passing (shapeOf s) q i) ⌝ }
 {
     let mut q = 0;
     while q < QUEUES {
@@ -124,7 +124,7 @@ fn distance_at(a: u64) -> u64
 
 fn fill_distances(tables: &mut [u64])
     requires { ⌜ length (now tables) ≡ tableWords ⌝ }
-    ensures { λ _. ⌜ Filled (now (tables .entry)) (now (tables .exit)) firstDistance offsetValues distanceAt ⌝ }
+    ensures { λ _. ⌜ PartWritten (now (tables .entry)) (now (tables .exit)) firstDistance offsetValues distanceAt ⌝ }
 {
     let mut a = 0;
     while a < OFFSET_VALUES {

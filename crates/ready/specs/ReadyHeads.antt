@@ -20,7 +20,7 @@ use Rattle.network.specs.RefusalLaws.{Permitted}
 use Rattle.network.specs.Routes.{deliver, target}
 use Rattle.network.specs.Calls.{afterMove, firstInQueue, firstMove}
 use Rattle.run.specs.NewHeads.{before, Untouched, still-nothing, first-at, first-nowhere}
-use Rattle.headset.specs.Set.{member, IsSet, Filled, Inserted, NodeInserted, Removed, Lowest, nodeHeads, heads}
+use Rattle.headset.specs.Set.{member, IsSet, HeadsBelow, Inserted, NodeInserted, Removed, LowestMember, nodeHeads, heads}
 
 abbrev pub headOf : ℕ → ℕ → ℕ
 headOf n q = nodeHeads * n + q
@@ -47,7 +47,7 @@ both-true : (a b : Bool) → (a && b) ≡ true → (a ≡ true) × (b ≡ true)
 both-true true b e = (refl, e)
 both-true false b e = absurd (false≢true e)
 
-pub covered-filled : (S : Shape) (w set : List ℕ) → Filled set (nodes S) → Covered S w set
+pub covered-filled : (S : Shape) (w set : List ℕ) → HeadsBelow set (nodes S) → Covered S w set
 covered-filled S w set f =
     record {
       set-of = f .set;
@@ -77,7 +77,7 @@ covered-removed S w set after h c none r =
     go n q hn hq (no ne) x = c .others n q hn hq (rw (ne-eqb (headOf n q) h ne) at x)
 
 -- First's move: that of the lowest head of the set which has one
-pub lowest-first : (S : Shape) (w set : List ℕ) (h : ℕ) (f : Found) → Covered S w set → Lowest set h → h < heads → firstInQueue S w (h / nodeHeads) (h % nodeHeads) ≡ f
+pub lowest-first : (S : Shape) (w set : List ℕ) (h : ℕ) (f : Found) → Covered S w set → LowestMember set h → h < heads → firstInQueue S w (h / nodeHeads) (h % nodeHeads) ≡ f
     → f ≢ Found.Nothing → firstMove S w ≡ f
 lowest-first S w set h f c l small e ne =
     let (hn, hq) = c .heads h (l .found small) in
@@ -198,7 +198,7 @@ unfolding before
 before-is S n q d r e h = h ∙ ap (λ (k : ℕ). neighbour S k n) (direction-back d ∙ ap opposite e)
 
 -- the search through the set goes on upwards: the lowest head left is above the one that was taken out
-pub lowest-rises : (set after : List ℕ) (h r : ℕ) → Lowest set h → Removed set after h → Lowest after r → h < heads → h < r
+pub lowest-rises : (set after : List ℕ) (h r : ℕ) → LowestMember set h → Removed set after h → LowestMember after r → h < heads → h < r
 lowest-rises set after h r l out l′ small = go (decLt h r)
   where
     gone : r ≤ h → member after r ≡ false
@@ -213,7 +213,7 @@ lowest-rises set after h r l out l′ small = go (decLt h r)
     go (no b) = absurd (true≢false (sym (l′ .found (omega arith)) ∙ gone (omega arith)))
 
 -- where no head is left, there is no move
-pub lowest-none : (S : Shape) (w set : List ℕ) (h : ℕ) → Covered S w set → Lowest set h → nodes S ≤ mostNodes → heads ≤ h → firstMove S w ≡ Found.Nothing
+pub lowest-none : (S : Shape) (w set : List ℕ) (h : ℕ) → Covered S w set → LowestMember set h → nodes S ≤ mostNodes → heads ≤ h → firstMove S w ≡ Found.Nothing
 lowest-none S w set h c l few g = first-nowhere S w (λ k r hk hr. c .others k r hk hr (l .below (headOf k r) (omega arith)))
 
 -- what is named is not nothing

@@ -127,12 +127,12 @@ drain-unspent w room = go (eqb (networkRefusal w) 0)
     go false = refl
 
 -- what a single move of a D tells, by whether it makes one
-pub record Stops (w : List ℕ) (room : ℕ) : Type 0 where
+pub record NoMoveMade (w : List ℕ) (room : ℕ) : Type 0 where
   pub none : makesMove w room ≡ false
   pub same : movedOn w room ≡ w
   pub all : (budget : ℕ) → drainWords w budget room ≡ w
 
-pub record Goes (w : List ℕ) (room : ℕ) : Type 0 where
+pub record NextMoveMade (w : List ℕ) (room : ℕ) : Type 0 where
   pub one : makesMove w room ≡ true
   pub passes : networkRefusal (movedOn w room) ≡ 0
   pub rest : (budget : ℕ) → drainWords w (suc budget) room ≡ drainWords (movedOn w room) budget (roomLeft w room)
@@ -142,11 +142,11 @@ drain-made : (w : List ℕ) (budget room : ℕ) (S : Shape) → networkRefusal w
 unfolding drainWords drained
 drain-made w budget room S z same = rw (eq-eqb (networkRefusal w) 0 z) (ap (λ T. drainFrom T budget room w .words) same)
 
-pub move-told : (w : List ℕ) (room : ℕ) → Stops w room ⊎ Goes w room
+pub move-told : (w : List ℕ) (room : ℕ) → NoMoveMade w room ⊎ NextMoveMade w room
 unfolding makesMove movedOn roomLeft drainWords drainAnswer drained drainedMoves drainedDelivered
 move-told w room = go (ℕ-discrete (networkRefusal w) 0)
   where
-    go : Dec (networkRefusal w ≡ 0) → Stops w room ⊎ Goes w room
+    go : Dec (networkRefusal w ≡ 0) → NoMoveMade w room ⊎ NextMoveMade w room
     go (no ne) =
         let e : eqb (networkRefusal w) 0 ≡ false = ne-eqb (networkRefusal w) 0 ne in
         inl (record { none = rw e; same = rw e; all = λ budget. rw e })
@@ -170,7 +170,7 @@ move-told w room = go (ℕ-discrete (networkRefusal w) 0)
         makes : makesMove w room ≡ not (eqb (length (one .moves)) 0)
         makes = rw e refl
 
-        by : Next (shape w) room w (λ budget. drainFrom (shape w) (suc budget) room w) one → Stops w room ⊎ Goes w room
+        by : Next (shape w) room w (λ budget. drainFrom (shape w) (suc budget) room w) one → NoMoveMade w room ⊎ NextMoveMade w room
         by (stays all here) =
             inl
             (record {
@@ -200,14 +200,14 @@ move-told w room = go (ℕ-discrete (networkRefusal w) 0)
 pub move-none : (w : List ℕ) (room budget : ℕ) → makesMove w room ≡ false → movedOn w room ≡ drainWords w budget room
 move-none w room budget e = by (move-told w room)
   where
-    by : Stops w room ⊎ Goes w room → movedOn w room ≡ drainWords w budget room
+    by : NoMoveMade w room ⊎ NextMoveMade w room → movedOn w room ≡ drainWords w budget room
     by (inl s) = s .same ∙ sym (s .all budget)
     by (inr g) = absurd (true≢false (sym (g .one) ∙ e))
 
 pub move-some : (w : List ℕ) (room budget : ℕ) → makesMove w room ≡ true → drainWords (movedOn w room) budget (roomLeft w room) ≡ drainWords w (suc budget) room
 move-some w room budget e = by (move-told w room)
   where
-    by : Stops w room ⊎ Goes w room → drainWords (movedOn w room) budget (roomLeft w room) ≡ drainWords w (suc budget) room
+    by : NoMoveMade w room ⊎ NextMoveMade w room → drainWords (movedOn w room) budget (roomLeft w room) ≡ drainWords w (suc budget) room
     by (inl s) = absurd (true≢false (sym e ∙ s .none))
     by (inr g) = sym (g .rest budget)
 
@@ -217,7 +217,7 @@ unfolding replayed
 drain-replayed zero room w = sym (drain-unspent w room)
 drain-replayed (suc budget) room w = by (move-told w room) (drain-replayed budget (roomLeft w room) (movedOn w room))
   where
-    by : Stops w room ⊎ Goes w room → replayed budget (roomLeft w room) (movedOn w room) ≡ drainWords (movedOn w room) budget (roomLeft w room)
+    by : NoMoveMade w room ⊎ NextMoveMade w room → replayed budget (roomLeft w room) (movedOn w room) ≡ drainWords (movedOn w room) budget (roomLeft w room)
         → cond (makesMove w room) (replayed budget (roomLeft w room) (movedOn w room)) w ≡ drainWords w (suc budget) room
     by (inl s) later = rw (s .none) (sym (s .all (suc budget)))
     by (inr g) later = rw (g .one) (later ∙ sym (g .rest budget))

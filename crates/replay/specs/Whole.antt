@@ -25,9 +25,9 @@ use Rattle.waveform.specs.Dump.{variablesOf}
 use Rattle.waveform.specs.DumpLaws.{variables-words}
 use Rattle.waveform.specs.Lengths.{pageRoom, step-room}
 use Rattle.waveform.specs.Calls.{fillsNow, writtenStep, writeRules, writeRefusal, writeAnswer, writeList, writePage, writtenLength}
-use Rattle.waveform.specs.Answers.{write-tells}
+use Rattle.waveform.specs.StepAnswers.{write-tells}
 use Rattle.replay.specs.Replay.{Shown, shown, stepShown, shownIf, carriedOut, changed, beginsDump, commandShown, oneWord, movedOn, makesMove, moveShown}
-use Rattle.replay.specs.ReplayLaws.{Stops, Goes, move-told}
+use Rattle.replay.specs.ReplayLaws.{NoMoveMade, NextMoveMade, move-told}
 
 -- a step that is not refused has its place on the page
 neither-test : (a b : Bool) → (a || b) ≡ false → b ≡ false
@@ -103,7 +103,7 @@ changed-passes Command.Bad w t = absurd (true≢false (sym t))
 moved-passes : (w : List ℕ) (room : ℕ) → makesMove w room ≡ true → networkRefusal (movedOn w room) ≡ 0
 moved-passes w room t = by (move-told w room)
   where
-    by : Stops w room ⊎ Goes w room → networkRefusal (movedOn w room) ≡ 0
+    by : NoMoveMade w room ⊎ NextMoveMade w room → networkRefusal (movedOn w room) ≡ 0
     by (inl s) = absurd (true≢false (sym t ∙ s .none))
     by (inr g) = g .passes
 

@@ -15,12 +15,12 @@ use Rattle.network.specs.Packet.{offset}
 use Rattle.network.specs.Routes.{routes}
 use Rattle.network.specs.Selection.{sign, adaptiveX, adaptiveY, adaptiveZ, inTurn, lastCase, selection, selected}
 use Rattle.network.specs.SelectionLaws.{selection-routes}
-use Rattle.routes.specs.Lines.{lastLine, applies, outputsFrom, unlessZero}
+use Rattle.routes.specs.Lines.{lastSelectionLine, applies, outputsFrom, unlessZero}
 use Rattle.routes.specs.LinesLaws.{line-taken, line-passed, lines-end}
 
 -- What four lines give ----------------------------------------------------------------------------------------------------------------
 
-before-last : (k o : ℕ) (os : List ℕ) → eqb k lastLine ≡ false → outputsFrom k (o ∷ os) ≡ unlessZero o ++ outputsFrom (suc k) os
+before-last : (k o : ℕ) (os : List ℕ) → eqb k lastSelectionLine ≡ false → outputsFrom k (o ∷ os) ≡ unlessZero o ++ outputsFrom (suc k) os
 unfolding outputsFrom applies
 before-last k o os e = rw e (go (eqb o 0))
   where

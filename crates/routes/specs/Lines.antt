@@ -7,15 +7,15 @@ use lib.Dec.{eqb}
 use Rattle.network.specs.Sizes.{dimensions}
 
 -- one for each dimension and the last, counted from 0: the paper's line 1 has number 0
-abbrev pub lines : ℕ
-lines = suc dimensions
+abbrev pub selectionLines : ℕ
+selectionLines = suc dimensions
 
-abbrev pub lastLine : ℕ
-lastLine = dimensions
+abbrev pub lastSelectionLine : ℕ
+lastSelectionLine = dimensions
 
 -- line k applies, o being the number in its place
 unfoldable pub applies : ℕ → ℕ → Bool
-applies k o = eqb k lastLine || not (eqb o 0)
+applies k o = eqb k lastSelectionLine || not (eqb o 0)
 
 -- the outputs that line k and those behind it give
 unfoldable pub outputsFrom : ℕ → List ℕ → List ℕ

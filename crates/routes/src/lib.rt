@@ -13,7 +13,7 @@ ghost use Rattle.network.specs.Sizes.{queues};
 ghost use Rattle.network.specs.Packet.{offset};
 ghost use Rattle.network.specs.Routes.{routes};
 ghost use Rattle.network.specs.Selection.{sign, adaptiveX, adaptiveY, adaptiveZ, lastCase, selection};
-ghost use Rattle.routes.specs.Lines.{lines, applies, outputsFrom, unlessZero};
+ghost use Rattle.routes.specs.Lines.{selectionLines, applies, outputsFrom, unlessZero};
 
 // How many lines the selection list has, one for each dimension and the last, and the number of the last. The code counts them from 0: the
 // paper's line 1 has number 0, and its line 2 is one for each of the two other dimensions.
@@ -78,7 +78,7 @@ fn last_case(dx: Sign, dy: Sign, dz: Sign) -> u64
 // first; for the injection queue that is x. The contract names both statements of the routes: the paper's rule, and its cases, by which the code decides.
 pub fn routes(q: u64, p: u64) -> [u64; LINES as usize]
     requires { ⌜ q < queues ⌝ }
-    ensures each { λ r. ⌜ length r ≡ lines ⌝ }
+    ensures each { λ r. ⌜ length r ≡ selectionLines ⌝ }
     ensures these { λ r. ⌜ outputsFrom 0 r ≡ routes q p ⌝ }
     ensures cases { λ r. ⌜ outputsFrom 0 r ≡ selection q (sign (offset 0 p)) (sign (offset 1 p)) (sign (offset 2 p)) ⌝ }
 {

@@ -102,7 +102,7 @@ step-over c f (suc j) start room pos = go (ℕ-discrete (f (suc j)) 0) (λ r. st
     go (no ne) r = (suc j, ne, room)
 
 -- a permitted move, whichever
-pub record Some (S : Shape) (w : List ℕ) : Type 0 where
+pub record PermittedMove (S : Shape) (w : List ℕ) : Type 0 where
   pub node : ℕ
   pub queue : ℕ
   pub output : ℕ
@@ -139,7 +139,7 @@ module _ (S : Shape) (w : List ℕ) (tor : Torus S) (N : Network S w) where
   two-slots d = rw (escape-capacity S d) (range-of S (N .in-range) .escape .low)
 
   -- a head that has arrived is delivered
-  delivers : (n q : ℕ) → n < nodes S → q < queues → length (held S w n q) ≢ 0 → hopsLeft (head (held S w n q)) ≡ 0 → Some S w
+  delivers : (n q : ℕ) → n < nodes S → q < queues → length (held S w n q) ≢ 0 → hopsLeft (head (held S w n q)) ≡ 0 → PermittedMove S w
   delivers n q hn hq holds z =
       record {
         node = n;
@@ -159,7 +159,7 @@ module _ (S : Shape) (w : List ℕ) (tor : Torus S) (N : Network S w) where
   -- a head may take its escape route e where the target has as many free slots as it needs
   escapes : (n q : ℕ) → n < nodes S → q < queues → length (held S w n q) ≢ 0 → (r : EscapeRoute q (head (held S w n q)))
       → slotsNeeded q (escapeQueue (heading (r .dimension) (head (held S w n q)))) (head (held S w n q))
-      ≤ freeSlots S w n (escapeQueue (heading (r .dimension) (head (held S w n q)))) → Some S w
+      ≤ freeSlots S w n (escapeQueue (heading (r .dimension) (head (held S w n q)))) → PermittedMove S w
   escapes n q hn hq holds r flow =
       record {
         node = n;
@@ -192,13 +192,13 @@ module _ (S : Shape) (w : List ℕ) (tor : Torus S) (N : Network S w) where
       go false c l a b = omega arith
 
   -- nothing in any escape queue: whoever is held moves
-  all-empty : ((e : ℕ) → e < directions → Empty S w e) → (n q : ℕ) → n < nodes S → q < queues → length (held S w n q) ≢ 0 → Some S w
+  all-empty : ((e : ℕ) → e < directions → Empty S w e) → (n q : ℕ) → n < nodes S → q < queues → length (held S w n q) ≢ 0 → PermittedMove S w
   all-empty z n q hn hq holds = go (ℕ-discrete (hopsLeft p) 0)
     where
       p : ℕ
       p = head (held S w n q)
 
-      go : Dec (hopsLeft p ≡ 0) → Some S w
+      go : Dec (hopsLeft p ≡ 0) → PermittedMove S w
       go (yes a) = delivers n q hn hq holds a
       go (no ne) =
           let r : EscapeRoute q p = escape-route q p ne in
@@ -207,7 +207,7 @@ module _ (S : Shape) (w : List ℕ) (tor : Torus S) (N : Network S w) where
 
   -- a head in the last direction that holds anything moves, if it does not go along its own ring, or if there is room ahead
   along-or-later : (d : ℕ) → d < directions → ((e : ℕ) → d < e → e < directions → Empty S w e)
-      → (n : ℕ) → n < nodes S → length (held S w n (escapeQueue d)) ≢ 0 → Room S w (neighbour S d n) (escapeQueue d) → Some S w
+      → (n : ℕ) → n < nodes S → length (held S w n (escapeQueue d)) ≢ 0 → Room S w (neighbour S d n) (escapeQueue d) → PermittedMove S w
   unfolding Room
   along-or-later d hd later n hn holds room = go (ℕ-discrete (hopsLeft p) 0)
     where
@@ -231,11 +231,11 @@ module _ (S : Shape) (w : List ℕ) (tor : Torus S) (N : Network S w) where
           at (yes h) = absurd (r .far (f .lower (escape-is d) (r .dimension) (rw (escape-direction d hd) h)))
           at (no h) = omega arith
 
-      go : Dec (hopsLeft p ≡ 0) → Some S w
+      go : Dec (hopsLeft p ≡ 0) → PermittedMove S w
       go (yes a) = delivers n q hn hq holds a
       go (no ne) = way (escape-route q p ne)
         where
-          way : EscapeRoute q p → Some S w
+          way : EscapeRoute q p → PermittedMove S w
           way r = split (ℕ-discrete (r .dimension) (dimensionOf d))
             where
               e : ℕ
@@ -244,7 +244,7 @@ module _ (S : Shape) (w : List ℕ) (tor : Torus S) (N : Network S w) where
               he : e < directions
               he = heading-lt (r .dimension) p (r .below)
 
-              split : Dec (r .dimension ≡ dimensionOf d) → Some S w
+              split : Dec (r .dimension ≡ dimensionOf d) → PermittedMove S w
               split (yes same) = escapes n q hn hq holds r (rw own (fits-one S w n d p hd room))
                 where
                   own : e ≡ d
@@ -257,7 +257,7 @@ module _ (S : Shape) (w : List ℕ) (tor : Torus S) (N : Network S w) where
                   above l x = let y : dimensionOf e ≡ r .dimension = heading-dimension (r .dimension) p in omega arith
 
   -- the last direction that holds anything: step over from a queue that holds something to one with room
-  ring-moves : Last S w directions → Some S w
+  ring-moves : Last S w directions → PermittedMove S w
   unfolding Room
   ring-moves l = go (step-over (capacity S (escapeQueue d)) at (old .steps + (k - 1)) start room pos)
     where
@@ -294,16 +294,16 @@ module _ (S : Shape) (w : List ℕ) (tor : Torus S) (N : Network S w) where
       pos : 0 < capacity S (escapeQueue d)
       pos = let two : 2 ≤ capacity S (escapeQueue d) = two-slots d in omega arith
 
-      go : (i : ℕ) × (at i ≢ 0) × (at (suc i) < capacity S (escapeQueue d)) → Some S w
+      go : (i : ℕ) × (at i ≢ 0) × (at (suc i) < capacity S (escapeQueue d)) → PermittedMove S w
       go r =
           along-or-later d hd (l .later) (along S d (r .0) (l .node)) (along-lt S d (r .0) (l .node) tor hd (l .inside))
           (λ z. r .1 (taken-none S w (along S d (r .0) (l .node)) (escapeQueue d) z))
           (rw (one-more S d (r .0) (l .node) tor hd) (r .2))
 
-  pub alive : packetsHeld S w ≢ 0 → Some S w
+  pub alive : packetsHeld S w ≢ 0 → PermittedMove S w
   unfolding packetsHeld
   alive ne = go (last S w directions)
     where
-      go : Last S w directions ⊎ ((e : ℕ) → e < directions → Empty S w e) → Some S w
+      go : Last S w directions ⊎ ((e : ℕ) → e < directions → Empty S w e) → PermittedMove S w
       go (inl l) = ring-moves l
       go (inr z) = let (n, q, hn, hq, holds) = some-held S w ne in all-empty z n q hn hq holds

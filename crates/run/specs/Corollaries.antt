@@ -24,9 +24,9 @@ use Rattle.network.specs.FirstMovesLaws.{held-some}
 use Rattle.network.specs.Calls.{Progress, firstMove, firstAnswer, drainFrom, drained, drainAnswer, drainedMoves, offerWords}
 use Rattle.network.specs.Run.{Call, drain, Outcome, outcome, run, isLabelled, heldWith, handedWith, hopsWith, Demand3}
 use Rattle.run.specs.Step.{Ran}
-use Rattle.run.specs.Alive.{Some, alive}
+use Rattle.run.specs.Alive.{PermittedMove, alive}
 use Rattle.run.specs.DrainMoves.{drain-ran}
-use Rattle.run.specs.Stops.{Why, nothing-held, budget-used, ledger-full, drain-why}
+use Rattle.run.specs.Stops.{StopReason, nothing-held, budget-used, ledger-full, drain-why}
 use Rattle.run.specs.Theorem.{torus, no-work, no-packets, run-made, demand3}
 use Rattle.run.specs.Reached.{offer-network, offer-moves}
 
@@ -41,7 +41,7 @@ first-none-when-empty w e = rw (eq-eqb (networkRefusal w) 0 e) ((λ none. empty 
     empty : firstMove (shape w) w ≡ Found.Nothing → Dec (packetsHeld (shape w) w ≡ 0) → packetsHeld (shape w) w ≡ 0
     empty none (yes z) = z
     empty none (no ne) =
-        let s : Some (shape w) w = alive (shape w) w (torus w N) N ne in
+        let s : PermittedMove (shape w) w = alive (shape w) w (torus w N) N ne in
         absurd (first-nothing (shape w) w none (s .node) (s .queue) (s .output) (s .permitted))
 
     none : packetsHeld (shape w) w ≡ 0 → (f : Found) → Finds (Permitted (shape w) w) f → f ≡ Found.Nothing
@@ -67,7 +67,7 @@ drain-to-the-end w budget room e b l = rw (eq-eqb (networkRefusal w) 0 e) (by (d
     all : {a b c d : ℕ} {x y : Stop} → a ≡ b → c ≡ d → x ≡ y → Drained.Stopped a c x ≡ Drained.Stopped b d y
     all p q s = λ i. Drained.Stopped (p i) (q i) (s i)
 
-    by : Why (shape w) budget room r → Drained.Stopped (length (r .moves)) (length (r .deliveries)) (r .stop) ≡ Drained.Stopped (workLeft (shape w) w) (packetsHeld (shape w) w) Stop.Emptied
+    by : StopReason (shape w) budget room r → Drained.Stopped (length (r .moves)) (length (r .deliveries)) (r .stop) ≡ Drained.Stopped (workLeft (shape w) w) (packetsHeld (shape w) w) Stop.Emptied
     by (nothing-held s z) =
         let done : workLeft (shape w) (r .words) ≡ 0 = no-packets (shape w) (r .words) z in
         let x = ran .work-done in

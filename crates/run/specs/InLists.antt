@@ -28,8 +28,8 @@ after-in-lists w r a =
           let z = held-with-is l (shape w) w in
           let e = a .none-lost-or-doubled l in
           omega arith;
-      own-labels = at-home-is (r .handedOut) .0 (a .handed-out-at-home) .0;
-      at-destinations = at-home-is (r .handedOut) .0 (a .handed-out-at-home) .1;
+      own-labels = at-home-is (r .handedOut) .0 (a .handed-out-at-destination) .0;
+      at-destinations = at-home-is (r .handedOut) .0 (a .handed-out-at-destination) .1;
       risen = let l = length-map (r .handedOut) (λ (d : Delivery). d .packet) in let e = a .deliveries-made in omega arith;
       answered = leads-is w (r .moves) (r .words) .0 (a .one-by-one) .0;
       same-words = leads-is w (r .moves) (r .words) .0 (a .one-by-one) .1;

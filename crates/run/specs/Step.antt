@@ -29,7 +29,7 @@ use Rattle.network.specs.RefusalLaws.{Permitted}
 use Rattle.network.specs.Calls.{Delivery, afterMove}
 use Rattle.network.specs.SameWords.{OtherQueue}
 use Rattle.network.specs.AfterLaws.{first-rest, head-fits, onward-along, hopped, NotTarget, MoveMade, move-made, Role, is-source, is-target, is-neither, role, move-sum}
-use Rattle.network.specs.Run.{isLabelled, heldWith, handedWith, hopsOf, hopsWith, atHome}
+use Rattle.network.specs.Run.{isLabelled, heldWith, handedWith, hopsOf, hopsWith, atDestination}
 use Rattle.run.specs.Queues.{taken-few, fits-by, one, packets-sum, allOf-rest, allOf-newest}
 use Rattle.run.specs.Rings.{Shifted, ring-kept}
 use Rattle.run.specs.Hop.{Going, going, hopped-fits}
@@ -38,7 +38,7 @@ use Rattle.run.specs.Hop.{Going, going, hopped-fits}
 pub record Ran (S : Shape) (w v : List ℕ) (ds : List Delivery) (m : ℕ) : Type 0 where
   pub network : Network S v
   pub same-shape : shape v ≡ shape w
-  pub home : T (allOf atHome ds)
+  pub at-destination : T (allOf atDestination ds)
   pub labels : (l : ℕ) → handedWith l ds + heldWith l S v ≡ heldWith l S w
   pub packets : length ds + packetsHeld S v ≡ packetsHeld S w
   pub work-done : m + workLeft S v ≡ workLeft S w
@@ -60,7 +60,7 @@ ran-none S w N =
     record {
       network = N;
       same-shape = refl;
-      home = tt;
+      at-destination = tt;
       labels = λ l. zero-add (heldWith l S w);
       packets = zero-add (packetsHeld S w);
       work-done = zero-add (workLeft S w);
@@ -78,7 +78,7 @@ ran-then S u w v ds es m k a b =
     record {
       network = b .network;
       same-shape = b .same-shape ∙ a .same-shape;
-      home = allOf-append atHome ds es (a .home) (b .home);
+      at-destination = allOf-append atDestination ds es (a .at-destination) (b .at-destination);
       labels =
           λ l.
           let x : sumOf (λ d. isLabelled l (d .packet)) ds + heldWith l S w ≡ heldWith l S u = a .labels l in
@@ -124,9 +124,9 @@ hopsOf-hop l e i p h k = rw (label-hop i p h) (go (eqb (label p) l))
     go false = le-refl 0
 
 -- one packet handed out where it belongs
-home-one : (n p : ℕ) → label p ≡ p → destination p ≡ n → T (allOf atHome (record { node = n; packet = p } ∷ []))
-unfolding allOf atHome
-home-one n p own there = and-i (eqb (label p) p && eqb (destination p) n) true (and-i (eqb (label p) p) (eqb (destination p) n) (eq-T (label p) p own) (eq-T (destination p) n there)) tt
+at-destination-one : (n p : ℕ) → label p ≡ p → destination p ≡ n → T (allOf atDestination (record { node = n; packet = p } ∷ []))
+unfolding allOf atDestination
+at-destination-one n p own there = and-i (eqb (label p) p && eqb (destination p) n) true (and-i (eqb (label p) p) (eqb (destination p) n) (eq-T (label p) p own) (eq-T (destination p) n there)) tt
 
 -- a packet that has arrived is one move's work
 work-arrived : (p : ℕ) → hopsLeft p ≡ 0 → work p ≡ 1
@@ -220,7 +220,7 @@ module _ (S : Shape) (w v : List ℕ) (n q o : ℕ) (tor : Torus S) (N : Network
       record {
         network = made-network 1 handed packets done;
         same-shape = M .kept .same-shape;
-        home = home-one n p (arrived-label p arrived) (sym (head-fits S w n q N (P .node) (P .queue) (P .holds) .arrives) ∙ movedBy-here S n p tor (P .node) arrived);
+        at-destination = at-destination-one n p (arrived-label p arrived) (sym (head-fits S w n q N (P .node) (P .queue) (P .holds) .arrives) ∙ movedBy-here S n p tor (P .node) arrived);
         labels =
             λ l.
             let a = sum (isLabelled l) in
@@ -255,7 +255,7 @@ module _ (S : Shape) (w v : List ℕ) (n q o : ℕ) (tor : Torus S) (N : Network
       record {
         network = made-network 0 handed packets done;
         same-shape = M .kept .same-shape;
-        home = tt;
+        at-destination = tt;
         labels = λ l. let a = sum (isLabelled l) in let b = label-same l h p (ap label nearer ∙ label-hop (r .dimension) p (r .below)) in omega arith;
         packets = packets;
         work-done = done;

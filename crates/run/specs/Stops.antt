@@ -27,7 +27,7 @@ use Rattle.network.specs.Calls.{NamedMove, moveOf, Delivery, Progress, afterMov
 use Rattle.network.specs.DrainLaws.{Within, drain-within}
 use Rattle.network.specs.Choices.{NextDelivers, DrainStops}
 use Rattle.run.specs.Step.{Ran, step}
-use Rattle.run.specs.Alive.{Some, alive}
+use Rattle.run.specs.Alive.{PermittedMove, alive}
 use Rattle.run.specs.DrainMoves.{drain-ran}
 use Rattle.run.specs.Theorem.{torus}
 
@@ -38,13 +38,13 @@ pub record Delivers (S : Shape) (w : List ℕ) : Type 0 where
   pub first : firstMove S w ≡ Found.Move node queue deliver
 
 -- why moves stopped, by the stop that they name
-pub data Why (S : Shape) (budget room : ℕ) (r : Progress) : Type 0 where
-  nothing-held : r .stop ≡ Stop.Emptied → packetsHeld S (r .words) ≡ 0 → Why S budget room r
-  budget-used : r .stop ≡ Stop.Spent → packetsHeld S (r .words) ≢ 0 → length (r .moves) ≡ budget → Why S budget room r
-  ledger-full : r .stop ≡ Stop.Full → packetsHeld S (r .words) ≢ 0 → length (r .moves) < budget → Delivers S (r .words) → length (r .deliveries) ≡ room → Why S budget room r
+pub data StopReason (S : Shape) (budget room : ℕ) (r : Progress) : Type 0 where
+  nothing-held : r .stop ≡ Stop.Emptied → packetsHeld S (r .words) ≡ 0 → StopReason S budget room r
+  budget-used : r .stop ≡ Stop.Spent → packetsHeld S (r .words) ≢ 0 → length (r .moves) ≡ budget → StopReason S budget room r
+  ledger-full : r .stop ≡ Stop.Full → packetsHeld S (r .words) ≢ 0 → length (r .moves) < budget → Delivers S (r .words) → length (r .deliveries) ≡ room → StopReason S budget room r
 
 -- one move more, with what it handed out
-why-more : (S : Shape) (budget left room : ℕ) (k : NamedMove) (ds : List Delivery) (r : Progress) → length ds + left ≡ room → Why S budget left r → Why S (suc budget) room (oneMore k ds r)
+why-more : (S : Shape) (budget left room : ℕ) (k : NamedMove) (ds : List Delivery) (r : Progress) → length ds + left ≡ room → StopReason S budget left r → StopReason S (suc budget) room (oneMore k ds r)
 unfolding oneMore
 why-more S budget left room k ds r e (nothing-held s z) = nothing-held s z
 why-more S budget left room k ds r e (budget-used s h m) = budget-used s h (ap suc m)
@@ -54,39 +54,39 @@ why-more S budget left room k ds r e (ledger-full s h m d l) =
 
 module _ (S : Shape) (tor : Torus S) where
   why-next : (w : List ℕ) (budget room : ℕ) (f : Found) (on : ℕ → List ℕ → Progress) → Network S w → packetsHeld S w ≢ 0 → firstMove S w ≡ f
-      → Finds (Permitted S w) f → ((left : ℕ) (v : List ℕ) → Network S v → Why S budget left (on left v)) → Why S (suc budget) room (moveNext S w room f on)
+      → Finds (Permitted S w) f → ((left : ℕ) (v : List ℕ) → Network S v → StopReason S budget left (on left v)) → StopReason S (suc budget) room (moveNext S w room f on)
   unfolding moveNext deliverNext stopped
   why-next w budget room f on N ne e nothing rec =
-      let s : Some S w = alive S w tor N ne in
+      let s : PermittedMove S w = alive S w tor N ne in
       absurd (first-nothing S w e (s .node) (s .queue) (s .output) (s .permitted))
   why-next w budget room f on N ne e (named {n} {q} {o} P) rec = go (ℕ-discrete o deliver) room
     where
       after : Network S (afterMove S w n q o)
       after = step S w n q o tor N P .network
 
-      delivers : o ≡ deliver → (room′ : ℕ) → Why S (suc budget) room′ (deliverNext S w n q room′ on)
+      delivers : o ≡ deliver → (room′ : ℕ) → StopReason S (suc budget) room′ (deliverNext S w n q room′ on)
       delivers z zero = ledger-full refl ne (omega arith) (record { node = n; queue = q; first = e ∙ ap (λ (x : ℕ). Found.Move n q x) z }) refl
       delivers z (suc left) =
           why-more S budget left (suc left) (moveOf n q deliver) (record { node = n; packet = head (held S w n q) } ∷ []) (on left (afterMove S w n q deliver)) (omega arith)
           (rec left (afterMove S w n q deliver) (subst (λ (x : ℕ). Network S (afterMove S w n q x)) z after))
 
       go : Dec (o ≡ deliver) → (room′ : ℕ)
-          → Why S (suc budget) room′ (cond (eqb o deliver) (deliverNext S w n q room′ on) (oneMore (moveOf n q o) [] (on room′ (afterMove S w n q o))))
+          → StopReason S (suc budget) room′ (cond (eqb o deliver) (deliverNext S w n q room′ on) (oneMore (moveOf n q o) [] (on room′ (afterMove S w n q o))))
       go (yes z) room′ = rw (eq-eqb o deliver z) (delivers z room′)
       go (no ne′) room′ =
           rw (ne-eqb o deliver ne′) (why-more S budget room′ room′ (moveOf n q o) [] (on room′ (afterMove S w n q o)) (omega arith) (rec room′ (afterMove S w n q o) after))
 
-  pub drain-why : (budget room : ℕ) (w : List ℕ) → Network S w → Why S budget room (drainFrom S budget room w)
+  pub drain-why : (budget room : ℕ) (w : List ℕ) → Network S w → StopReason S budget room (drainFrom S budget room w)
   unfolding drainFrom stopped
   drain-why zero room w N = go (ℕ-discrete (packetsHeld S w) 0)
     where
-      go : Dec (packetsHeld S w ≡ 0) → Why S zero room (cond (eqb (packetsHeld S w) 0) (stopped w Stop.Emptied) (stopped w Stop.Spent))
+      go : Dec (packetsHeld S w ≡ 0) → StopReason S zero room (cond (eqb (packetsHeld S w) 0) (stopped w Stop.Emptied) (stopped w Stop.Spent))
       go (yes z) = rw (eq-eqb (packetsHeld S w) 0 z) (nothing-held refl z)
       go (no ne) = rw (ne-eqb (packetsHeld S w) 0 ne) (budget-used refl ne refl)
   drain-why (suc budget) room w N = go (ℕ-discrete (packetsHeld S w) 0) (λ left v M. drain-why budget left v M)
     where
-      go : Dec (packetsHeld S w ≡ 0) → ((left : ℕ) (v : List ℕ) → Network S v → Why S budget left (drainFrom S budget left v))
-          → Why S (suc budget) room (cond (eqb (packetsHeld S w) 0) (stopped w Stop.Emptied) (moveNext S w room (firstMove S w) (λ room′ w′. drainFrom S budget room′ w′)))
+      go : Dec (packetsHeld S w ≡ 0) → ((left : ℕ) (v : List ℕ) → Network S v → StopReason S budget left (drainFrom S budget left v))
+          → StopReason S (suc budget) room (cond (eqb (packetsHeld S w) 0) (stopped w Stop.Emptied) (moveNext S w room (firstMove S w) (λ room′ w′. drainFrom S budget room′ w′)))
       go (yes z) rec = rw (eq-eqb (packetsHeld S w) 0 z) (nothing-held refl z)
       go (no ne) rec =
           rw (ne-eqb (packetsHeld S w) 0 ne)
@@ -113,7 +113,7 @@ next-delivers v N d =
     }
 
 -- each stop with its own condition, and no other's
-stops-by : (budget room : ℕ) (r : Progress) → Network (shape (r .words)) (r .words) → Within budget room r → Why (shape (r .words)) budget room r
+stops-by : (budget room : ℕ) (r : Progress) → Network (shape (r .words)) (r .words) → Within budget room r → StopReason (shape (r .words)) budget room r
     → DrainStops budget room (Drained.Stopped (length (r .moves)) (length (r .deliveries)) (r .stop)) (r .words)
 unfolding drainedMoves drainedDelivered drainedStop stopCode
 stops-by budget room r N limits (nothing-held s z) =
@@ -146,7 +146,7 @@ unfolding drainAnswer drainWords drained
 drain-stops w budget room e =
     rw (eq-eqb (networkRefusal w) 0 e)
     (stops-by budget room r (subst (λ (S : Shape). Network S (r .words)) (sym same) (ran .network)) (drain-within (shape w) budget room w)
-    (subst (λ (S : Shape). Why S budget room r) (sym same) (drain-why (shape w) (torus w N) budget room w N)))
+    (subst (λ (S : Shape). StopReason S budget room r) (sym same) (drain-why (shape w) (torus w N) budget room w N)))
   where
     N : Network (shape w) w
     N = network-passed w e

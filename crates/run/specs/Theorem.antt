@@ -30,7 +30,7 @@ use Rattle.network.specs.Calls.{moveOf, unlessRefused, movedNumber, Delivery, a
 use Rattle.network.specs.Run.{Call, move, drain, Outcome, outcome, run, Leads, ledgerOf, SomeMove, AfterRun, Demand3}
 use Rattle.network.specs.RunLaws.{drain-handed, run-kept, leads-none, leads-one, leads-append}
 use Rattle.run.specs.Step.{Ran, ran-none, ran-then, handsOut, step}
-use Rattle.run.specs.Alive.{Some, alive}
+use Rattle.run.specs.Alive.{PermittedMove, alive}
 use Rattle.run.specs.DrainMoves.{drain-ran, drain-leads}
 
 -- every packet held is some work
@@ -205,7 +205,7 @@ run-made (c ∷ calls) w N = join (call-made c w N) (λ M. run-made calls (outco
 some-move : (w : List ℕ) → Network (shape w) w → packetsHeld (shape w) w ≢ 0 → SomeMove w
 unfolding moveRefusal
 some-move w N ne =
-    let s : Some (shape w) w = alive (shape w) w (torus w N) N ne in
+    let s : PermittedMove (shape w) w = alive (shape w) w (torus w N) N ne in
     record {
       named = moveOf (s .node) (s .queue) (s .output);
       permitted =
@@ -223,7 +223,7 @@ demand3 w calls e = after (run-made calls w (network-passed w e))
         let N : Network (shape (run calls w .words)) (run calls w .words) =
         subst (λ (S : Shape). Network S (run calls w .words)) (sym (r .same-shape)) (r .network) in
         record {
-          handed-out-at-home = r .home;
+          handed-out-at-destination = r .at-destination;
           none-lost-or-doubled = r .labels;
           moves-told = made .told;
           one-by-one = made .leads;

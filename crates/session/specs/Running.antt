@@ -20,7 +20,7 @@ LineWithin (Fed.Line n) buffer = n ≤ length buffer
 LineWithin Fed.TooLong buffer = Unit
 
 -- an answer given: the sheet behind it, and its bytes at the start of the buffer, which has room for them
-pub record Gave (answer : Answered) (out : List ℕ) (after : Sheet) (out′ : List ℕ) (at : ℕ) : Type 0 where
+pub record AnswerPrinted (answer : Answered) (out : List ℕ) (after : Sheet) (out′ : List ℕ) (at : ℕ) : Type 0 where
   pub leaves : after ≡ answer .sheet
   pub prints : Put out 0 (answer .output) out′ at
   pub within : at ≤ length out′

@@ -17,11 +17,11 @@ use Rattle.sheet.specs.Lines.{lineLimit, Kept}
 use Rattle.sheet.specs.Commands.{keptCommand}
 use Rattle.sheet.specs.Output.{written, Put}
 use Rattle.sheet.specs.Puts.{put-none, put-behind}
-use Rattle.sheet.specs.Cutting.{heldBytes, endedAnswer, fedBuffer, fedAnswer, finishedAnswer, handedOn, pendingAfter, Took, Cutting, feedByte, feedBytes, finishCutting}
+use Rattle.sheet.specs.Cutting.{heldBytes, endedAnswer, fedBuffer, fedAnswer, finishedAnswer, handedOn, pendingAfter, ByteFed, Cutting, feedByte, feedBytes, finishCutting}
 use Rattle.sheet.specs.Cuts.{ended-empty, ended-over, ended-cr, ended-long, ended-line, fed-end, fed-held, fed-over, finished-none, finished-long, finished-line, byte-behind, feed-append}
 use Rattle.session.specs.Session.{perform, performAll, commandRoom}
 use Rattle.session.specs.Reads.{Sheet, sheet, Answered, answerRead, cutter, carryOut, endCutting, printedBefore, carry-behind, cutter-behind}
-use Rattle.session.specs.Running.{LineWithin, fedCutting, Gave}
+use Rattle.session.specs.Running.{LineWithin, fedCutting, AnswerPrinted}
 
 -- bytes that were put without making the buffer longer lie within it
 put-within : {out : List ℕ} {at : ℕ} {bytes out′ : List ℕ} {next : ℕ} → Put out at bytes out′ next → at ≤ length out → length out′ ≡ length out → next ≤ length out′
@@ -74,13 +74,13 @@ module _ {out bytes out′ : List ℕ} {at : ℕ} (p : Put out 0 bytes out′ at
 
 -- no line, and one line
 pub gave-none : (store buffer : List ℕ) (p : Pending) (out : List ℕ)
-    → Gave (carryOut store (fedCutting buffer (Fed.More p))) out (sheet store buffer (p .count)) out 0
+    → AnswerPrinted (carryOut store (fedCutting buffer (Fed.More p))) out (sheet store buffer (p .count)) out 0
 unfolding carryOut fedCutting handedOn pendingAfter performAll
 gave-none store buffer p out = record { leaves = refl; prints = put-none out 0 (omega arith); within = omega arith }
 
 pub gave-one : (line : Kept) (store buffer out store′ out′ : List ℕ) (at : ℕ) → length out′ ≡ length out → store′ ≡ perform (keptCommand line) store .store
     → Put out 0 (perform (keptCommand line) store .output) out′ at
-    → Gave (carryOut store (record { handed = line ∷ []; buffer = buffer; pending = 0 })) out (sheet store′ buffer 0) out′ at
+    → AnswerPrinted (carryOut store (record { handed = line ∷ []; buffer = buffer; pending = 0 })) out (sheet store′ buffer 0) out′ at
 unfolding carryOut performAll
 gave-one line store buffer out store′ out′ at same does prints =
     record {
@@ -99,10 +99,10 @@ carry-byte store c s b e =
     ∙ ap (λ t. printedBefore (carryOut store c .output) (carryOut (t .store) (feedByte (cutter t) b))) (sym e)
 
 pub gave-byte : (store : List ℕ) (c : Cutting) (out : List ℕ) (s : Sheet) (out₁ : List ℕ) (at end b : ℕ) (s′ : Sheet) (part : List ℕ) (n : ℕ)
-    → Gave (carryOut store c) out s out₁ at
-    → Gave (carryOut (s .store) (feedByte (cutter s) b)) (span out₁ at end) s′ part n
+    → AnswerPrinted (carryOut store c) out s out₁ at
+    → AnswerPrinted (carryOut (s .store) (feedByte (cutter s) b)) (span out₁ at end) s′ part n
     → at ≤ end → end ≤ length out₁ → length out₁ ≡ length out → length part ≡ end - at
-    → Gave (carryOut store (feedByte c b)) out s′ (splice out₁ at end part) (at + n)
+    → AnswerPrinted (carryOut store (feedByte c b)) out s′ (splice out₁ at end part) (at + n)
 gave-byte store c out s out₁ at end b s′ part n g h low high same size =
     let k = h .within in
     let w = g .within in
@@ -123,7 +123,7 @@ next-byte c bytes i h =
 -- the first i bytes of a read are answered, and have taken no more of the buffer than so many commands may
 pub record Answering (store buffer : List ℕ) (pending : ℕ) (bytes out store′ buffer′ : List ℕ) (count : ℕ) (out′ : List ℕ) (at i : ℕ) : Type 0 where
   pub passed : i ≤ length bytes
-  pub gave : Gave (carryOut store (feedBytes (cutter (sheet store buffer pending)) (take i bytes))) out (sheet store′ buffer′ count) out′ at
+  pub gave : AnswerPrinted (carryOut store (feedBytes (cutter (sheet store buffer pending)) (take i bytes))) out (sheet store′ buffer′ count) out′ at
   pub taken : at ≤ i * commandRoom
 
 pub answering-none : (store buffer : List ℕ) (pending : ℕ) (bytes out : List ℕ) → Answering store buffer pending bytes out store buffer pending out 0 0
@@ -138,7 +138,7 @@ answering-none store buffer pending bytes out =
 module _ {store buffer : List ℕ} {pending : ℕ} {bytes out store₁ buffer₁ : List ℕ} {count : ℕ} {out₁ : List ℕ} {at i : ℕ}
     (a : Answering store buffer pending bytes out store₁ buffer₁ count out₁ at i) where
   pub answering-more : (s′ : Sheet) (part : List ℕ) (n : ℕ) → i < length bytes
-      → Gave (carryOut store₁ (feedByte (cutter (sheet store₁ buffer₁ count)) (getD bytes i 0))) (span out₁ at (at + commandRoom)) s′ part n
+      → AnswerPrinted (carryOut store₁ (feedByte (cutter (sheet store₁ buffer₁ count)) (getD bytes i 0))) (span out₁ at (at + commandRoom)) s′ part n
       → at + commandRoom ≤ length out₁ → length out₁ ≡ length out → length part ≡ at + commandRoom - at
       → Answering store buffer pending bytes out (s′ .store) (s′ .buffer) (s′ .pending) (splice out₁ at (at + commandRoom) part) (at + n) (i + 1)
   answering-more s′ part n h g room same size =
@@ -152,7 +152,7 @@ module _ {store buffer : List ℕ} {pending : ℕ} {bytes out store₁ buffer₁
         taken = omega arith;
       }
 
-  pub answering-all : length bytes ≤ i → Gave (carryOut store (feedBytes (cutter (sheet store buffer pending)) bytes)) out (sheet store₁ buffer₁ count) out₁ at
+  pub answering-all : length bytes ≤ i → AnswerPrinted (carryOut store (feedBytes (cutter (sheet store buffer pending)) bytes)) out (sheet store₁ buffer₁ count) out₁ at
   answering-all h = rw (take-all i bytes h) at (a .gave)
 
 -- a read of no bytes, and one of some
@@ -166,14 +166,14 @@ unfolding answerRead
 read-some s [] h = absurd (h refl)
 read-some s (b ∷ bs) h = refl
 
-pub read-answered : (s : Sheet) (piece out : List ℕ) (a : Answered) (s′ : Sheet) (out′ : List ℕ) (at : ℕ) → answerRead s piece ≡ a → length out′ ≡ length out → Gave a out s′ out′ at
+pub read-answered : (s : Sheet) (piece out : List ℕ) (a : Answered) (s′ : Sheet) (out′ : List ℕ) (at : ℕ) → answerRead s piece ≡ a → length out′ ≡ length out → AnswerPrinted a out s′ out′ at
     → (s′ ≡ answerRead s piece .sheet) × ((take at out′ ≡ answerRead s piece .output) × ((drop at out′ ≡ drop at out) × (at ≤ length out)))
 read-answered s piece out a s′ out′ at e same g =
     let w = g .within in
     (g .leaves ∙ ap (λ r. r .sheet) (sym e), (put-printed (g .prints) ∙ ap (λ r. r .output) (sym e), (put-rest (g .prints), omega arith)))
 
 -- the line cutter behind a byte, and behind the end of the input
-pub byte-cutting : (store buffer : List ℕ) (pending b : ℕ) (buffer′ : List ℕ) (fed : Fed) → Took buffer pending b buffer′ fed
+pub byte-cutting : (store buffer : List ℕ) (pending b : ℕ) (buffer′ : List ℕ) (fed : Fed) → ByteFed buffer pending b buffer′ fed
     → fedCutting buffer′ fed ≡ feedByte (cutter (sheet store buffer pending)) b
 unfolding fedCutting feedByte cutter
 byte-cutting store buffer pending b buffer′ fed t = ap₂ fedCutting (t .leaves) (t .answers)

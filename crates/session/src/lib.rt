@@ -14,7 +14,7 @@ ghost use Rattle.sheet.specs.Output.{Put};
 ghost use Rattle.sheet.specs.Cutting.{heldBytes, pendingAfter, feedByte, feedBytes};
 ghost use Rattle.session.specs.Session.{perform, commandRoom};
 ghost use Rattle.session.specs.Reads.{sheet, startSheet, cutter, carryOut, endCutting, answerRead};
-ghost use Rattle.session.specs.Running.{LineWithin, fedCutting, Gave};
+ghost use Rattle.session.specs.Running.{LineWithin, fedCutting, AnswerPrinted};
 
 // The bytes that any command prints at most.
 pub const COMMAND_ROOM: usize = 1314;
@@ -148,7 +148,7 @@ fn run_line(store: &mut [u64], line: &[u8], out: &mut [u8]) -> usize
 fn answer_fed(store: &mut [u64], line: &[u8], fed: Fed, out: &mut [u8]) -> usize
     requires { ⌜ commandRoom ≤ length (now out) ⌝ }
     requires { ⌜ LineWithin fed (now line) ⌝ }
-    ensures { λ r. ⌜ Gave (carryOut (now (store .entry)) (fedCutting (now (line .entry)) fed)) (now (out .entry)) (sheet (now (store .exit)) (now (line .entry)) (pendingAfter fed)) (now (out .exit)) r ⌝ }
+    ensures { λ r. ⌜ AnswerPrinted (carryOut (now (store .entry)) (fedCutting (now (line .entry)) fed)) (now (out .entry)) (sheet (now (store .exit)) (now (line .entry)) (pendingAfter fed)) (now (out .exit)) r ⌝ }
 {
     match fed {
         Fed::More(_) => 0,
@@ -172,7 +172,7 @@ fn pending_after(fed: Fed) -> usize
 fn answer_byte(store: &mut [u64], line: &mut [u8], pending: usize, b: u8, out: &mut [u8]) -> Printed
     requires { ⌜ heldBytes ≤ length (now line) ⌝ }
     requires { ⌜ commandRoom ≤ length (now out) ⌝ }
-    ensures { λ r. ⌜ Gave (carryOut (now (store .entry)) (feedByte (cutter (sheet (now (store .entry)) (now (line .entry)) pending)) b)) (now (out .entry)) (sheet (now (store .exit)) (now (line .exit)) (r .count)) (now (out .exit)) (r .at) ⌝ }
+    ensures { λ r. ⌜ AnswerPrinted (carryOut (now (store .entry)) (feedByte (cutter (sheet (now (store .entry)) (now (line .entry)) pending)) b)) (now (out .entry)) (sheet (now (store .exit)) (now (line .exit)) (r .count)) (now (out .exit)) (r .at) ⌝ }
 {
     let fed = lines::feed(line, Pending { count: pending }, b);
     let at = answer_fed(store, line, fed, out);
@@ -193,7 +193,7 @@ fn answer_bytes(
 ) -> Printed
     requires { ⌜ heldBytes ≤ length (now line) ⌝ }
     requires { ⌜ length (now bytes) * commandRoom ≤ length (now out) ⌝ }
-    ensures { λ r. ⌜ Gave (carryOut (now (store .entry)) (feedBytes (cutter (sheet (now (store .entry)) (now (line .entry)) pending)) (now (bytes .entry)))) (now (out .entry)) (sheet (now (store .exit)) (now (line .exit)) (r .count)) (now (out .exit)) (r .at) ⌝ }
+    ensures { λ r. ⌜ AnswerPrinted (carryOut (now (store .entry)) (feedBytes (cutter (sheet (now (store .entry)) (now (line .entry)) pending)) (now (bytes .entry)))) (now (out .entry)) (sheet (now (store .exit)) (now (line .exit)) (r .count)) (now (out .exit)) (r .at) ⌝ }
 {
     let mut count = pending;
     let mut at = 0;
@@ -215,7 +215,7 @@ fn answer_bytes(
 fn answer_end(store: &mut [u64], line: &[u8], pending: usize, out: &mut [u8]) -> Printed
     requires { ⌜ heldBytes ≤ length (now line) ⌝ }
     requires { ⌜ commandRoom ≤ length (now out) ⌝ }
-    ensures { λ r. ⌜ Gave (carryOut (now (store .entry)) (endCutting (cutter (sheet (now (store .entry)) (now (line .entry)) pending)))) (now (out .entry)) (sheet (now (store .exit)) (now (line .entry)) (r .count)) (now (out .exit)) (r .at) ⌝ }
+    ensures { λ r. ⌜ AnswerPrinted (carryOut (now (store .entry)) (endCutting (cutter (sheet (now (store .entry)) (now (line .entry)) pending)))) (now (out .entry)) (sheet (now (store .exit)) (now (line .entry)) (r .count)) (now (out .exit)) (r .at) ⌝ }
 {
     let fed = lines::finish(Pending { count: pending });
     let at = answer_fed(store, line, fed, out);

@@ -121,11 +121,11 @@ pub assembled-none : (buffer : List ℕ) → heldBytes ≤ length buffer → Ass
 assembled-none buffer room = record { room = room; came = inl (record { counted = refl; fits = omega arith; held = refl }) }
 
 -- what a byte brings: the line's end, and then nothing is pending; or one byte more of the line
-pub record Ends (buffer : List ℕ) (count b : ℕ) (line : List ℕ) : Type 0 where
+pub record LineEnds (buffer : List ℕ) (count b : ℕ) (line : List ℕ) : Type 0 where
   pub hands : handedOn (fedBuffer buffer count b) (fedAnswer buffer count b) ≡ kept (withoutCr line) ∷ []
   pub leaves : Assembled (fedBuffer buffer count b) (pendingAfter (fedAnswer buffer count b)) []
 
-pub record Goes (buffer : List ℕ) (count b : ℕ) (line : List ℕ) : Type 0 where
+pub record LineGrows (buffer : List ℕ) (count b : ℕ) (line : List ℕ) : Type 0 where
   pub hands : handedOn (fedBuffer buffer count b) (fedAnswer buffer count b) ≡ []
   pub leaves : Assembled (fedBuffer buffer count b) (pendingAfter (fedAnswer buffer count b)) (line ++ (b ∷ []))
 
@@ -206,7 +206,7 @@ ended-pending buffer count = go (eqb count 0) (ltb heldBytes count) (eqb (getD b
     go false false false false = refl
 
 -- a byte
-pub assembled-end : {buffer : List ℕ} {count : ℕ} {line : List ℕ} (b : ℕ) → Assembled buffer count line → b ≡ lf → Ends buffer count b line
+pub assembled-end : {buffer : List ℕ} {count : ℕ} {line : List ℕ} (b : ℕ) → Assembled buffer count line → b ≡ lf → LineEnds buffer count b line
 assembled-end {buffer} {count} {line} b a e =
     let f = fed-end buffer count b e in
     record {
@@ -214,7 +214,7 @@ assembled-end {buffer} {count} {line} b a e =
       leaves = rw (f .1, f .0, ended-pending buffer count) (assembled-none buffer (a .room));
     }
 
-pub assembled-more : {buffer : List ℕ} {count : ℕ} {line : List ℕ} (b : ℕ) → Assembled buffer count line → (b ≡ lf → ⊥) → Goes buffer count b line
+pub assembled-more : {buffer : List ℕ} {count : ℕ} {line : List ℕ} (b : ℕ) → Assembled buffer count line → (b ≡ lf → ⊥) → LineGrows buffer count b line
 unfolding handedOn pendingAfter
 assembled-more {buffer} {count} {line} b a n = go (a .came) (decLt count heldBytes)
   where
@@ -224,7 +224,7 @@ assembled-more {buffer} {count} {line} b a n = go (a .came) (decLt count heldByt
     room : heldBytes ≤ length buffer
     room = a .room
 
-    over : heldBytes ≤ count → heldBytes ≤ length line → Goes buffer count b line
+    over : heldBytes ≤ count → heldBytes ≤ length line → LineGrows buffer count b line
     over h m =
         let f = fed-over buffer count b n h in
         let l = longer in
@@ -233,7 +233,7 @@ assembled-more {buffer} {count} {line} b a n = go (a .came) (decLt count heldByt
           leaves = rw (f .1, f .0) (record { room = room; came = inr (record { over = refl; more = omega arith }) });
         }
 
-    go : Short buffer count line ⊎ Long count line → Dec (count < heldBytes) → Goes buffer count b line
+    go : Short buffer count line ⊎ Long count line → Dec (count < heldBytes) → LineGrows buffer count b line
     go (inl s) (yes h) =
         let f = fed-held buffer count b n h in
         let c = s .counted in

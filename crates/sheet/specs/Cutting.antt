@@ -36,7 +36,7 @@ fedAnswer buffer count b =
     cond (eqb b lf) (endedAnswer buffer count) (Fed.More (waiting (cond (ltb count heldBytes) (count + 1) (heldBytes + 1))))
 
 -- what `feed` leaves in the buffer and answers
-pub record Took (before : List ℕ) (count b : ℕ) (after : List ℕ) (answer : Fed) : Type 0 where
+pub record ByteFed (before : List ℕ) (count b : ℕ) (after : List ℕ) (answer : Fed) : Type 0 where
   pub leaves : after ≡ fedBuffer before count b
   pub answers : answer ≡ fedAnswer before count b
 

@@ -21,7 +21,7 @@ use Rattle.waveform.specs.declared.ValueLine.{ValueLine}
 use Rattle.waveform.specs.declared.TimeStamp.{TimeStamp}
 use Rattle.waveform.specs.declared.Names.{Names}
 use Rattle.waveform.specs.Dump.{mostVariables, variablesBegin, variablesEnd, valuesBegin, valuesEnd, variableLine, variableLines, stampLine, Change, two, valueLine, valueLines}
-use Rattle.waveform.specs.Reading.{isEnded, behind, largestTime, isStamp, readStamp, largestFill, blank, fillField, variableField, isValueLine, readValue, Run, oneMore, runWithin, run, startsWith, variablesFrom, variablesIn, behindVariables, areNames, readNames, Step, neededFrom, needed, behindNames, behindStamp, readLater, headerStamp, headerValues, tellsAll, readHeader, readStep}
+use Rattle.waveform.specs.Reading.{isEnded, behind, largestTime, isStamp, readStamp, largestFill, blank, fillField, variableField, isValueLine, readValue, ValueRun, oneMore, runWithin, valueRun, startsWith, variablesFrom, variablesIn, behindVariables, areNames, readNames, Step, neededFrom, needed, behindNames, behindStamp, readLater, headerStamp, headerValues, tellsAll, readHeader, readStep}
 use Rattle.waveform.specs.StartLaws.{starts-split}
 use Rattle.waveform.specs.ReadingLaws.{Small, Rising, namesOf, stepOf, later-read, headerOf, header-read}
 
@@ -163,7 +163,7 @@ value-only bs = good-only (IsValue bs) (λ (l : ValueLine). l .good) (isValueLin
         }
 
 -- R408: value lines one after another
-record IsRun (from : ℕ) (bs : List ℕ) (r : Run) : Type 0 where
+record IsRun (from : ℕ) (bs : List ℕ) (r : ValueRun) : Type 0 where
   begins : Begins bs (valueLines (r .changes)) (r .length)
   rising : Rising from (r .changes)
 
@@ -176,7 +176,7 @@ runs-only (suc lines) from bs =
     l : ValueLine
     l = readValue bs
 
-    rest : Run
+    rest : ValueRun
     rest = runWithin lines (suc (l .variable)) (drop (l .length) bs)
 
     go : (t : Bool) → l .good && leb from (l .variable) ≡ t → IsRun (suc (l .variable)) (drop (l .length) bs) rest
@@ -190,8 +190,8 @@ runs-only (suc lines) from bs =
         }
     go false t r = record { begins = refl; rising = tt }
 
-run-only : (bs : List ℕ) → IsRun 0 bs (run bs)
-unfolding run
+run-only : (bs : List ℕ) → IsRun 0 bs (valueRun bs)
+unfolding valueRun
 run-only bs = runs-only (length bs) 0 bs
 
 -- R403: lines of variables from number i on, as far as they are counted
@@ -290,12 +290,12 @@ record AreValues (count : ℕ) (bs : List ℕ) (cs : List Change) : Type 0 where
   rising : Rising 0 cs
   ordered : OneByOne 0 cs
 
-values-only : (count : ℕ) (bs : List ℕ) → tellsAll count bs ≡ true → AreValues count bs (run bs .changes)
+values-only : (count : ℕ) (bs : List ℕ) → tellsAll count bs ≡ true → AreValues count bs (valueRun bs .changes)
 unfolding tellsAll
 values-only count bs t =
-    let r : IsRun 0 bs (run bs) = run-only bs in
-    let cs : List Change = run bs .changes in
-    let n : ℕ = run bs .length in
+    let r : IsRun 0 bs (valueRun bs) = run-only bs in
+    let cs : List Change = valueRun bs .changes in
+    let n : ℕ = valueRun bs .length in
     let (long, t₁) = and-eq-true-iff (eqb (length cs) count) _ .0 t in
     let (need, t₂) = and-eq-true-iff (eqb (needed cs) count) _ .0 t₁ in
     let (closed, end) = and-eq-true-iff (startsWith valuesEnd (drop n bs)) (eqb (n + length valuesEnd) (length bs)) .0 t₂ in
@@ -315,14 +315,14 @@ later-only : (bs : List ℕ) → readLater bs .good ≡ true → StepIn bs (read
 unfolding readLater bytesOf
 later-only bs t =
     let rest : List ℕ = behindStamp bs in
-    let (good, end) = and-eq-true-iff (readStamp bs .good) (eqb (run rest .length) (length rest)) .0 t in
+    let (good, end) = and-eq-true-iff (readStamp bs .good) (eqb (valueRun rest .length) (length rest)) .0 t in
     let s : IsStamp bs (readStamp bs) = stamp-only bs good in
-    let r : IsRun 0 rest (run rest) = run-only rest in
+    let r : IsRun 0 rest (valueRun rest) = run-only rest in
     record {
       bytes =
           s .begins
           ∙ ap (λ l. stampLine (readStamp bs .time) ++ l)
-          (begins-all rest (valueLines (run rest .changes)) (run rest .length) (eqb-true (run rest .length) (length rest) end) (r .begins));
+          (begins-all rest (valueLines (valueRun rest .changes)) (valueRun rest .length) (eqb-true (valueRun rest .length) (length rest) end) (r .begins));
       early = s .early;
       rising = r .rising;
       all = λ h. absurd (false≢true h);
@@ -341,14 +341,14 @@ header-only bs t =
     let (opened, told) = and-eq-true-iff (startsWith valuesBegin rest) (tellsAll count values) .0 t₂ in
     let n : IsNames bs (readNames bs) = names-only bs named in
     let s : IsStamp middle (readStamp middle) = stamp-only middle stamped in
-    let v : AreValues count values (run values .changes) = values-only count values told in
-    let e : count ≡ length (run values .changes) = v .long in
+    let v : AreValues count values (valueRun values .changes) = values-only count values told in
+    let e : count ≡ length (valueRun values .changes) = v .long in
     record {
       bytes =
           n .begins
           ∙ ap (namesOf count)
           (s .begins ∙ ap (λ l. stampLine time ++ l) (starts-split valuesBegin rest opened ∙ ap (λ l. valuesBegin ++ l) (v .bytes)))
-          ∙ ap (λ k. headerOf k time (run values .changes)) e;
+          ∙ ap (λ k. headerOf k time (valueRun values .changes)) e;
       early = s .early;
       rising = v .rising;
       all =

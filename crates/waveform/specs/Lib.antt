@@ -3,7 +3,7 @@
 pub mod Dump
 pub mod Reading
 pub mod Calls
-pub mod Answers
+pub mod StepAnswers
 pub mod DumpLaws
 pub mod Lengths
 pub mod StartLaws

@@ -66,23 +66,23 @@ readValue bs =
     (record { good = false; variable = 0; fill = 0; length = 0 })
 
 -- R408: value lines one after another, their variables rising from `from` on, as far as they go
-pub record Run : Type 0 where
+pub record ValueRun : Type 0 where
   pub changes : List Change
   pub length : ℕ
 
-unfoldable pub oneMore : ValueLine → Run → Run
+unfoldable pub oneMore : ValueLine → ValueRun → ValueRun
 oneMore l r = record { changes = record { variable = l .variable; fill = l .fill } ∷ r .changes; length = l .length + r .length }
 
 -- `lines` bounds how many there are
-unfoldable pub runWithin : ℕ → ℕ → List ℕ → Run
+unfoldable pub runWithin : ℕ → ℕ → List ℕ → ValueRun
 runWithin zero from bs = record { changes = []; length = 0 }
 runWithin (suc lines) from bs =
     cond (readValue bs .good && leb from (readValue bs .variable))
     (oneMore (readValue bs) (runWithin lines (suc (readValue bs .variable)) (drop (readValue bs .length) bs)))
     (record { changes = []; length = 0 })
 
-unfoldable pub run : List ℕ → Run
-run bs = runWithin (length bs) 0 bs
+unfoldable pub valueRun : List ℕ → ValueRun
+valueRun bs = runWithin (length bs) 0 bs
 
 -- the fixed bytes stand at the start
 unfoldable pub startsWith : List ℕ → List ℕ → Bool
@@ -139,10 +139,10 @@ behindStamp bs = drop (readStamp bs .length) bs
 unfoldable pub readLater : List ℕ → Step
 readLater bs =
     record {
-      good = readStamp bs .good && eqb (run (behindStamp bs) .length) (length (behindStamp bs));
+      good = readStamp bs .good && eqb (valueRun (behindStamp bs) .length) (length (behindStamp bs));
       header = false;
       time = readStamp bs .time;
-      changes = run (behindStamp bs) .changes;
+      changes = valueRun (behindStamp bs) .changes;
     }
 
 -- a header: names, a time stamp, and a value for each variable in `$dumpvars`
@@ -155,9 +155,9 @@ headerValues bs = drop (length valuesBegin) (behindStamp (behindNames bs))
 -- the run tells every variable, and "$end" ends it and the step
 unfoldable pub tellsAll : ℕ → List ℕ → Bool
 tellsAll count bs =
-    eqb (length (run bs .changes)) count
-    && (eqb (needed (run bs .changes)) count
-    && (startsWith valuesEnd (drop (run bs .length) bs) && eqb (run bs .length + length valuesEnd) (length bs)))
+    eqb (length (valueRun bs .changes)) count
+    && (eqb (needed (valueRun bs .changes)) count
+    && (startsWith valuesEnd (drop (valueRun bs .length) bs) && eqb (valueRun bs .length + length valuesEnd) (length bs)))
 
 unfoldable pub readHeader : List ℕ → Step
 readHeader bs =
@@ -168,7 +168,7 @@ readHeader bs =
           && (startsWith valuesBegin (behindStamp (behindNames bs)) && tellsAll (readNames bs .count) (headerValues bs)));
       header = true;
       time = headerStamp bs .time;
-      changes = run (headerValues bs) .changes;
+      changes = valueRun (headerValues bs) .changes;
     }
 
 unfoldable pub readStep : List ℕ → Step

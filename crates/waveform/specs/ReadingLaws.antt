@@ -20,7 +20,7 @@ use Rattle.sheet.specs.Fields.{upTo-before, digits-lack}
 use Rattle.sheet.specs.Numerals.{numeral-digits, numeral-is-number, value-numeral}
 use Rattle.waveform.specs.declared.ValueLine.{ValueLine}
 use Rattle.waveform.specs.Dump.{mostVariables, variablesBegin, variablesEnd, valuesBegin, valuesEnd, variableLine, variableLines, stampLine, Change, two, valueLine, valueLines, tells, changesTo, changes, stepBytes}
-use Rattle.waveform.specs.Reading.{isEnded, behind, largestTime, isStamp, readStamp, largestFill, blank, isValueLine, readValue, Run, oneMore, runWithin, run, startsWith, variablesFrom, variablesIn, areNames, readNames, Step, neededFrom, needed, readLater, headerStamp, headerValues, tellsAll, readHeader, readStep, applied}
+use Rattle.waveform.specs.Reading.{isEnded, behind, largestTime, isStamp, readStamp, largestFill, blank, isValueLine, readValue, ValueRun, oneMore, runWithin, valueRun, startsWith, variablesFrom, variablesIn, areNames, readNames, Step, neededFrom, needed, readLater, headerStamp, headerValues, tellsAll, readHeader, readStep, applied}
 use Rattle.waveform.specs.Lengths.{stamp-length, value-length}
 use Rattle.waveform.specs.DumpLaws.{changeAt}
 use Rattle.waveform.specs.StartLaws.{starts-append}
@@ -117,10 +117,10 @@ unfoldable pub Rising : ℕ → List Change → Type 0
 Rising from [] = Unit
 Rising from (c ∷ cs) = Small c × (from ≤ c .variable) × Rising (suc (c .variable)) cs
 
-abbrev pub before : Change → Run → Run
+abbrev pub before : Change → ValueRun → ValueRun
 before c r = record { changes = c ∷ r .changes; length = length (valueLine c) + r .length }
 
-abbrev pub ran : List Change → Run
+abbrev pub ran : List Change → ValueRun
 ran cs = record { changes = cs; length = length (valueLines cs) }
 
 run-more : (lines from : ℕ) (c : Change) (rest : List ℕ) → Small c → from ≤ c .variable
@@ -156,8 +156,8 @@ lines-length (c ∷ cs) =
     let b = value-length c in
     omega arith
 
-pub run-read : (cs : List Change) (rest : List ℕ) → Rising 0 cs → readValue rest .good ≡ false → run (valueLines cs ++ rest) ≡ ran cs
-unfolding run
+pub run-read : (cs : List Change) (rest : List ℕ) → Rising 0 cs → readValue rest .good ≡ false → valueRun (valueLines cs ++ rest) ≡ ran cs
+unfolding valueRun
 run-read cs rest r e =
     let l = lines-length cs in
     let a = length-append (valueLines cs) rest in
@@ -318,12 +318,12 @@ abbrev pub stepOf : Bool → ℕ → List Change → Step
 stepOf header time cs = record { good = true; header = header; time = time; changes = cs }
 
 later-by : (bs : List ℕ) (time n : ℕ) (cs : List Change) → readStamp bs ≡ record { good = true; time = time; length = n } → drop n bs ≡ valueLines cs
-    → run (valueLines cs) ≡ ran cs → readLater bs ≡ stepOf false time cs
+    → valueRun (valueLines cs) ≡ ran cs → readLater bs ≡ stepOf false time cs
 unfolding readLater
 later-by bs time n cs s d r = rw (s, d, r, eq-eqb (length (valueLines cs)) (length (valueLines cs)) refl) refl
 
-run-last : (cs : List Change) → Rising 0 cs → run (valueLines cs) ≡ ran cs
-run-last cs r = ap run (sym (append-nil (valueLines cs))) ∙ run-read cs [] r (no-value [] refl)
+run-last : (cs : List Change) → Rising 0 cs → valueRun (valueLines cs) ≡ ran cs
+run-last cs r = ap valueRun (sym (append-nil (valueLines cs))) ∙ run-read cs [] r (no-value [] refl)
 
 pub later-read : (time : ℕ) (cs : List Change) → time ≤ largestTime → Rising 0 cs → readLater (stampLine time ++ valueLines cs) ≡ stepOf false time cs
 later-read time cs h r =
@@ -335,12 +335,12 @@ header-by : (bs middle values lines : List ℕ) (count time n m : ℕ) (cs : Lis
     → readNames bs ≡ record { good = true; count = count; length = n } → drop n bs ≡ middle
     → readStamp middle ≡ record { good = true; time = time; length = m } → drop m middle ≡ values
     → startsWith valuesBegin values ≡ true → drop (length valuesBegin) values ≡ lines
-    → run lines .changes ≡ cs → tellsAll count lines ≡ true
+    → valueRun lines .changes ≡ cs → tellsAll count lines ≡ true
     → readHeader bs ≡ stepOf true time cs
 unfolding readHeader headerStamp headerValues
 header-by bs middle values lines count time n m cs names b stamp v s d r t = rw (names, b, stamp, v, s, d, r, t) refl
 
-tells-all : (count : ℕ) (lines : List ℕ) (cs : List Change) → run lines ≡ ran cs → length cs ≡ count → needed cs ≡ count
+tells-all : (count : ℕ) (lines : List ℕ) (cs : List Change) → valueRun lines ≡ ran cs → length cs ≡ count → needed cs ≡ count
     → drop (length (valueLines cs)) lines ≡ valuesEnd → length (valueLines cs) + length valuesEnd ≡ length lines
     → tellsAll count lines ≡ true
 unfolding tellsAll startsWith
@@ -355,7 +355,7 @@ pub header-read : (count time : ℕ) (cs : List Change) → 1 ≤ count → coun
 header-read count time cs some few whole h r l n =
     let lines : List ℕ = valueLines cs ++ valuesEnd in
     let values : List ℕ = valuesBegin ++ lines in
-    let told : run lines ≡ ran cs = run-read cs valuesEnd r (no-value valuesEnd refl) in
+    let told : valueRun lines ≡ ran cs = run-read cs valuesEnd r (no-value valuesEnd refl) in
     header-by (headerOf count time cs) (stampLine time ++ values) values lines count time (namesLength count) (length (stampLine time)) cs
     (names-read count (stampLine time ++ values) some few whole)
     (behind-names count (stampLine time ++ values))
@@ -363,7 +363,7 @@ header-read count time cs some few whole h r l n =
     (drop-append-seam (stampLine time) values)
     (starts-append valuesBegin lines)
     (drop-append-seam valuesBegin lines)
-    (ap (λ (a : Run). a .changes) told)
+    (ap (λ (a : ValueRun). a .changes) told)
     (tells-all count lines cs told l n (drop-append-seam (valueLines cs) valuesEnd) (sym (length-append (valueLines cs) valuesEnd)))
 
 -- what a step tells is small enough to be told, and of whole nodes

@@ -17,7 +17,7 @@ use Rattle.network.specs.RefusalLaws.{neither}
 use Rattle.waveform.specs.Dump.{variablesOf, fills, Change, changes}
 use Rattle.waveform.specs.Reading.{readStep, needed, applied}
 use Rattle.waveform.specs.Calls.{fillsNow, writeRules, writeRefusal, writeAnswer, writePage, writeList, writtenLength, writtenStep, readRefusal, stepTold, readAnswer, readList, readNumber, readTime}
-use Rattle.waveform.specs.Answers.{read-tells}
+use Rattle.waveform.specs.StepAnswers.{read-tells}
 use Rattle.waveform.specs.DumpLaws.{fills-length, fill-most, variables-most, variables-some, time-most}
 use Rattle.waveform.specs.ReadingLaws.{Tellable, stepOf, step-read, changes-rise, untold, applied-changes}
 

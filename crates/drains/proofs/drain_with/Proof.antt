@@ -4,7 +4,7 @@ use mathlib.Core.Path.{refl, sym, subst}
 use Prim.Native.Nat.{ℕ, _≤_}
 use denote.Ref.{now}
 use Rattle.network.specs.Sizes.{shapeOf, mostNodes}
-use Rattle.headset.specs.Set.{Filled}
+use Rattle.headset.specs.Set.{HeadsBelow}
 use Rattle.ready.specs.ReadyHeads.{covered-filled}
 use Rattle.network.specs.TorusLaws.{sizes-nodes}
 use Rattle.drains.proofs.drain_with.Statement.{statement}
@@ -31,7 +31,7 @@ take-turns-requires c κs =
       (
         f .fill .ensures,
         covered-filled (shapeOf (a .args .s)) (now (a .args .words)) (r .fill2 .last .0)
-            (subst (λ (x : ℕ). Filled (r .fill2 .last .0) x) (n .nodes .ensures) (r .fill2 .ensures)),
+            (subst (λ (x : ℕ). HeadsBelow (r .fill2 .last .0) x) (n .nodes .ensures) (r .fill2 .ensures)),
       ),
     )
 

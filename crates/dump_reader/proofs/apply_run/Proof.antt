@@ -4,7 +4,7 @@ use native.Mathlib.Omega.{arith}
 use borrow.Author.Needs.{needs}
 use borrow.Author.Tests.{not-true, not-false}
 use lib.ListN.{length}
-use Rattle.dump_reader.proofs.Runs.{Applying, applying-none, applying-end, applying-stop, applying-more, applying-index, Goes, line-goes}
+use Rattle.dump_reader.proofs.Runs.{Applying, applying-none, applying-end, applying-stop, applying-more, applying-index, LineContinues, line-goes}
 use Rattle.dump_reader.proofs.apply_run.Statement.{statement}
 use Rattle.dump_reader.proofs.apply_run.Tie as tie
 
@@ -29,7 +29,7 @@ slice-write-fills c =
 
 -- the line goes on with the run
 goes : (c : tie.Else1 Inv-loop μ-loop)
-    → Goes (c .before .before .before .before .before .before .before .before .args .bytes .now) (c .before .before .before .before .before .loop .at)
+    → LineContinues (c .before .before .before .before .before .before .before .before .args .bytes .now) (c .before .before .before .before .before .loop .at)
     (c .before .before .read-value .result)
 goes c =
     let v = c .before .before in

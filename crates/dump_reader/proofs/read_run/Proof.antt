@@ -4,7 +4,7 @@ use native.Mathlib.Omega.{arith}
 use borrow.Author.Needs.{needs}
 use borrow.Author.Tests.{not-true, not-false}
 use lib.ListN.{length}
-use Rattle.dump_reader.proofs.Runs.{Reading, reading-none, reading-end, reading-stop, reading-more, Goes, line-goes}
+use Rattle.dump_reader.proofs.Runs.{Reading, reading-none, reading-end, reading-stop, reading-more, LineContinues, line-goes}
 use Rattle.dump_reader.proofs.read_run.Statement.{statement}
 use Rattle.dump_reader.proofs.read_run.Tie as tie
 
@@ -24,7 +24,7 @@ returns c =
 
 -- the line goes on with the run
 goes : (c : tie.Else1 Inv-loop μ-loop)
-    → Goes (c .before .before .before .before .before .before .before .args .bytes .now) (c .before .before .before .before .before .loop .at)
+    → LineContinues (c .before .before .before .before .before .before .before .args .bytes .now) (c .before .before .before .before .before .loop .at)
     (c .before .before .read-value .result)
 goes c =
     let v = c .before .before in

@@ -3,7 +3,7 @@ use borrow.Author.Needs.{needs}
 use mathlib.Core.Path.{sym, subst}
 use mathlib.Core.Bool.{false}
 use denote.Ref.{now}
-use Rattle.waveform.specs.Answers.{WriteTells, write-tells}
+use Rattle.waveform.specs.StepAnswers.{WriteTells, write-tells}
 use Rattle.dump_writer.proofs.write_changes.Statement.{statement}
 use Rattle.dump_writer.proofs.write_changes.Tie as tie
 

@@ -8,7 +8,7 @@ use borrow.Author.Needs.{needs}
 use borrow.Author.Tests.{eqb-true, eqb-false}
 use lib.Dec.{eqb}
 use lib.ListN.{length}
-use Rattle.routes.specs.Lines.{lines}
+use Rattle.routes.specs.Lines.{selectionLines}
 use Rattle.queue.specs.HeldWords.{asked, inside-at}
 use Rattle.first.proofs.Searching.{Reading, AtLine, found-from-first, output-lt, line-none, line-refused, line-found, lines-none, queue-none}
 use Rattle.first.proofs.first_in_queue.Statement.{statement}
@@ -18,7 +18,7 @@ abbrev Inv-loop : tie.InvT-loop
 Inv-loop words s near n q start p outputs k₀ k = AtLine s words n q outputs k
 
 abbrev μ-loop : tie.MeasureT-loop
-μ-loop words s near n q start p outputs k₀ k = lines - k
+μ-loop words s near n q start p outputs k₀ k = selectionLines - k
 
 -- a test that says whether a rule's number is 0
 passed : (said : Bool) (number : ℕ) → said ≡ eqb number 0 → said ≡ true → number ≡ 0

@@ -11,7 +11,7 @@ use Rattle.network.specs.declared.Found.{Found}
 use Rattle.network.specs.Sizes.{shapeOf, nodes, queues}
 use Rattle.network.specs.Layout.{accepted, delivered}
 use Rattle.network.specs.Calls.{firstInQueue, firstMove}
-use Rattle.routes.specs.Lines.{lines}
+use Rattle.routes.specs.Lines.{selectionLines}
 use Rattle.queue.specs.QueueOf.{QueueOf}
 use Rattle.network.specs.LayoutLaws.{header-long}
 use Rattle.queue.specs.HeldWords.{inside-at}
@@ -24,7 +24,7 @@ abbrev Inv-loop2 : tie.InvT-loop2
 Inv-loop2 words s found₀ node₀ queue₀ output₀ start total n q p outputs k₀ found node queue output k = (found ≡ false) × AtLine s words n q outputs k
 
 abbrev μ-loop2 : tie.MeasureT-loop2
-μ-loop2 words s found₀ node₀ queue₀ output₀ start total n q p outputs k₀ found node queue output k = lines - k
+μ-loop2 words s found₀ node₀ queue₀ output₀ start total n q p outputs k₀ found node queue output k = selectionLines - k
 
 abbrev Inv-loop : tie.InvT-loop
 Inv-loop words s found₀ node₀ queue₀ output₀ start₀ total n q₀ found node queue output start q = AtQueue s words n found start q

@@ -4,13 +4,13 @@ use mathlib.Core.Path.{_≡_, ap, sym, _∙_}
 use Prim.Native.Nat.{_-_, _≤_}
 use native.Mathlib.Omega.{arith}
 use lib.ListN.{length}
-use Rattle.headset.specs.Set.{Filled}
+use Rattle.headset.specs.Set.{HeadsBelow}
 use Rattle.headset.proofs.Sets.{filled-none, filled-more}
 use Rattle.headset.proofs.fill.Statement.{statement}
 use Rattle.headset.proofs.fill.Tie as tie
 
 abbrev Inv-loop : tie.InvT-loop
-Inv-loop set₀ count n₀ set n = Filled set n × (n ≤ count)
+Inv-loop set₀ count n₀ set n = HeadsBelow set n × (n ≤ count)
 
 abbrev μ-loop : tie.MeasureT-loop
 μ-loop set₀ count n₀ set n = count - n

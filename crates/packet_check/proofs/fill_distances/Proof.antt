@@ -3,13 +3,13 @@ use borrow.Author.Needs.{needs}
 use Prim.Native.Nat.{_-_, _≤_}
 use native.Mathlib.Omega.{arith}
 use Rattle.network.specs.Packet.{offsetValues}
-use Rattle.packet_check.specs.Tables.{firstDistance, distanceAt, Filled}
+use Rattle.packet_check.specs.Tables.{firstDistance, distanceAt, PartWritten}
 use Rattle.packet_check.proofs.TableLaws.{filled-none, filled-more, filled-all}
 use Rattle.packet_check.proofs.fill_distances.Statement.{statement}
 use Rattle.packet_check.proofs.fill_distances.Tie as tie
 
 abbrev Inv-loop : tie.InvT-loop
-Inv-loop tables₀ a₀ tables a = Filled tables₀ tables firstDistance a distanceAt × (a ≤ offsetValues)
+Inv-loop tables₀ a₀ tables a = PartWritten tables₀ tables firstDistance a distanceAt × (a ≤ offsetValues)
 
 abbrev μ-loop : tie.MeasureT-loop
 μ-loop tables₀ a₀ tables a = offsetValues - a

@@ -3,13 +3,13 @@ use borrow.Author.Needs.{needs}
 use Prim.Native.Nat.{_+_, _*_, _-_, _≤_}
 use native.Mathlib.Omega.{arith}
 use Rattle.network.specs.Sizes.{shapeOf, queues}
-use Rattle.packet_check.specs.Tables.{ringWords, dimensionWords, passing, Filled}
+use Rattle.packet_check.specs.Tables.{ringWords, dimensionWords, passing, PartWritten}
 use Rattle.packet_check.proofs.TableLaws.{filled-none, filled-more, filled-all}
 use Rattle.packet_check.proofs.fill_passing.Statement.{statement}
 use Rattle.packet_check.proofs.fill_passing.Tie as tie
 
 abbrev Inv-loop : tie.InvT-loop
-Inv-loop tables₀ s i q₀ tables q = Filled tables₀ tables (i * dimensionWords + ringWords) q (λ m. passing (shapeOf s) m i) × (q ≤ queues)
+Inv-loop tables₀ s i q₀ tables q = PartWritten tables₀ tables (i * dimensionWords + ringWords) q (λ m. passing (shapeOf s) m i) × (q ≤ queues)
 
 abbrev μ-loop : tie.MeasureT-loop
 μ-loop tables₀ s i q₀ tables q = queues - q

@@ -4,13 +4,13 @@ use Prim.Native.Nat.{ℕ, _*_, _-_, _%_, _<_, _≤_}
 use native.Mathlib.Omega.{arith}
 use native.Mathlib.Nat.{mul-le-mul, zero-mod}
 use Rattle.network.specs.Sizes.{largestRing}
-use Rattle.packet_check.specs.Tables.{dimensionWords, Filled}
+use Rattle.packet_check.specs.Tables.{dimensionWords, PartWritten}
 use Rattle.packet_check.proofs.TableLaws.{filled-none, filled-more, filled-all, carried, on-ring}
 use Rattle.packet_check.proofs.fill_ring.Statement.{statement}
 use Rattle.packet_check.proofs.fill_ring.Tie as tie
 
 abbrev Inv-loop : tie.InvT-loop
-Inv-loop tables₀ i k weight c₀ j₀ tables c j = Filled tables₀ tables (i * dimensionWords) j (λ m. weight * (m % k)) × (c ≡ j % k) × (j ≤ 3 * k)
+Inv-loop tables₀ i k weight c₀ j₀ tables c j = PartWritten tables₀ tables (i * dimensionWords) j (λ m. weight * (m % k)) × (c ≡ j % k) × (j ≤ 3 * k)
 
 abbrev μ-loop : tie.MeasureT-loop
 μ-loop tables₀ i k weight c₀ j₀ tables c j = 3 * k - j

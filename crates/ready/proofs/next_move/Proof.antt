@@ -6,7 +6,7 @@ use Prim.Native.Nat.{ℕ, _-_, _<_, _≤_}
 use native.Mathlib.Omega.{arith}
 use lib.ListN.{length}
 use denote.Ref.{now}
-use Rattle.headset.specs.Set.{heads, Lowest}
+use Rattle.headset.specs.Set.{heads, LowestMember}
 use Rattle.network.specs.Sizes.{shapeOf, nodes, mostNodes}
 use Rattle.network.specs.TorusLaws.{sizes-nodes}
 use Rattle.ready.specs.ReadyHeads.{Covered, covered-removed, lowest-first, lowest-rises, lowest-none, refused-some, move-some}
@@ -14,7 +14,7 @@ use Rattle.ready.proofs.next_move.Statement.{statement}
 use Rattle.ready.proofs.next_move.Tie as tie
 
 abbrev Inv-loop : tie.InvT-loop
-Inv-loop words s near ready₀ h₀ ready h = Covered (shapeOf s) words ready × Lowest ready h × (length ready ≡ length ready₀)
+Inv-loop words s near ready₀ h₀ ready h = Covered (shapeOf s) words ready × LowestMember ready h × (length ready ≡ length ready₀)
 
 abbrev μ-loop : tie.MeasureT-loop
 μ-loop words s near ready₀ h₀ ready h = heads - h

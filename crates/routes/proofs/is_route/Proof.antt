@@ -9,21 +9,21 @@ use borrow.Author.Needs.{needs}
 use lib.ListN.{drop, length}
 use Rattle.base.specs.Tests.{elem}
 use Rattle.network.specs.Routes.{routes}
-use Rattle.routes.specs.Lines.{lines, outputsFrom}
+use Rattle.routes.specs.Lines.{selectionLines, outputsFrom}
 use Rattle.routes.proofs.Laws.{elem-here, elem-passed, elem-other, elem-end}
 use Rattle.routes.proofs.is_route.Statement.{statement}
 use Rattle.routes.proofs.is_route.Tie as tie
 
 abbrev Inv-loop : tie.InvT-loop
-Inv-loop q p o outputs k₀ k = (k ≤ lines) × (elem o (outputsFrom k (drop k outputs)) ≡ elem o (routes q p))
+Inv-loop q p o outputs k₀ k = (k ≤ selectionLines) × (elem o (outputsFrom k (drop k outputs)) ≡ elem o (routes q p))
 
 abbrev μ-loop : tie.MeasureT-loop
-μ-loop q p o outputs k₀ k = lines - k
+μ-loop q p o outputs k₀ k = selectionLines - k
 
-within : {k : ℕ} (r : List ℕ) → length r ≡ lines → k < lines → k < length r
+within : {k : ℕ} (r : List ℕ) → length r ≡ selectionLines → k < selectionLines → k < length r
 within r e h = omega arith
 
-ended : {k : ℕ} (r : List ℕ) → length r ≡ lines → k ≤ lines → lines ≤ k → k ≡ length r
+ended : {k : ℕ} (r : List ℕ) → length r ≡ selectionLines → k ≤ selectionLines → selectionLines ≤ k → k ≡ length r
 ended r e h l = omega arith
 
 loop-holds : tie.Need-loop-holds Inv-loop μ-loop
