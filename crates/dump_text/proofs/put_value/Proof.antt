@@ -29,31 +29,41 @@ code s = decimal (s .args .variable)
 abbrev end : tie.Start → List ℕ
 end s = lf ∷ []
 
-all : (s : tie.Start) → Left s (s .args .page .now) (s .args .at) (letter s ++ (bits s ++ (blank s ++ (code s ++ end s))))
+-- what is left behind each run
+abbrev after-blank : tie.Start → List ℕ
+after-blank s = code s ++ end s
+
+abbrev after-bits : tie.Start → List ℕ
+after-bits s = blank s ++ after-blank s
+
+abbrev after-letter : tie.Start → List ℕ
+after-letter s = bits s ++ after-bits s
+
+all : (s : tie.Start) → Left s (s .args .page .now) (s .args .at) (letter s ++ after-letter s)
 unfolding valueLine
 all s = all-to-put (s .args .page .now) (s .args .at) (valueLine (record { variable = s .args .variable; fill = s .args .fill })) (s .pre)
 
 abbrev from-letter : tie.After-put-byte → tie.Start
 from-letter c = c .before .before .before
 
-behind-letter : (c : tie.After-put-byte) → Left (from-letter c) (c .put-byte .last .0) (c .put-byte .result) (bits (from-letter c) ++ (blank (from-letter c) ++ (code (from-letter c) ++ end (from-letter c))))
-behind-letter c = let s = from-letter c in run-put (letter s) (bits s ++ (blank s ++ (code s ++ end s))) (all s) (c .put-byte .ensures)
+behind-letter : (c : tie.After-put-byte) → Left (from-letter c) (c .put-byte .last .0) (c .put-byte .result) (after-letter (from-letter c))
+behind-letter c = let s = from-letter c in run-put (letter s) (after-letter s) (all s) (c .put-byte .ensures)
 
 abbrev from-bits : tie.After-put-number → tie.Start
 from-bits c = from-letter (c .before .before .before .before)
 
-behind-bits : (c : tie.After-put-number) → Left (from-bits c) (c .put-number .last .0) (c .put-number .result) (blank (from-bits c) ++ (code (from-bits c) ++ end (from-bits c)))
+behind-bits : (c : tie.After-put-number) → Left (from-bits c) (c .put-number .last .0) (c .put-number .result) (after-bits (from-bits c))
 behind-bits c =
     let s = from-bits c in
-    run-put (bits s) (blank s ++ (code s ++ end s)) (behind-letter (c .before .before .before .before)) (c .put-number .ensures)
+    run-put (bits s) (after-bits s) (behind-letter (c .before .before .before .before)) (c .put-number .ensures)
 
 abbrev from-blank : tie.After-put-byte2 → tie.Start
 from-blank c = from-bits (c .before .before .before .before)
 
-behind-blank : (c : tie.After-put-byte2) → Left (from-blank c) (c .put-byte2 .last .0) (c .put-byte2 .result) (code (from-blank c) ++ end (from-blank c))
+behind-blank : (c : tie.After-put-byte2) → Left (from-blank c) (c .put-byte2 .last .0) (c .put-byte2 .result) (after-blank (from-blank c))
 behind-blank c =
     let s = from-blank c in
-    run-put (blank s) (code s ++ end s) (behind-bits (c .before .before .before .before)) (c .put-byte2 .ensures)
+    run-put (blank s) (after-blank s) (behind-bits (c .before .before .before .before)) (c .put-byte2 .ensures)
 
 abbrev from-code : tie.After-put-number2 → tie.Start
 from-code c = from-blank (c .before .before .before .before)
@@ -64,17 +74,17 @@ behind-code c =
     run-put (code s) (end s) (behind-blank (c .before .before .before .before)) (c .put-number2 .ensures)
 
 put-byte-requires : tie.Need-put-byte-requires
-put-byte-requires c κs = let s = c .before .before in run-room (letter s) (bits s ++ (blank s ++ (code s ++ end s))) (all s)
+put-byte-requires c κs = let s = c .before .before in run-room (letter s) (after-letter s) (all s)
 
 put-number-requires : tie.Need-put-number-requires
 put-number-requires c κs =
     let s = from-letter (c .before .before .before) in
-    ((omega arith, omega arith), run-room (bits s) (blank s ++ (code s ++ end s)) (behind-letter (c .before .before .before)))
+    ((omega arith, omega arith), run-room (bits s) (after-bits s) (behind-letter (c .before .before .before)))
 
 put-byte-requires-2 : tie.Need-put-byte-requires-2
 put-byte-requires-2 c κs =
     let s = from-bits (c .before .before .before) in
-    run-room (blank s) (code s ++ end s) (behind-bits (c .before .before .before))
+    run-room (blank s) (after-blank s) (behind-bits (c .before .before .before))
 
 put-number-requires-2 : tie.Need-put-number-requires-2
 put-number-requires-2 c κs =

@@ -36,47 +36,63 @@ queue s = decimal (s .args .i % queues)
 abbrev end : tie.Start → List ℕ
 end s = text " $end\n"
 
-all : (s : tie.Start) → Left s (s .args .page .now) (s .args .at) (kind s ++ (code s ++ (n s ++ (node s ++ (q s ++ (queue s ++ end s))))))
+-- what is left behind each run
+abbrev after-q : tie.Start → List ℕ
+after-q s = queue s ++ end s
+
+abbrev after-node : tie.Start → List ℕ
+after-node s = q s ++ after-q s
+
+abbrev after-n : tie.Start → List ℕ
+after-n s = node s ++ after-node s
+
+abbrev after-code : tie.Start → List ℕ
+after-code s = n s ++ after-n s
+
+abbrev after-kind : tie.Start → List ℕ
+after-kind s = code s ++ after-code s
+
+all : (s : tie.Start) → Left s (s .args .page .now) (s .args .at) (kind s ++ after-kind s)
 unfolding variableLine
 all s = all-to-put (s .args .page .now) (s .args .at) (variableLine (s .args .i)) (s .pre)
 
 abbrev from-kind : tie.After-put-bytes → tie.Start
 from-kind c = c .before .before .before .before
 
-behind-kind : (c : tie.After-put-bytes) → Left (from-kind c) (c .put-bytes .last .0) (c .put-bytes .result) (code (from-kind c) ++ (n (from-kind c) ++ (node (from-kind c) ++ (q (from-kind c) ++ (queue (from-kind c) ++ end (from-kind c))))))
-behind-kind c = let s = from-kind c in run-put (kind s) (code s ++ (n s ++ (node s ++ (q s ++ (queue s ++ end s))))) (all s) (c .put-bytes .ensures)
+behind-kind : (c : tie.After-put-bytes) → Left (from-kind c) (c .put-bytes .last .0) (c .put-bytes .result) (after-kind (from-kind c))
+behind-kind c = let s = from-kind c in run-put (kind s) (after-kind s) (all s) (c .put-bytes .ensures)
 
 abbrev from-code : tie.After-put-number → tie.Start
 from-code c = from-kind (c .before .before .before .before)
 
-behind-code : (c : tie.After-put-number) → Left (from-code c) (c .put-number .last .0) (c .put-number .result) (n (from-code c) ++ (node (from-code c) ++ (q (from-code c) ++ (queue (from-code c) ++ end (from-code c)))))
+behind-code : (c : tie.After-put-number) → Left (from-code c) (c .put-number .last .0) (c .put-number .result) (after-code (from-code c))
 behind-code c =
     let s = from-code c in
-    run-put (code s) (n s ++ (node s ++ (q s ++ (queue s ++ end s)))) (behind-kind (c .before .before .before .before)) (c .put-number .ensures)
+    run-put (code s) (after-code s) (behind-kind (c .before .before .before .before)) (c .put-number .ensures)
 
 abbrev from-n : tie.After-put-bytes2 → tie.Start
 from-n c = from-code (c .before .before .before .before .before)
 
-behind-n : (c : tie.After-put-bytes2) → Left (from-n c) (c .put-bytes2 .last .0) (c .put-bytes2 .result) (node (from-n c) ++ (q (from-n c) ++ (queue (from-n c) ++ end (from-n c))))
+behind-n : (c : tie.After-put-bytes2) → Left (from-n c) (c .put-bytes2 .last .0) (c .put-bytes2 .result) (after-n (from-n c))
 behind-n c =
     let s = from-n c in
-    run-put (n s) (node s ++ (q s ++ (queue s ++ end s))) (behind-code (c .before .before .before .before .before)) (c .put-bytes2 .ensures)
+    run-put (n s) (after-n s) (behind-code (c .before .before .before .before .before)) (c .put-bytes2 .ensures)
 
 abbrev from-node : tie.After-put-number2 → tie.Start
 from-node c = from-n (c .before .before .before .before)
 
-behind-node : (c : tie.After-put-number2) → Left (from-node c) (c .put-number2 .last .0) (c .put-number2 .result) (q (from-node c) ++ (queue (from-node c) ++ end (from-node c)))
+behind-node : (c : tie.After-put-number2) → Left (from-node c) (c .put-number2 .last .0) (c .put-number2 .result) (after-node (from-node c))
 behind-node c =
     let s = from-node c in
-    run-put (node s) (q s ++ (queue s ++ end s)) (behind-n (c .before .before .before .before)) (c .put-number2 .ensures)
+    run-put (node s) (after-node s) (behind-n (c .before .before .before .before)) (c .put-number2 .ensures)
 
 abbrev from-q : tie.After-put-bytes3 → tie.Start
 from-q c = from-node (c .before .before .before .before .before)
 
-behind-q : (c : tie.After-put-bytes3) → Left (from-q c) (c .put-bytes3 .last .0) (c .put-bytes3 .result) (queue (from-q c) ++ end (from-q c))
+behind-q : (c : tie.After-put-bytes3) → Left (from-q c) (c .put-bytes3 .last .0) (c .put-bytes3 .result) (after-q (from-q c))
 behind-q c =
     let s = from-q c in
-    run-put (q s) (queue s ++ end s) (behind-node (c .before .before .before .before .before)) (c .put-bytes3 .ensures)
+    run-put (q s) (after-q s) (behind-node (c .before .before .before .before .before)) (c .put-bytes3 .ensures)
 
 abbrev from-queue : tie.After-put-number3 → tie.Start
 from-queue c = from-q (c .before .before .before .before)
@@ -87,27 +103,27 @@ behind-queue c =
     run-put (queue s) (end s) (behind-q (c .before .before .before .before)) (c .put-number3 .ensures)
 
 put-bytes-requires : tie.Need-put-bytes-requires
-put-bytes-requires c κs = let s = c .before .before .before in run-room (kind s) (code s ++ (n s ++ (node s ++ (q s ++ (queue s ++ end s))))) (all s)
+put-bytes-requires c κs = let s = c .before .before .before in run-room (kind s) (after-kind s) (all s)
 
 put-number-requires : tie.Need-put-number-requires
 put-number-requires c κs =
     let s = from-kind (c .before .before .before) in
-    ((omega arith, omega arith), run-room (code s) (n s ++ (node s ++ (q s ++ (queue s ++ end s)))) (behind-kind (c .before .before .before)))
+    ((omega arith, omega arith), run-room (code s) (after-code s) (behind-kind (c .before .before .before)))
 
 put-bytes-requires-2 : tie.Need-put-bytes-requires-2
 put-bytes-requires-2 c κs =
     let s = from-code (c .before .before .before .before) in
-    run-room (n s) (node s ++ (q s ++ (queue s ++ end s))) (behind-code (c .before .before .before .before))
+    run-room (n s) (after-n s) (behind-code (c .before .before .before .before))
 
 put-number-requires-2 : tie.Need-put-number-requires-2
 put-number-requires-2 c κs =
     let s = from-n (c .before .before .before) in
-    ((omega arith, omega arith), run-room (node s) (q s ++ (queue s ++ end s)) (behind-n (c .before .before .before)))
+    ((omega arith, omega arith), run-room (node s) (after-node s) (behind-n (c .before .before .before)))
 
 put-bytes-requires-3 : tie.Need-put-bytes-requires-3
 put-bytes-requires-3 c κs =
     let s = from-node (c .before .before .before .before) in
-    run-room (q s) (queue s ++ end s) (behind-node (c .before .before .before .before))
+    run-room (q s) (after-q s) (behind-node (c .before .before .before .before))
 
 put-number-requires-3 : tie.Need-put-number-requires-3
 put-number-requires-3 c κs =
