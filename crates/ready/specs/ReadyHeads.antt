@@ -51,7 +51,10 @@ pub covered-filled : (S : Shape) (w set : List ℕ) → HeadsBelow set (nodes S)
 covered-filled S w set f =
     record {
       set-of = f .set;
-      heads = λ h e. let (a, b) = both-true (ltb (h / nodeHeads) (nodes S)) (ltb (h % nodeHeads) queues) (sym (f .members h) ∙ e) in (ltb-true (h / nodeHeads) (nodes S) a, ltb-true (h % nodeHeads) queues b);
+      heads =
+          λ h e.
+          let (a, b) = both-true (ltb (h / nodeHeads) (nodes S)) (ltb (h % nodeHeads) queues) (sym (f .members h) ∙ e) in
+          (ltb-true (h / nodeHeads) (nodes S) a, ltb-true (h % nodeHeads) queues b);
       others = λ n q hn hq e. absurd (true≢false (sym (f .members (headOf n q) ∙ here n q hn hq) ∙ e));
     }
   where

@@ -30,14 +30,11 @@ there-is c =
 mark-head-requires : tie.Need-mark-head-requires
 mark-head-requires c κs =
     let l = c .before in
-    let a = start l in (
-      a .pre .0,
-      (
-        a .pre .1 .0 .0,
-        neighbour-node (shapeOf (a .args .s)) (l .before .direction-of .result) (a .args .n) (l .look-up .result) (sizes-torus (a .args .s) (a .pre .1 .0 .0)) (a .pre .1 .0 .1) (omega arith) (there-is l),
-        a .pre .1 .0 .2,
-      ),
-    )
+    let a = start l in
+    let p = a .pre .1 .0 in
+    let d = l .before .direction-of .result in
+    let there = neighbour-node (shapeOf (a .args .s)) d (a .args .n) (l .look-up .result) (sizes-torus (a .args .s) (p .0)) (p .1) (omega arith) (there-is l) in
+    (a .pre .0, (p .0, there, p .2))
 
 returns-2 : tie.Need-returns-2
 returns-2 c =

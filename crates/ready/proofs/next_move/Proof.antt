@@ -74,8 +74,9 @@ loop-less c =
     let r = c .before .before in
     let i = r .before .before .before .before .before in
     let l = i .before in
-    let up = lowest-rises (l .loop .ready) (r .remove-lowest .last .0) (l .loop .h) (r .remove-lowest .result) (l .loop .inv .1) (r .remove-lowest .ensures .0) (r .remove-lowest .ensures .1) (i .loop-test .taken) in
-    less heads (l .loop .h) (r .remove-lowest .result) up (i .loop-test .taken)
+    let out = r .remove-lowest in
+    let up = lowest-rises (l .loop .ready) (out .last .0) (l .loop .h) (out .result) (l .loop .inv .1) (out .ensures .0) (out .ensures .1) (i .loop-test .taken) in
+    less heads (l .loop .h) (out .result) up (i .loop-test .taken)
 
 loop-again : tie.Need-loop-again Inv-loop μ-loop
 loop-again c =

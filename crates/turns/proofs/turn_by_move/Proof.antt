@@ -26,17 +26,26 @@ move-to-requires c κs =
     let there = t .look-up .ensures S (a .pre .1 .0) (a .pre .1 .1 .1 .node) in
     (a .pre .0, (a .pre .1 .1 .1, λ away. target-is S (a .args .n) (a .args .o) _ _ (t .before .direction-of .ensures) there))
 
+-- where the function starts, from behind the move by either way
+abbrev from-passed : tie.After-move-to → tie.Start
+from-passed c = c .before .before .before .before .before .before .before .before
+
+abbrev from-delivered : tie.After-make-move → tie.Start
+from-delivered c = c .before .before .before .before .before .before .before
+
 mark-requires : tie.Need-mark-requires
 mark-requires c κs =
-    let a = c .before .before .before .before .before .before .before .before .before .before .before in
+    let a = from-passed (c .before .before .before) in
     (a .pre .1 .1 .0 .set-of, ((a .pre .0 .in-range, a .pre .1 .1 .1 .node, a .pre .1 .1 .1 .queue, a .pre .1 .1 .1 .output), a .pre .1 .0))
 
 returns : tie.Need-returns
 returns c =
-    let a = c .before .before .before .before .before .before .before .before .before .before .before .before .before .before in
+    let k = c .before .before in
+    let m = k .before .before .before .before in
+    let a = from-passed m in
     turned-passed (shapeOf (a .args .s)) (sizes-torus (a .args .s) (a .pre .0 .in-range)) (now (a .args .words)) (now (a .args .ready))
-    (a .pre .0) (a .pre .1 .1 .0) (a .args .room) (a .args .n) (a .args .q) (a .args .o) (c .before .before .before .before .before .before .move-to .last .0) (c .before .before .mark .last .0) (a .pre .1 .1 .1)
-    (c .before .before .mark .ensures) (c .before .before .before .before .before .before .move-to .ensures .0) (c .before .before .before .before .before .before .before .before .before .before .if1 .taken)
+    (a .pre .0) (a .pre .1 .1 .0) (a .args .room) (a .args .n) (a .args .q) (a .args .o) (m .move-to .last .0) (k .mark .last .0) (a .pre .1 .1 .1)
+    (k .mark .ensures) (m .move-to .ensures .0) (m .before .before .before .before .if1 .taken)
 
 returns-2 : tie.Need-returns-2
 returns-2 c =
@@ -46,15 +55,17 @@ returns-2 c =
 
 mark-requires-2 : tie.Need-mark-requires-2
 mark-requires-2 c κs =
-    let a = c .before .before .before .before .before .before .before .before .before .before in
+    let a = from-delivered (c .before .before .before) in
     (a .pre .1 .1 .0 .set-of, ((a .pre .0 .in-range, a .pre .1 .1 .1 .node, a .pre .1 .1 .1 .queue, a .pre .1 .1 .1 .output), a .pre .1 .0))
 
 returns-3 : tie.Need-returns-3
 returns-3 c =
-    let a = c .before .before .before .before .before .before .before .before .before .before .before .before .before in
+    let k = c .before .before in
+    let m = k .before .before .before .before in
+    let a = from-delivered m in
     turned-delivered (shapeOf (a .args .s)) (sizes-torus (a .args .s) (a .pre .0 .in-range)) (now (a .args .words)) (now (a .args .ready))
-    (a .pre .0) (a .pre .1 .1 .0) (a .args .room) (a .args .n) (a .args .q) (a .args .o) (c .before .before .before .before .before .before .make-move .result) (c .before .before .before .before .before .before .make-move .last .0) (c .before .before .mark2 .last .0)
-    (a .pre .1 .1 .1) (c .before .before .mark2 .ensures) (c .before .before .before .before .before .before .make-move .ensures .0) (c .before .before .before .before .before .before .before .before .before .if1 .left) (c .before .before .before .before .before .before .before .before .if2 .left) (c .before .before .before .before .before .before .make-move .ensures .1)
+    (a .pre .0) (a .pre .1 .1 .0) (a .args .room) (a .args .n) (a .args .q) (a .args .o) (m .make-move .result) (m .make-move .last .0) (k .mark2 .last .0)
+    (a .pre .1 .1 .1) (k .mark2 .ensures) (m .make-move .ensures .0) (m .before .before .before .if1 .left) (m .before .before .if2 .left) (m .make-move .ensures .1)
 
 pub turn-by-move-spec : {M : Type 1} → statement M
 turn-by-move-spec =
