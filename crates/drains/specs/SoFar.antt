@@ -158,7 +158,9 @@ module _ (S : Shape) (tor : Torus S) (w₀ : List ℕ) (budget : ℕ) (l₀ : Li
             f .whole
             ∙ ap (afterTurns (f .made) (f .handed)) (h .goes-on)
             ∙ after-more (f .made) (h .move) (f .handed) (record { node = h .node; packet = p } ∷ []) (drainFrom S (h .budget) (h .room) (turnWords S w (budget - m) (length l₀ - d)))
-            ∙ ap₂ (λ (x y : ℕ). afterTurns (f .made ++ (h .move ∷ [])) (f .handed ++ (record { node = h .node; packet = p } ∷ [])) (drainFrom S x y (turnWords S w (budget - m) (length l₀ - d)))) left free;
+            ∙ ap₂
+            (λ (x y : ℕ). afterTurns (f .made ++ (h .move ∷ [])) (f .handed ++ (record { node = h .node; packet = p } ∷ [])) (drainFrom S x y (turnWords S w (budget - m) (length l₀ - d))))
+            left free;
         moved = length-append (f .made) (h .move ∷ []) ∙ ap (λ (x : ℕ). x + 1) (f .moved);
         counted = length-append (f .handed) (record { node = h .node; packet = p } ∷ []) ∙ ap (λ (x : ℕ). x + 1) (f .counted);
         within = some;
