@@ -7,7 +7,9 @@ use Rattle.bench_c.proofs.bench_drain.Statement.{statement}
 use Rattle.bench_c.proofs.bench_drain.Tie as tie
 
 returns : tie.Need-returns
-returns c = let e = c .before .before .before .before .before .before .drain .ensures .0 in (c .drained .ensures .0 ∙ ap drainedNumber e, (c .before .before .before .before .before .before .drain .ensures .1 .0, (c .before .before .before .before .before .before .drain .ensures .1 .1 .0, c .drained .ensures .1 ∙ ap drainedOut e)))
+returns c =
+    let d = c .before .before .before .before .before .before .drain .ensures in
+    (c .drained .ensures .0 ∙ ap drainedNumber (d .0), (d .1 .0, (d .1 .1 .0, c .drained .ensures .1 ∙ ap drainedOut (d .0))))
 
 pub bench-drain-spec : {M : Type 1} → statement M
 bench-drain-spec =

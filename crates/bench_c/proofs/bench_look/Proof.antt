@@ -13,6 +13,13 @@ use Rattle.bench_c.specs.OutLaws.{look-cleared, look-told}
 use Rattle.bench_c.proofs.bench_look.Statement.{statement}
 use Rattle.bench_c.proofs.bench_look.Tie as tie
 
+-- where the words were opened, and where the call starts
+abbrev opening : tie.Else1 → tie.After-opened2
+opening c = c .before .before .before
+
+abbrev start : tie.After-opened2 → tie.Start
+start o = o .before .before .before .before
+
 look-rules-requires : tie.Need-look-rules-requires
 look-rules-requires c κs =
     let o = c .before in
@@ -23,17 +30,17 @@ returns : tie.Need-returns
 returns c =
     let t = c .before .before .look-rules in
     let o = c .before .before .before .before in
-    let a = o .before .before .before .before .args in
+    let a = start o .args in
     let k = is-open (o .before .before .«open» .ensures) (o .opened2 .given .1) in
     let e = t .ensures ∙ look-rules (shapeOf (o .opened2 .given .0 .0)) (now (a .words)) (a .node) (a .queue) (k .passed) (k .sizes) in
     (e, look-cleared (now (a .words)) (a .node) (a .queue) (λ z. c .before .if1 .taken (e ∙ z)))
 
 -- the look is not refused
 look : (c : tie.Else1)
-    → QueueOf (shapeOf (c .before .before .before .opened2 .given .0 .0)) (now (c .before .before .before .before .before .before .before .args .words)) (c .before .before .before .before .before .before .before .args .node) (c .before .before .before .before .before .before .before .args .queue)
+    → QueueOf (shapeOf (opening c .opened2 .given .0 .0)) (now (start (opening c) .args .words)) (start (opening c) .args .node) (start (opening c) .args .queue)
 look c =
     let t = c .before .look-rules in
-    let o = c .before .before .before in
+    let o = opening c in
     let k = is-open (o .before .before .«open» .ensures) (o .opened2 .given .1) in
     looks (k .network) (t .ensures) (c .if1 .left)
 
@@ -46,8 +53,8 @@ held-count-requires c κs = let k = look (c .before) in record { network = k .ne
 add-from : tie.Need-add-from
 add-from c =
     let f = c .before .before in
-    let o = f .before .before .before in
-    let a = o .before .before .before .before in
+    let o = opening f in
+    let a = start o in
     let q = c .before .queue-start in
     let e : q .result + 1 + c .held-count .result ≤ length (now (a .args .words)) =
     held-end (shapeOf (o .opened2 .given .0 .0)) (now (a .args .words)) (a .args .node) (a .args .queue) (q .result) (c .held-count .result) (look f) (q .ensures) (c .held-count .ensures) in
@@ -67,8 +74,8 @@ returns-3 c =
     let q = c .before .before .queue-start in
     let f = c .before .before .before in
     let t = f .before .look-rules in
-    let o = f .before .before .before in
-    let a = o .before .before .before .before .args in
+    let o = opening f in
+    let a = start o .args in
     let k = is-open (o .before .before .«open» .ensures) (o .opened2 .given .1) in
     let none = sym (look-rules (shapeOf (o .opened2 .given .0 .0)) (now (a .words)) (a .node) (a .queue) (k .passed) (k .sizes)) ∙ sym (t .ensures) ∙ f .if1 .left in
     (sym none, look-told (shapeOf (o .opened2 .given .0 .0)) (now (a .words)) (a .node) (a .queue) (q .result) (h .result) (k .sizes) none (q .ensures) (h .ensures))
