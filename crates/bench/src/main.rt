@@ -6,10 +6,9 @@ use libc::STDOUT_FILENO;
 use lines::HELD_BYTES;
 use session::COMMAND_ROOM;
 use session::STORE_WORDS;
-ghost use mathlib.Core.List.{List};
-ghost use Prim.Native.Nat.{ℕ, _≤_};
+ghost use Prim.Native.Nat.{_≤_};
 ghost use lib.ListN.{length};
-ghost use Rattle.session.specs.Reads.{sheet, Reached};
+ghost use Rattle.session.specs.Reads.{sheet, KeepsReached};
 
 // The bytes of a read at most.
 const PIECE: usize = 1024;
@@ -57,7 +56,7 @@ fn read_once(
     pending: usize,
     out: &mut [u8; OUT_ROOM],
 ) -> AfterRead
-    ensures { λ r. ⌜ ((buffer : List ℕ) → Reached buffer (sheet (now (store .entry)) (now (line .entry)) pending) → Reached buffer (sheet (now (store .exit)) (now (line .exit)) (r .pending))) ⌝ }
+    ensures { λ r. ⌜ KeepsReached (sheet (now (store .entry)) (now (line .entry)) pending) (sheet (now (store .exit)) (now (line .exit)) (r .pending)) ⌝ }
 {
     let mut piece = [0u8; PIECE];
     let got = libc::read(STDIN_FILENO, &mut piece);
@@ -70,9 +69,9 @@ fn read_once(
     }
     let n = io::count(got, &piece);
     let answered = session::answer_read(store, line, pending, &piece[..n], out);
-    let written = write_first(out, answered.at);
+    let written = write_first(out, answered.bytes);
     AfterRead {
-        pending: answered.count,
+        pending: answered.pending,
         more: written && got > 0,
     }
 }

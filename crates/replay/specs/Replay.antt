@@ -1,16 +1,22 @@
--- R423, R424: a sheet replayed, step by step. Order: a step that is shown; the commands that are one step; a D, move by move. `w` is the words of the store,
--- `list` the list of fills and `page` the page before it. Assumes nothing.
+-- R423, R424: a sheet replayed, step by step. Order: a step that is shown; the commands that are one step; a D, move by move; what is written, told by the
+-- words alone. `w` is the words of the store, `list` the list of fills and `page` the page before it. Assumes nothing.
+use mathlib.Core.Path.{_≡_}
 use mathlib.Core.Bool.{Bool, true, false, not, cond}
-use mathlib.Core.List.{List}
+use mathlib.Core.List.{List, [], _∷_, _++_, map}
 use Prim.Native.Nat.{ℕ, zero, suc, _-_}
 use lib.Dec.{eqb}
+use lib.ListN.{take}
 use Rattle.network.specs.declared.Drained.{Drained}
 use Rattle.network.specs.Sizes.{shapeOf, sized}
-use Rattle.network.specs.Refusals.{makeRefusal, offerRefusal, moveRefusal}
+use Rattle.network.specs.Layout.{shape, movesMade}
+use Rattle.network.specs.Refusals.{networkRefusal, makeRefusal, offerRefusal, moveRefusal}
 use Rattle.network.specs.Calls.{drainWords, drainAnswer, drainedMoves, drainedDelivered}
 use Rattle.sheet.specs.declared.Command.{Command}
-use Rattle.session.specs.Session.{perform}
-use Rattle.waveform.specs.Calls.{writeAnswer, writeList, writePage, writtenLength}
+use Rattle.sheet.specs.Lines.{lines}
+use Rattle.sheet.specs.Commands.{commandOf}
+use Rattle.session.specs.Session.{perform, ledgerWords, newStore}
+use Rattle.waveform.specs.Dump.{variablesOf, stepBytes}
+use Rattle.waveform.specs.Calls.{fillsNow, writeAnswer, writeList, writePage, writtenLength}
 
 -- a step on the page: its bytes are the first so many, none where nothing is shown; and the list of fills then
 pub record Shown : Type 0 where
@@ -89,3 +95,32 @@ moveShown w room list page = shownIf (makesMove w room) false (movedOn w room) l
 unfoldable pub replayed : ℕ → ℕ → List ℕ → List ℕ
 replayed zero room w = w
 replayed (suc budget) room w = cond (makesMove w room) (replayed budget (roomLeft w room) (movedOn w room)) w
+
+-- What is written (R423), told by the words before each step and behind it; and the list of fills between the steps --------------------
+
+-- the step behind words `w` that shows words `v`: a header tells all fills, a later step those that differ
+unfoldable pub stepBehind : Bool → List ℕ → List ℕ → List ℕ
+stepBehind first w v = stepBytes first (movesMade v) (fillsNow v) (fillsNow w)
+
+unfoldable pub commandBytes : Command → List ℕ → List ℕ
+commandBytes c w = cond (changed c w) (stepBehind (beginsDump c) w (carriedOut c w)) []
+
+unfoldable pub moveBytes : List ℕ → ℕ → List ℕ
+moveBytes w room = cond (makesMove w room) (stepBehind false w (movedOn w room)) []
+
+unfoldable pub movesBytes : ℕ → ℕ → List ℕ → List ℕ
+movesBytes zero room w = []
+movesBytes (suc budget) room w = moveBytes w room ++ cond (makesMove w room) (movesBytes budget (roomLeft w room) (movedOn w room)) []
+
+-- commands one after another
+unfoldable pub dumpAll : List Command → List ℕ → List ℕ
+dumpAll [] w = []
+dumpAll (c ∷ cs) w = commandBytes c w ++ (movesBytes (movesAsked c) ledgerWords (carriedOut c w) ++ dumpAll cs (perform c w .store))
+
+-- the bytes that the program writes, of those that it reads
+unfoldable pub sheetDump : List ℕ → List ℕ
+sheetDump input = dumpAll (map commandOf (lines input)) newStore
+
+-- the list of fills is the store's: where the store is a network, it begins with that network's fills
+unfoldable pub FillsOf : List ℕ → List ℕ → Type 0
+FillsOf w list = networkRefusal w ≡ 0 → take (variablesOf (shape w)) list ≡ fillsNow w

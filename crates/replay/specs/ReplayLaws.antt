@@ -21,7 +21,7 @@ use Rattle.network.specs.Routes.{deliver}
 use Rattle.network.specs.Refusals.{networkRefusal}
 use Rattle.network.specs.RefusalLaws.{Permitted, network-passed, network-passes}
 use Rattle.network.specs.FirstLaws.{Finds, nothing, named, first-finds}
-use Rattle.network.specs.Calls.{moveOf, Progress, afterMove, firstMove, stopped, oneMore, deliverNext, moveNext, drainFrom, drained, drainWords, drainAnswer, drainedMoves, drainedDelivered}
+use Rattle.network.specs.Calls.{Progress, afterMove, firstMove, stopped, oneMore, deliverNext, moveNext, drainFrom, drained, drainWords, drainAnswer, drainedMoves, drainedDelivered}
 use Rattle.run.specs.Step.{step}
 use Rattle.run.specs.Theorem.{torus}
 use Rattle.sheet.specs.declared.Command.{Command}
@@ -59,7 +59,7 @@ module _ (S : Shape) (w : List ℕ) (tor : Torus S) (N : Network S w) where
   handing n q room budget = deliverNext S w n q room (λ room′ w′. drainFrom S budget room′ w′)
 
   passing : ℕ → ℕ → ℕ → ℕ → ℕ → Progress
-  passing n q o room budget = oneMore (moveOf n q o) [] (drainFrom S budget room (afterMove S w n q o))
+  passing n q o room budget = oneMore (record { node = n; queue = q; output = o }) [] (drainFrom S budget room (afterMove S w n q o))
 
   next-handed : (n q room : ℕ) → Network S (afterMove S w n q deliver) → shape (afterMove S w n q deliver) ≡ shape w
       → Next S room w (handing n q room) (handing n q (oneWord room) zero)
@@ -134,6 +134,8 @@ pub record NoMoveMade (w : List ℕ) (room : ℕ) : Type 0 where
 
 pub record NextMoveMade (w : List ℕ) (room : ℕ) : Type 0 where
   pub one : makesMove w room ≡ true
+  pub network : networkRefusal w ≡ 0
+  pub same-shape : shape (movedOn w room) ≡ shape w
   pub passes : networkRefusal (movedOn w room) ≡ 0
   pub rest : (budget : ℕ) → drainWords w (suc budget) room ≡ drainWords (movedOn w room) budget (roomLeft w room)
 
@@ -187,6 +189,8 @@ move-told w room = go (ℕ-discrete (networkRefusal w) 0)
             inr
             (record {
               one = makes ∙ ap (λ k. not (eqb k 0)) moves;
+              network = z;
+              same-shape = ap shape (moved ∙ there) ∙ same;
               passes = ap networkRefusal (moved ∙ there) ∙ passes;
               rest =
                   λ budget.
@@ -196,20 +200,13 @@ move-told w room = go (ℕ-discrete (networkRefusal w) 0)
                   ∙ ap₂ (λ u k. drainWords u budget k) (sym (moved ∙ there)) (sym left);
             })
 
--- a D that makes no move leaves the words as they are; where it makes one, the D goes on from there
-pub move-none : (w : List ℕ) (room budget : ℕ) → makesMove w room ≡ false → movedOn w room ≡ drainWords w budget room
-move-none w room budget e = by (move-told w room)
+-- where no move is made the words stay as they are
+pub move-stays : (w : List ℕ) (room : ℕ) → makesMove w room ≡ false → movedOn w room ≡ w
+move-stays w room e = by (move-told w room)
   where
-    by : NoMoveMade w room ⊎ NextMoveMade w room → movedOn w room ≡ drainWords w budget room
-    by (inl s) = s .same ∙ sym (s .all budget)
+    by : NoMoveMade w room ⊎ NextMoveMade w room → movedOn w room ≡ w
+    by (inl s) = s .same
     by (inr g) = absurd (true≢false (sym (g .one) ∙ e))
-
-pub move-some : (w : List ℕ) (room budget : ℕ) → makesMove w room ≡ true → drainWords (movedOn w room) budget (roomLeft w room) ≡ drainWords w (suc budget) room
-move-some w room budget e = by (move-told w room)
-  where
-    by : NoMoveMade w room ⊎ NextMoveMade w room → drainWords (movedOn w room) budget (roomLeft w room) ≡ drainWords w (suc budget) room
-    by (inl s) = absurd (true≢false (sym e ∙ s .none))
-    by (inr g) = sym (g .rest budget)
 
 -- a D replayed with any budget and any room leaves what it leaves made at once
 pub drain-replayed : (budget room : ℕ) (w : List ℕ) → replayed budget room w ≡ drainWords w budget room

@@ -84,7 +84,7 @@ unfolding stepShown wholeStep writeAnswer writeList writePage writtenLength
 step-whole words first w list page r h z = rw (eq-eqb (writeRefusal first w list page) 0 (never-short words first w list page r h z)) refl
 
 -- what a command leaves that changed something, or a move of a D, is a network
-moved-network : (w : List ℕ) (n q o : ℕ) → moveRefusal w n q o ≡ 0 → networkRefusal w ≡ 0
+pub moved-network : (w : List ℕ) (n q o : ℕ) → moveRefusal w n q o ≡ 0 → networkRefusal w ≡ 0
 unfolding moveRefusal
 moved-network w n q o z = neither (networkRefusal w) (moveRules (shape w) w n q o) z .0
 

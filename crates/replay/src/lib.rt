@@ -1,18 +1,27 @@
 // A sheet replayed as a dump (R423, R424): what a command does to the store, and the step that shows it, written onto a lent page. A D is
-// replayed move by move, so that each of its moves is a step of its own. Order: a step; a command at once; a move of a D.
+// replayed move by move, so that each of its moves is a step of its own. Order: a step; a command at once; a move of a D; the next of a read.
+use lines::HELD_BYTES;
 use network::Moved;
 use network::drained_delivered;
 use network::drained_moves;
 use network::sized;
+use session::Cursor;
+use session::LEDGER_WORDS;
+use session::NextCommand;
+use session::STORE_WORDS;
 use sheet::Command;
 use waveform::Written;
 ghost use mathlib.Core.Path.{_≡_};
-ghost use Prim.Native.Nat.{_≤_};
+ghost use mathlib.Core.List.{List};
+ghost use Prim.Native.Nat.{ℕ, _<_, _≤_};
 ghost use lib.Dec.{eqb};
 ghost use lib.ListN.{length};
 ghost use Rattle.network.specs.Calls.{movedNumber};
 ghost use Rattle.waveform.specs.Calls.{writtenLength};
-ghost use Rattle.replay.specs.Replay.{shown, shownIf, carriedOut, changed, beginsDump, commandShown, movesAsked, oneWord, movedOn, makesMove, roomLeft, moveShown};
+ghost use Rattle.session.specs.Session.{storeWords};
+ghost use Rattle.replay.specs.Whole.{Roomy};
+ghost use Rattle.replay.specs.Steps.{readStart, finished, finishedBy, Shows, GoesOn};
+ghost use Rattle.replay.specs.Replay.{FillsOf, shown, shownIf, carriedOut, changed, beginsDump, commandShown, movesAsked, oneWord, movedOn, makesMove, roomLeft, moveShown};
 
 // A move of a D: whether one was made, the words of the ledger that are left, and the bytes of its step.
 pub struct Replayed {
@@ -182,4 +191,132 @@ pub fn drain_move(store: &mut [u64], room: usize, fills: &mut [u8], page: &mut [
         room: left,
         bytes: bytes,
     }
+}
+
+// How far the replay of a read has come: the cursor behind its last command, and the moves that are left of a D, with the words that are left
+// of its ledger.
+pub struct ReplayCursor {
+    pub read: Cursor,
+    pub moves: u32,
+    pub room: usize,
+}
+
+// What comes next of a read that is replayed.
+pub enum NextStep {
+    // A command or a move was carried out. The first so many bytes of the page show it; none, if nothing changed.
+    Done { bytes: usize, cursor: ReplayCursor },
+    // The read is used up, and so many bytes are pending.
+    UsedUp(usize),
+}
+
+// The start of a read: no D is under way.
+pub fn start_read(pending: usize) -> ReplayCursor
+    ensures { λ r. ⌜ r ≡ readStart pending ⌝ }
+{
+    let read = Cursor {
+        passed: 0,
+        pending: pending,
+    };
+    ReplayCursor {
+        read: read,
+        moves: 0,
+        room: 0,
+    }
+}
+
+// The next move of the D that is under way. If it makes none, the D has ended.
+fn next_move(
+    store: &mut [u64; STORE_WORDS],
+    cursor: ReplayCursor,
+    fills: &mut [u8],
+    page: &mut [u8],
+) -> NextStep
+    requires { ⌜ 0 < cursor .moves ⌝ }
+    requires { ⌜ Roomy storeWords (now fills) (now page) ⌝ }
+    ensures sheet { λ r. ⌜ ((piece line : List ℕ) → finished piece (now (store .entry)) line cursor ≡ finishedBy piece (now (store .exit)) line r) ⌝ }
+    ensures shown { λ r. ⌜ ((piece line : List ℕ) → Shows piece (now (store .entry)) line (now (fills .entry)) cursor (now (store .exit)) line (now (page .exit)) r) ⌝ }
+    ensures fills { λ _. ⌜ (FillsOf (now (store .entry)) (now (fills .entry)) → FillsOf (now (store .exit)) (now (fills .exit))) ⌝ }
+    ensures onward { λ r. ⌜ ((piece line : List ℕ) → GoesOn piece line cursor line (now (page .entry)) r) ⌝ }
+{
+    let read = cursor.read;
+    let step = drain_move(store, cursor.room, fills, page);
+    let bytes = step.bytes;
+    if !step.moved {
+        return NextStep::Done {
+            bytes: bytes,
+            cursor: ReplayCursor {
+                read: read,
+                moves: 0,
+                room: 0,
+            },
+        };
+    }
+    NextStep::Done {
+        bytes: bytes,
+        cursor: ReplayCursor {
+            read: read,
+            moves: cursor.moves - 1,
+            room: step.room,
+        },
+    }
+}
+
+// The next command of the read, and what it does at once. A D's moves come after it, with a ledger of their own.
+fn next_line(
+    store: &mut [u64; STORE_WORDS],
+    line: &mut [u8; HELD_BYTES],
+    piece: &[u8],
+    cursor: ReplayCursor,
+    fills: &mut [u8],
+    page: &mut [u8],
+) -> NextStep
+    requires { ⌜ cursor .moves ≡ 0 ⌝ }
+    requires { ⌜ Roomy storeWords (now fills) (now page) ⌝ }
+    ensures sheet { λ r. ⌜ finished (now (piece .entry)) (now (store .entry)) (now (line .entry)) cursor ≡ finishedBy (now (piece .entry)) (now (store .exit)) (now (line .exit)) r ⌝ }
+    ensures shown { λ r. ⌜ Shows (now (piece .entry)) (now (store .entry)) (now (line .entry)) (now (fills .entry)) cursor (now (store .exit)) (now (line .exit)) (now (page .exit)) r ⌝ }
+    ensures fills { λ _. ⌜ (FillsOf (now (store .entry)) (now (fills .entry)) → FillsOf (now (store .exit)) (now (fills .exit))) ⌝ }
+    ensures onward { λ r. ⌜ GoesOn (now (piece .entry)) (now (line .entry)) cursor (now (line .exit)) (now (page .entry)) r ⌝ }
+{
+    let read = cursor.read;
+    let next = session::next_command(line, piece, read);
+    match next {
+        NextCommand::Given {
+            command,
+            cursor: behind,
+        } => {
+            let bytes = carry_out(store, command, fills, page);
+            let moves = moves_asked(command);
+            NextStep::Done {
+                bytes: bytes,
+                cursor: ReplayCursor {
+                    read: behind,
+                    moves: moves,
+                    room: LEDGER_WORDS,
+                },
+            }
+        }
+        NextCommand::UsedUp(pending) => NextStep::UsedUp(pending),
+    }
+}
+
+// The next step of a read: the next move of the D that is under way, or else the next command. List and page have room for every step of every
+// network that the store can hold, so that none is lost (specs/Whole.antt). The theorem `dump-right` says what all steps of all reads are together.
+pub fn next_step(
+    store: &mut [u64; STORE_WORDS],
+    line: &mut [u8; HELD_BYTES],
+    piece: &[u8],
+    cursor: ReplayCursor,
+    fills: &mut [u8],
+    page: &mut [u8],
+) -> NextStep
+    requires { ⌜ Roomy storeWords (now fills) (now page) ⌝ }
+    ensures sheet { λ r. ⌜ finished (now (piece .entry)) (now (store .entry)) (now (line .entry)) cursor ≡ finishedBy (now (piece .entry)) (now (store .exit)) (now (line .exit)) r ⌝ }
+    ensures shown { λ r. ⌜ Shows (now (piece .entry)) (now (store .entry)) (now (line .entry)) (now (fills .entry)) cursor (now (store .exit)) (now (line .exit)) (now (page .exit)) r ⌝ }
+    ensures fills { λ _. ⌜ (FillsOf (now (store .entry)) (now (fills .entry)) → FillsOf (now (store .exit)) (now (fills .exit))) ⌝ }
+    ensures onward { λ r. ⌜ GoesOn (now (piece .entry)) (now (line .entry)) cursor (now (line .exit)) (now (page .entry)) r ⌝ }
+{
+    if cursor.moves > 0 {
+        return next_move(store, cursor, fills, page);
+    }
+    next_line(store, line, piece, cursor, fills, page)
 }

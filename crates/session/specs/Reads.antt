@@ -50,6 +50,9 @@ unfoldable pub answerRead : Sheet → List ℕ → Answered
 answerRead s [] = carryOut (s .store) (endCutting (cutter s))
 answerRead s (b ∷ bs) = carryOut (s .store) (feedBytes (cutter s) (b ∷ bs))
 
+abbrev pub sheetAfter : Sheet → List ℕ → Sheet
+sheetAfter s piece = answerRead s piece .sheet
+
 -- one read after another, what they print joined
 abbrev pub printedBefore : List ℕ → Answered → Answered
 printedBefore earlier a = record { sheet = a .sheet; output = earlier ++ a .output }
@@ -90,7 +93,7 @@ pub cutter-behind : (store : List ℕ) (c : Cutting) → c ≡ handedBefore (c .
 unfolding cutter carryOut
 cutter-behind store c = ap (λ ks. record { handed = ks; buffer = c .buffer; pending = c .pending }) (sym (append-nil (c .handed)))
 
-reads-behind : (earlier : List Kept) (c : Cutting) (reads : List (List ℕ)) → feedReads (handedBefore earlier c) reads ≡ handedBefore earlier (feedReads c reads)
+pub reads-behind : (earlier : List Kept) (c : Cutting) (reads : List (List ℕ)) → feedReads (handedBefore earlier c) reads ≡ handedBefore earlier (feedReads c reads)
 unfolding feedReads
 reads-behind earlier c [] = refl
 reads-behind earlier c (bytes ∷ reads) = ap (λ d. feedReads d reads) (bytes-behind earlier c bytes) ∙ reads-behind earlier (feedBytes c bytes) reads
@@ -153,6 +156,10 @@ lines-right buffer room reads some =
 pub record Reached (buffer : List ℕ) (s : Sheet) : Type 0 where
   pub reads : List (List ℕ)
   pub leaves : s ≡ answerReads (startSheet buffer) reads .sheet
+
+-- where reads lead to the first sheet, they lead to the second
+abbrev pub KeepsReached : Sheet → Sheet → Type 0
+KeepsReached s s′ = (buffer : List ℕ) → Reached buffer s → Reached buffer s′
 
 pub reached-start : (buffer : List ℕ) (s : Sheet) → s ≡ startSheet buffer → Reached buffer s
 unfolding answerReads

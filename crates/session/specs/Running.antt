@@ -1,17 +1,14 @@
--- What the code says of itself where it answers a sheet: facts of lent buffers that Reads.antt's definitions do not name.
--- Order: the line cutter's answer; an answer given. Laws are in RunningLaws.antt. Assumes nothing.
+-- What the code says of itself where it answers a sheet: facts of lent buffers that the definitions do not name. Order: the line cutter's answer; an
+-- answer under way. Laws are in RunningLaws.antt. Assumes nothing.
 use mathlib.Core.Path.{_≡_}
 use mathlib.Core.List.{List}
-use Prim.Native.Nat.{ℕ, _≤_}
+use Prim.Native.Nat.{ℕ, _+_, _*_, _≤_}
 use lib.ListN.{length}
 use Rattle.sheet.specs.declared.Fed.{Fed}
 use Rattle.sheet.specs.Output.{Put}
-use Rattle.sheet.specs.Cutting.{Cutting, handedOn, pendingAfter}
-use Rattle.session.specs.Reads.{Sheet, Answered}
-
--- a line cutter that has just answered so
-unfoldable pub fedCutting : List ℕ → Fed → Cutting
-fedCutting buffer fed = record { handed = handedOn buffer fed; buffer = buffer; pending = pendingAfter fed }
+use Rattle.session.specs.Session.{commandRoom}
+use Rattle.session.specs.Reads.{Answered, printedBefore}
+use Rattle.session.specs.Coming.{Coming, carryComing}
 
 -- the line that is handed on stands in the buffer
 unfoldable pub LineWithin : Fed → List ℕ → Type 0
@@ -19,8 +16,9 @@ LineWithin (Fed.More p) buffer = Unit
 LineWithin (Fed.Line n) buffer = n ≤ length buffer
 LineWithin Fed.TooLong buffer = Unit
 
--- an answer given: the sheet behind it, and its bytes at the start of the buffer, which has room for them
-pub record AnswerPrinted (answer : Answered) (out : List ℕ) (after : Sheet) (out′ : List ℕ) (at : ℕ) : Type 0 where
-  pub leaves : after ≡ answer .sheet
-  pub prints : Put out 0 (answer .output) out′ at
-  pub within : at ≤ length out′
+-- an answer under way: what is printed stands at the start of the buffer `out`, what still comes makes the answer whole, and has room
+pub record Answering (answer : Answered) (out store : List ℕ) (later : Coming) (out′ : List ℕ) (at : ℕ) : Type 0 where
+  pub printed : List ℕ
+  pub puts : Put out 0 printed out′ at
+  pub whole : answer ≡ printedBefore printed (carryComing store later)
+  pub room : at + length (later .commands) * commandRoom ≤ length out

@@ -1,5 +1,5 @@
-// A sheet as it is read: its start, and each read. A byte goes to the line cutter; the command of a line that it ends is carried out, by
-// the call that it names on the store, and its answer written as lines, for which the caller sees that there is room.
+// A sheet as it is read: its start, and each read. The bytes of a read are taken command by command; each command is carried out, by the
+// call that it names on the store, and its answer written as lines, for which the caller sees that there is room.
 use lines::HELD_BYTES;
 use network::sized;
 use sheet::Command;
@@ -9,12 +9,12 @@ ghost use mathlib.Core.Path.{_≡_};
 ghost use mathlib.Core.List.{List};
 ghost use Prim.Native.Nat.{ℕ, _+_, _*_, _≤_};
 ghost use lib.ListN.{length, take, drop};
-ghost use Rattle.sheet.specs.Commands.{commandOf};
 ghost use Rattle.sheet.specs.Output.{Put};
-ghost use Rattle.sheet.specs.Cutting.{heldBytes, pendingAfter, feedByte, feedBytes};
+ghost use Rattle.sheet.specs.Cutting.{heldBytes};
 ghost use Rattle.session.specs.Session.{perform, commandRoom};
-ghost use Rattle.session.specs.Reads.{sheet, startSheet, cutter, carryOut, endCutting, answerRead};
-ghost use Rattle.session.specs.Running.{LineWithin, fedCutting, AnswerPrinted};
+ghost use Rattle.session.specs.Reads.{sheet, startSheet, answerRead};
+ghost use Rattle.session.specs.Coming.{coming, comingBy, fedCommand};
+ghost use Rattle.session.specs.Running.{LineWithin};
 
 // The bytes that any command prints at most.
 pub const COMMAND_ROOM: usize = 1314;
@@ -27,8 +27,22 @@ pub const LEDGER_WORDS: usize = 64;
 
 // How a read was answered: the bytes that are pending of a line, and those that were printed.
 pub struct Printed {
-    pub count: usize,
-    pub at: usize,
+    pub pending: usize,
+    pub bytes: usize,
+}
+
+// How far a read has come: the bytes of it that are passed, and those that are pending of a line.
+pub struct Cursor {
+    pub passed: usize,
+    pub pending: usize,
+}
+
+// What comes next of a read.
+pub enum NextCommand {
+    // The command of a line that ends, and the cursor behind it.
+    Given { command: Command, cursor: Cursor },
+    // No line ends any more, and so many bytes are pending.
+    UsedUp(usize),
 }
 
 // The start of a sheet, whatever the store and the buffer of the line hold: the store is made zero, and the number of pending bytes given.
@@ -49,15 +63,87 @@ pub fn answer_read(
     out: &mut [u8],
 ) -> Printed
     requires { ⌜ (length (now piece) + 1) * commandRoom ≤ length (now out) ⌝ }
-    ensures sheet { λ r. ⌜ sheet (now (store .exit)) (now (line .exit)) (r .count) ≡ answerRead (sheet (now (store .entry)) (now (line .entry)) pending) (now (piece .entry)) .sheet ⌝ }
-    ensures printed { λ r. ⌜ take (r .at) (now (out .exit)) ≡ answerRead (sheet (now (store .entry)) (now (line .entry)) pending) (now (piece .entry)) .output ⌝ }
-    ensures rest { λ r. ⌜ drop (r .at) (now (out .exit)) ≡ drop (r .at) (now (out .entry)) ⌝ }
-    ensures within { λ r. ⌜ r .at ≤ length (now (out .entry)) ⌝ }
+    ensures sheet { λ r. ⌜ sheet (now (store .exit)) (now (line .exit)) (r .pending) ≡ answerRead (sheet (now (store .entry)) (now (line .entry)) pending) (now (piece .entry)) .sheet ⌝ }
+    ensures printed { λ r. ⌜ take (r .bytes) (now (out .exit)) ≡ answerRead (sheet (now (store .entry)) (now (line .entry)) pending) (now (piece .entry)) .output ⌝ }
+    ensures rest { λ r. ⌜ drop (r .bytes) (now (out .exit)) ≡ drop (r .bytes) (now (out .entry)) ⌝ }
+    ensures within { λ r. ⌜ r .bytes ≤ length (now (out .entry)) ⌝ }
 {
-    if piece.len() == 0 {
-        return answer_end(store, line, pending, out);
+    let mut cursor = Cursor {
+        passed: 0,
+        pending: pending,
+    };
+    let mut at = 0;
+    loop {
+        let next = next_command(line, piece, cursor);
+        match next {
+            NextCommand::Given {
+                command,
+                cursor: behind,
+            } => {
+                let end = at + COMMAND_ROOM;
+                at += run_command(store, command, &mut out[at..end]);
+                cursor = behind;
+            }
+            NextCommand::UsedUp(count) => {
+                return Printed {
+                    pending: count,
+                    bytes: at,
+                };
+            }
+        }
     }
-    answer_bytes(store, line, pending, piece, out)
+}
+
+// What the answer of the line cutter is told as, where so many bytes of the read are passed. A line that is too long is a bad one.
+fn fed_command(line: &[u8], fed: Fed, passed: usize) -> NextCommand
+    requires { ⌜ LineWithin fed (now line) ⌝ }
+    ensures { λ r. ⌜ r ≡ fedCommand (now (line .entry)) fed passed ⌝ }
+{
+    let behind = Cursor {
+        passed: passed,
+        pending: 0,
+    };
+    match fed {
+        Fed::More(pending) => NextCommand::UsedUp(pending.count),
+        Fed::Line(n) => NextCommand::Given {
+            command: reader::read_command(&line[..n]),
+            cursor: behind,
+        },
+        Fed::TooLong => NextCommand::Given {
+            command: Command::Bad,
+            cursor: behind,
+        },
+    }
+}
+
+// The next command of a read, from the cursor on: the bytes up to the next end of a line go to the line cutter. A read of no bytes is the end of
+// the input, where a last line without an end counts.
+pub fn next_command(line: &mut [u8], piece: &[u8], cursor: Cursor) -> NextCommand
+    requires { ⌜ heldBytes ≤ length (now line) ⌝ }
+    ensures { λ r. ⌜ coming (now (piece .entry)) (now (line .entry)) cursor ≡ comingBy (now (piece .entry)) (now (line .exit)) r ⌝ }
+{
+    let mut passed = cursor.passed;
+    let mut pending = cursor.pending;
+    if piece.len() == 0 {
+        let fed = lines::finish(Pending { count: pending });
+        return fed_command(line, fed, passed);
+    }
+    while passed < piece.len() {
+        let fed = lines::feed(line, Pending { count: pending }, piece[passed]);
+        passed += 1;
+        match fed {
+            Fed::More(more) => {
+                pending = more.count;
+            }
+            Fed::Line(_) => {
+                return fed_command(line, fed, passed);
+            }
+            Fed::TooLong => {
+                return fed_command(line, fed, passed);
+            }
+        }
+    }
+    NextCommand::UsedUp(pending)
 }
 
 // T makes.
@@ -132,92 +218,4 @@ fn run_command(store: &mut [u64], command: Command, out: &mut [u8]) -> usize
         Command::Drain { budget } => run_drain(store, budget, out),
         Command::Bad => writer::put_bad(out, 0),
     }
-}
-
-// A line without its end.
-fn run_line(store: &mut [u64], line: &[u8], out: &mut [u8]) -> usize
-    requires { ⌜ commandRoom ≤ length (now out) ⌝ }
-    ensures store { λ _. ⌜ now (store .exit) ≡ perform (commandOf (now (line .entry))) (now (store .entry)) .store ⌝ }
-    ensures printed { λ r. ⌜ Put (now (out .entry)) 0 (perform (commandOf (now (line .entry))) (now (store .entry)) .output) (now (out .exit)) r ⌝ }
-{
-    let command = reader::read_command(line);
-    run_command(store, command, out)
-}
-
-// What the line cutter hands on is carried out: no line, a line, or one that is too long. The number of bytes that it prints.
-fn answer_fed(store: &mut [u64], line: &[u8], fed: Fed, out: &mut [u8]) -> usize
-    requires { ⌜ commandRoom ≤ length (now out) ⌝ }
-    requires { ⌜ LineWithin fed (now line) ⌝ }
-    ensures { λ r. ⌜ AnswerPrinted (carryOut (now (store .entry)) (fedCutting (now (line .entry)) fed)) (now (out .entry)) (sheet (now (store .exit)) (now (line .entry)) (pendingAfter fed)) (now (out .exit)) r ⌝ }
-{
-    match fed {
-        Fed::More(_) => 0,
-        Fed::Line(n) => run_line(store, &line[..n], out),
-        Fed::TooLong => run_command(store, Command::Bad, out),
-    }
-}
-
-// How many bytes of a line are pending then.
-fn pending_after(fed: Fed) -> usize
-    ensures { λ r. ⌜ r ≡ pendingAfter fed ⌝ }
-{
-    match fed {
-        Fed::More(pending) => pending.count,
-        Fed::Line(_) => 0,
-        Fed::TooLong => 0,
-    }
-}
-
-// A byte, where so many are pending.
-fn answer_byte(store: &mut [u64], line: &mut [u8], pending: usize, b: u8, out: &mut [u8]) -> Printed
-    requires { ⌜ heldBytes ≤ length (now line) ⌝ }
-    requires { ⌜ commandRoom ≤ length (now out) ⌝ }
-    ensures { λ r. ⌜ AnswerPrinted (carryOut (now (store .entry)) (feedByte (cutter (sheet (now (store .entry)) (now (line .entry)) pending)) b)) (now (out .entry)) (sheet (now (store .exit)) (now (line .exit)) (r .count)) (now (out .exit)) (r .at) ⌝ }
-{
-    let fed = lines::feed(line, Pending { count: pending }, b);
-    let at = answer_fed(store, line, fed, out);
-    let count = pending_after(fed);
-    Printed {
-        count: count,
-        at: at,
-    }
-}
-
-// Bytes one after another. What each prints goes behind what those before it printed, into a part that has room for any command.
-fn answer_bytes(
-    store: &mut [u64],
-    line: &mut [u8],
-    pending: usize,
-    bytes: &[u8],
-    out: &mut [u8],
-) -> Printed
-    requires { ⌜ heldBytes ≤ length (now line) ⌝ }
-    requires { ⌜ length (now bytes) * commandRoom ≤ length (now out) ⌝ }
-    ensures { λ r. ⌜ AnswerPrinted (carryOut (now (store .entry)) (feedBytes (cutter (sheet (now (store .entry)) (now (line .entry)) pending)) (now (bytes .entry)))) (now (out .entry)) (sheet (now (store .exit)) (now (line .exit)) (r .count)) (now (out .exit)) (r .at) ⌝ }
-{
-    let mut count = pending;
-    let mut at = 0;
-    let mut i = 0;
-    while i < bytes.len() {
-        let end = at + COMMAND_ROOM;
-        let place = answer_byte(store, line, count, bytes[i], &mut out[at..end]);
-        count = place.count;
-        at += place.at;
-        i += 1;
-    }
-    Printed {
-        count: count,
-        at: at,
-    }
-}
-
-// The end of the input: a last line without an end counts.
-fn answer_end(store: &mut [u64], line: &[u8], pending: usize, out: &mut [u8]) -> Printed
-    requires { ⌜ heldBytes ≤ length (now line) ⌝ }
-    requires { ⌜ commandRoom ≤ length (now out) ⌝ }
-    ensures { λ r. ⌜ AnswerPrinted (carryOut (now (store .entry)) (endCutting (cutter (sheet (now (store .entry)) (now (line .entry)) pending)))) (now (out .entry)) (sheet (now (store .exit)) (now (line .entry)) (r .count)) (now (out .exit)) (r .at) ⌝ }
-{
-    let fed = lines::finish(Pending { count: pending });
-    let at = answer_fed(store, line, fed, out);
-    Printed { count: 0, at: at }
 }

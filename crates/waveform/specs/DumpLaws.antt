@@ -1,11 +1,13 @@
--- Laws of a dump's bytes. Order: the fills of the first queues, and of a network; variables' lines; changes and their lines. Assumes nothing.
-use mathlib.Core.Path.{_≡_, refl, ap, sym, _∙_, subst}
-use mathlib.Core.Bool.{Bool, true, false}
+-- Laws of a dump's bytes. Order: the fills of the first queues, and of a network; variables' lines; changes and their lines; lists that give the same
+-- step. Assumes nothing.
+use mathlib.Core.Path.{_≡_, refl, ap, ap₂, sym, _∙_, subst}
+use mathlib.Core.Bool.{Bool, true, false, not, cond}
 use mathlib.Core.List.{List, [], _∷_, _++_, append-nil, append-assoc}
 use mathlib.Core.Logic.{_⊎_, inl, inr}
 use Prim.Native.Nat.{ℕ, zero, suc, _+_, _*_, _/_, _%_, _<_, _≤_}
 use native.Mathlib.Nat.{mul-le-mul-left, eq-or-lt-of-le, le-of-suc-le-suc, not-suc-le-zero}
 use native.Mathlib.Omega.{arith}
+use lib.Dec.{eqb}
 use lib.ListN.{length, getD, length-append, List·getD-append}
 use lib.Seq.{getD-at}
 use Rattle.network.specs.Sizes.{Shape, nodes, queues, capacity}
@@ -16,7 +18,7 @@ use Rattle.network.specs.LayoutLaws.{Fits, length-queuePart, length-packetsOf, 
 use Rattle.network.specs.CheckLaws.{Network}
 use Rattle.network.specs.Refusals.{networkRefusal}
 use Rattle.network.specs.RefusalLaws.{network-passed}
-use Rattle.waveform.specs.Dump.{variablesOf, mostVariables, fillsTo, fills, variableLine, variableLines, Change, valueLine, valueLines, tells, changesTo}
+use Rattle.waveform.specs.Dump.{variablesOf, mostVariables, fillsTo, fills, opening, closing, valuesOpening, valuesClosing, variableLine, variableLines, stampLine, Change, valueLine, valueLines, tells, changesTo, changes, stepBytes}
 use Rattle.waveform.specs.Reading.{largestTime, largestFill}
 use Rattle.waveform.specs.Calls.{fillsNow}
 
@@ -126,3 +128,23 @@ pub lines-untold : (every : Bool) (counts list : List ℕ) (i : ℕ) → tells e
     → valueLines (changesTo every counts list (suc i)) ≡ valueLines (changesTo every counts list i)
 unfolding changesTo
 lines-untold every counts list i e = rw e (ap valueLines (append-nil (changesTo every counts list i)))
+
+-- a step hangs on the list only where it looks: a later one at as many bytes as there are fills, a header nowhere
+changes-same : (every : Bool) (counts list list′ : List ℕ) (i : ℕ) → ((j : ℕ) → j < i → every ≡ false → getD list j 0 ≡ getD list′ j 0)
+    → changesTo every counts list i ≡ changesTo every counts list′ i
+unfolding changesTo tells
+changes-same every counts list list′ zero same = refl
+changes-same every counts list list′ (suc i) same =
+    ap₂ (λ cs t. cs ++ cond t (changeAt counts i ∷ []) []) (changes-same every counts list list′ i (λ j h f. same j (omega arith) f)) (told every (same i (omega arith)))
+  where
+    told : (every : Bool) → (every ≡ false → getD list i 0 ≡ getD list′ i 0) → tells every counts list i ≡ tells every counts list′ i
+    told true same = refl
+    told false same = ap (λ n. not (eqb (getD counts i 0) n)) (same refl)
+
+pub step-same : (first : Bool) (time : ℕ) (counts list list′ : List ℕ) → ((j : ℕ) → j < length counts → first ≡ false → getD list j 0 ≡ getD list′ j 0)
+    → stepBytes first time counts list ≡ stepBytes first time counts list′
+unfolding stepBytes changes
+step-same true time counts list list′ same =
+    ap (λ cs. opening ++ (variableLines 0 (length counts) ++ (closing ++ (stampLine time ++ (valuesOpening ++ (valueLines cs ++ valuesClosing))))))
+    (changes-same true counts list list′ (length counts) same)
+step-same false time counts list list′ same = ap (λ cs. stampLine time ++ valueLines cs) (changes-same false counts list list′ (length counts) same)

@@ -6,17 +6,21 @@ use borrow.Author.Needs.{needs}
 use Rattle.wave.proofs.read_once.Statement.{statement}
 use Rattle.wave.proofs.read_once.Tie as tie
 
-run-read-requires : tie.Need-run-read-requires
-run-read-requires c κs = search needs
+write-steps-requires : tie.Need-write-steps-requires
+write-steps-requires c κs = search needs
 
 returns : tie.Need-returns
-returns c buffer reached more = absurd (true≢false (sym more))
+returns c = (λ more. absurd (true≢false (sym more)), λ is. is)
 
 returns-2 : tie.Need-returns-2
-returns-2 c buffer reached more = reached-more buffer _ _ _ (c .before .run-read .ensures (c .if2 .taken)) reached
+returns-2 c =
+    let steps = c .before .write-steps .ensures in
+    (λ more buffer reached. reached-more buffer _ _ _ (steps .0 (c .if2 .taken)) reached, steps .1)
 
 returns-3 : tie.Need-returns-3
-returns-3 c buffer reached more = reached-more buffer _ _ _ (c .before .run-read .ensures more) reached
+returns-3 c =
+    let steps = c .before .write-steps .ensures in
+    (λ more buffer reached. reached-more buffer _ _ _ (steps .0 more) reached, steps .1)
 
 pub read-once-spec : {M : Type 1} → statement M
 read-once-spec =
@@ -30,6 +34,6 @@ read-once-spec =
     (λ c κs. search needs)
     (λ c. search needs)
     (λ c. search needs)
-    run-read-requires
+    write-steps-requires
     returns-2
     returns-3)
