@@ -108,7 +108,7 @@ module _ (bs : List ℕ) {stamp : TimeStamp} (s : stamp ≡ readStamp bs) where
           time = λ t. ap (λ (t : TimeStamp). t .time) s;
           named = λ t. told .named;
           needed = λ t. told .needed;
-          values = λ t. ap (λ (t : TimeStamp). run (drop (t .length) bs) .changes) s;
+          values = λ t. ap (λ (t : TimeStamp). valueRun (drop (t .length) bs) .changes) s;
           within = later-place;
         }
 
@@ -204,9 +204,9 @@ module _ (bs : List ℕ) {names : Names} (n : names ≡ readNames bs) where
               good = sym (header-by ∙ rw (g, h, o, sym tells-there ∙ e) refl);
               header = λ t. refl;
               time = λ t. ap (λ (t : TimeStamp). t .time) stamp-is;
-              named = λ t. sym l ∙ ap (λ s. length (run s .changes)) v;
-              needed = λ t. sym m ∙ ap (λ s. needed (run s .changes)) v;
-              values = λ t. ap (λ s. run s .changes) v;
+              named = λ t. sym l ∙ ap (λ s. length (valueRun s .changes)) v;
+              needed = λ t. sym m ∙ ap (λ s. needed (valueRun s .changes)) v;
+              values = λ t. ap (λ s. valueRun s .changes) v;
               within = values-place;
             }
 
@@ -250,7 +250,7 @@ module _ (bs list : List ℕ) {p : Parsed} (f : StepOf bs p) where
       pub values-room : needed (valueRun (onward bs (p .values)) .changes) ≤ length list
       values-room =
           let e : needed (valueRun (onward bs (p .values)) .changes) ≡ p .needed
-          = ap (λ s. needed (run s .changes)) (onward-drop bs (p .values)) ∙ ap needed (f .values g) ∙ sym (f .needed g) in
+          = ap (λ s. needed (valueRun s .changes)) (onward-drop bs (p .values)) ∙ ap needed (f .values g) ∙ sym (f .needed g) in
           omega arith
 
       module _ {after : List ℕ} (a : after ≡ applied (valueRun (onward bs (p .values)) .changes) list) where
@@ -261,7 +261,7 @@ module _ (bs list : List ℕ) {p : Parsed} (f : StepOf bs p) where
             answered bs list after r
             (e ∙ rw (eq-eqb (readRefusal bs list) 0 z) refl)
             (a
-            ∙ ap (λ s. applied (run s .changes) list) (onward-drop bs (p .values))
+            ∙ ap (λ s. applied (valueRun s .changes) list) (onward-drop bs (p .values))
             ∙ ap (λ cs. applied cs list) (f .values g)
             ∙ rw (eq-eqb (readRefusal bs list) 0 z) refl)
 

@@ -68,7 +68,7 @@ pub record ParsedOf (bs : List ℕ) (s : Step) (r : Parsed) : Type 0 where
   pub time : r .good ≡ true → r .time ≡ s .time
   pub named : r .good ≡ true → r .named ≡ length (s .changes)
   pub needed : r .good ≡ true → r .needed ≡ needed (s .changes)
-  pub values : r .good ≡ true → run (drop (r .values) bs) .changes ≡ s .changes
+  pub values : r .good ≡ true → valueRun (drop (r .values) bs) .changes ≡ s .changes
   pub within : r .values ≤ length bs
 
 abbrev pub LaterOf : List ℕ → Parsed → Type 0

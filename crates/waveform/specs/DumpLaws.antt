@@ -18,7 +18,7 @@ use Rattle.network.specs.LayoutLaws.{Fits, length-queuePart, length-packetsOf, 
 use Rattle.network.specs.CheckLaws.{Network}
 use Rattle.network.specs.Refusals.{networkRefusal}
 use Rattle.network.specs.RefusalLaws.{network-passed}
-use Rattle.waveform.specs.Dump.{variablesOf, mostVariables, fillsTo, fills, opening, closing, valuesOpening, valuesClosing, variableLine, variableLines, stampLine, Change, valueLine, valueLines, tells, changesTo, changes, stepBytes}
+use Rattle.waveform.specs.Dump.{variablesOf, mostVariables, fillsTo, fills, variablesBegin, variablesEnd, valuesBegin, valuesEnd, variableLine, variableLines, stampLine, Change, valueLine, valueLines, tells, changesTo, changes, stepBytes}
 use Rattle.waveform.specs.Reading.{largestTime, largestFill}
 use Rattle.waveform.specs.Calls.{fillsNow}
 
@@ -145,6 +145,6 @@ pub step-same : (first : Bool) (time : ℕ) (counts list list′ : List ℕ) →
     → stepBytes first time counts list ≡ stepBytes first time counts list′
 unfolding stepBytes changes
 step-same true time counts list list′ same =
-    ap (λ cs. opening ++ (variableLines 0 (length counts) ++ (closing ++ (stampLine time ++ (valuesOpening ++ (valueLines cs ++ valuesClosing))))))
+    ap (λ cs. variablesBegin ++ (variableLines 0 (length counts) ++ (variablesEnd ++ (stampLine time ++ (valuesBegin ++ (valueLines cs ++ valuesEnd))))))
     (changes-same true counts list list′ (length counts) same)
 step-same false time counts list list′ same = ap (λ cs. stampLine time ++ valueLines cs) (changes-same false counts list list′ (length counts) same)
