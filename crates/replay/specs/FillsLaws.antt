@@ -16,7 +16,7 @@ use Rattle.network.specs.LayoutLaws.{Fits, shape-put, shape-raised}
 use Rattle.network.specs.CheckLaws.{Network}
 use Rattle.network.specs.Refusals.{networkRefusal, offerRefusal, offerRules}
 use Rattle.network.specs.RefusalLaws.{neither, network-passed}
-use Rattle.network.specs.Calls.{makeWords, offered, afterOffer, offerWords, moveWords}
+use Rattle.network.specs.Calls.{moveOf, makeWords, offered, afterOffer, offerWords, moveWords}
 use Rattle.network.specs.Run.{move, outcome, run, Demand3}
 use Rattle.run.specs.Theorem.{demand3}
 use Rattle.run.specs.Reached.{accepting}
@@ -91,7 +91,7 @@ command-follows (Command.Offer node destination tag) w t f =
     record { network = neither (networkRefusal w) (offerRules (shape w) w node destination) z .0; same-shape = offer-shape w node destination tag z }
 command-follows (Command.Move node queue output) w t f =
     let z = moved-network w node queue output (eqb-true _ 0 t) in
-    record { network = z; same-shape = demand3 w (move node queue output ∷ []) z .same-shape }
+    record { network = z; same-shape = demand3 w (move (moveOf node queue output) ∷ []) z .same-shape }
 command-follows (Command.Drain budget) w t f = absurd (true≢false (sym t))
 command-follows Command.Bad w t f = absurd (true≢false (sym t))
 
