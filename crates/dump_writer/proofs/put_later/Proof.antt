@@ -22,14 +22,17 @@ all : (s : tie.Start) → Left s (s .args .page .now) 0 (stamp s ++ values s)
 unfolding stepBytes
 all s = all-to-put (s .args .page .now) 0 (stepBytes false (s .args .time) (s .args .counts .now) (s .args .fills .now)) (s .pre .1)
 
-behind-stamp : (c : tie.After-put-stamp) → Left (c .before .before .before .before .before) (c .put-stamp .last .0) (c .put-stamp .result) (values (c .before .before .before .before .before))
-behind-stamp c = let s = c .before .before .before .before .before in run-put (stamp s) (values s) (all s) (c .put-stamp .ensures)
+abbrev from-stamp : tie.After-put-stamp → tie.Start
+from-stamp c = c .before .before .before .before .before
+
+behind-stamp : (c : tie.After-put-stamp) → Left (from-stamp c) (c .put-stamp .last .0) (c .put-stamp .result) (values (from-stamp c))
+behind-stamp c = let s = from-stamp c in run-put (stamp s) (values s) (all s) (c .put-stamp .ensures)
 
 put-stamp-requires : tie.Need-put-stamp-requires
 put-stamp-requires c κs = let s = c .before .before .before .before in run-room (stamp s) (values s) (all s)
 
 put-values-requires : tie.Need-put-values-requires
-put-values-requires c κs = (c .before .before .before .before .before .before .before .before .pre .0, behind-stamp (c .before .before .before) .room)
+put-values-requires c κs = (from-stamp (c .before .before .before) .pre .0, behind-stamp (c .before .before .before) .room)
 
 returns : tie.Need-returns
 returns c = let last = c .before .before in behind-stamp (last .before .before .before .before) .done _ _ (last .put-values .ensures)

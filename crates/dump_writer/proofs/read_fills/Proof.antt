@@ -23,30 +23,37 @@ node-words-requires c κs = c .before .before .before .pre .0 .in-range
 loop-holds : tie.Need-loop-holds Inv-loop μ-loop
 loop-holds c = let s = c .before .before .before .before in nodes-none (shapeOf (s .args .s)) (s .args .words .now) (s .args .counts .now)
 
+-- where the function starts, and the turn, from behind the node's call
+abbrev start : tie.At-loop Inv-loop μ-loop → tie.Start Inv-loop μ-loop
+start l = l .before .before .before .before .before
+
+abbrev turn : tie.After-slice-known2 Inv-loop μ-loop → tie.In-loop Inv-loop μ-loop
+turn c = c .before .before .before .before
+
 read-node-requires : tie.Need-read-node-requires Inv-loop μ-loop
 read-node-requires c κs =
     let l = c .before .before in
-    let s = l .before .before .before .before .before in
+    let s = start l in
     let e = l .before .before .nodes .ensures in
     let t = c .before .loop-test .taken in
     (s .pre .0, omega arith, nodes-start (l .loop .inv), filled-length (l .loop .inv .filled) ∙ s .pre .1)
 
 add-start : tie.Need-add-start Inv-loop μ-loop
 add-start c =
-    let l = c .before .before .before .before .before in
-    let s = l .before .before .before .before .before in
+    let l = turn c .before in
+    let s = start l in
     let e = l .before .before .nodes .ensures in
     let w = l .before .node-words .ensures in
-    let t = c .before .before .before .before .loop-test .taken in
+    let t = turn c .loop-test .taken in
     let within = nodes-within (l .loop .inv) (s .pre .0) (omega arith) in
     omega (arith, s .good)
 
 loop-again : tie.Need-loop-again Inv-loop μ-loop
 loop-again c =
-    let l = c .before .before .before .before .before in
-    let s = l .before .before .before .before .before in
+    let l = turn c .before in
+    let s = start l in
     let e = l .before .before .nodes .ensures in
-    let t = c .before .before .before .before .loop-test .taken in
+    let t = turn c .loop-test .taken in
     subst
     (λ m. NodesRead (shapeOf (s .args .s)) (s .args .words .now) (s .args .counts .now) (c .before .before .read-node .last .1 .1 .1 .1 .0) (l .loop .start + m) (l .loop .n + 1))
     (sym (l .before .node-words .ensures))
@@ -57,7 +64,7 @@ same-length c = filled-length (c .before .loop .inv .filled)
 
 returns : tie.Need-returns Inv-loop μ-loop
 returns c =
-    let s = c .before .before .before .before .before .before in
+    let s = start (c .before) in
     let e = c .before .before .before .nodes .ensures in
     let t = c .loop-test .left in
     nodes-all (c .before .loop .inv) (omega arith) (s .pre .1)

@@ -10,11 +10,14 @@ use Rattle.waveform.specs.Lengths.{stamp-length, decimal-digits, variableRoom, 
 use Rattle.dump_writer.proofs.step_length.Statement.{statement}
 use Rattle.dump_writer.proofs.step_length.Tie as tie
 
--- the stamp and the values are few bytes
+-- where the function starts; the stamp and the values are few bytes
+abbrev start : tie.After-values-length → tie.Start
+start c = c .before .before .before .before
+
 few : (c : tie.After-values-length) → c .before .stamp-length .result + c .values-length .result ≤ 22 + valueRoom * mostVariables
 unfolding changes
 few c =
-    let s = c .before .before .before .before in
+    let s = start c in
     let a = s .args in
     let t = stamp-length (a .time) in
     let d = decimal-digits (a .time) (s .fits .time .fits) in
@@ -28,7 +31,7 @@ few c =
 -- and so are the variables
 few-variables : (c : tie.After-variables-length) → c .variables-length .result ≤ variableRoom * mostVariables
 few-variables c =
-    let s = c .before .before .before .before .before .before in
+    let s = start (c .before .before) in
     let most = s .pre .0 in
     let r = variables-room 0 (length (now (s .args .counts))) (omega arith) in
     let l = c .variables-length .ensures in
@@ -36,7 +39,7 @@ few-variables c =
 
 returns : tie.Need-returns
 returns c =
-    let s = c .before .before .before .before .before .before in
+    let s = start (c .before .before) in
     let a = s .args in
     let h = header-length (a .time) (now (a .counts)) (now (a .fills)) in
     let v = c .variables-length .ensures in
@@ -47,7 +50,7 @@ returns c =
 
 returns-2 : tie.Need-returns-2
 returns-2 c =
-    let s = c .before .before .before .before .before in
+    let s = start (c .before) in
     let a = s .args in
     let h = later-length (a .time) (now (a .counts)) (now (a .fills)) in
     let t = c .before .before .stamp-length .ensures in

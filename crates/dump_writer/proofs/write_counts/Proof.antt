@@ -26,26 +26,35 @@ at-front : {before bytes after : List ℕ} {next : ℕ} → Put before 0 bytes a
 unfolding written
 at-front {before} {bytes} p = p .leaves ∙ ap (λ n. bytes ++ drop n before) (zero-add (length bytes))
 
+-- where the function starts, from behind the two tests
+abbrev start : tie.After-step-length → tie.Start
+start c = c .before .before .before .before .before .before
+
 returns : tie.Need-returns
 returns c =
-    let s = c .before .before .before .before in
-    counts-refused (s .args .first) (s .args .time) (now (s .args .counts)) (now (s .args .fills)) (now (s .args .page)) (rw (lt-ltb (length (now (s .args .fills))) (length (now (s .args .counts))) (c .if1 .taken)) refl)
+    let a = c .before .before .before .before .args in
+    let few = lt-ltb (length (now (a .fills))) (length (now (a .counts))) (c .if1 .taken) in
+    counts-refused (a .first) (a .time) (now (a .counts)) (now (a .fills)) (now (a .page)) (rw few refl)
 
 returns-2 : tie.Need-returns-2
 returns-2 c =
-    let s = c .before .before .before .before .before .before .before in
-    let short = subst (λ n. length (now (s .args .page)) < n) (c .before .step-length .ensures) (c .if2 .taken) in
-    counts-refused (s .args .first) (s .args .time) (now (s .args .counts)) (now (s .args .fills)) (now (s .args .page)) (or-true (ltb (length (now (s .args .fills))) (length (now (s .args .counts)))) _ (lt-ltb _ _ short))
+    let a = start (c .before) .args in
+    let short = subst (λ n. length (now (a .page)) < n) (c .before .step-length .ensures) (c .if2 .taken) in
+    let applies = or-true (ltb (length (now (a .fills))) (length (now (a .counts)))) _ (lt-ltb _ _ short) in
+    counts-refused (a .first) (a .time) (now (a .counts)) (now (a .fills)) (now (a .page)) applies
 
 returns-3 : tie.Need-returns-3
 returns-3 c =
-    let s = c .before .before .before .before .before .before .before .before .before .before .before .before .before .before .before .before in
-    let put = c .before .before .before .before .before .before .put-step .ensures in
     let copied = c .before .before .copy-fills .ensures in
-    let n = c .before .before .before .before .before .before .before .before .before .before .step-length .ensures in
-    let enough = subst (λ k. k ≤ length (now (s .args .page))) n (c .before .before .before .before .before .before .before .before .before .if2 .left) in
-    let w = counts-written (s .args .first) (s .args .time) (now (s .args .counts)) (now (s .args .fills)) (now (s .args .page)) (c .before .before .before .before .before .before .before .before .before .before .before .before .if1 .left) enough in
-    (ap Written.Bytes n ∙ w .0, (copied ∙ w .1 .0, at-front {bytes = stepBytes (s .args .first) (s .args .time) (now (s .args .counts)) (now (s .args .fills))} put ∙ w .1 .1))
+    let p = c .before .before .before .before .before .before in
+    let long = p .before .before .before in
+    let l = long .before in
+    let a = start l .args in
+    let n = l .step-length .ensures in
+    let enough = subst (λ k. k ≤ length (now (a .page))) n (long .if2 .left) in
+    let w = counts-written (a .first) (a .time) (now (a .counts)) (now (a .fills)) (now (a .page)) (l .before .before .if1 .left) enough in
+    let put = at-front {bytes = stepBytes (a .first) (a .time) (now (a .counts)) (now (a .fills))} (p .put-step .ensures) in
+    (ap Written.Bytes n ∙ w .0, (copied ∙ w .1 .0, put ∙ w .1 .1))
 
 pub write-counts-spec : {M : Type 1} → statement M
 write-counts-spec =

@@ -27,19 +27,25 @@ header {S} k =
 shared-slice-read-time : tie.Need-shared-slice-read-time
 shared-slice-read-time c = header (c .before .before .before .before .before .before .before .before .before .pre .0)
 
+-- where the function starts, from behind the fills' reading
+abbrev start : tie.After-read-fills → tie.Start
+start c = c .before .before .before .before .before .before
+
 write-counts-requires : tie.Need-write-counts-requires
 write-counts-requires c κs =
-    let s = c .before .before .before .before .before .before .before .before .before .before .before .before in
+    let r = c .before .before .before .before .before .before in
+    let s = start r in
     let m = sizes-nodes (s .args .s) (s .pre .0 .in-range) in
     let l = fills-length (shapeOf (s .args .s)) (now (s .args .words)) in
     let most : length (fills (shapeOf (s .args .s)) (now (s .args .words))) ≤ mostVariables = omega arith in
-    rw (c .before .before .before .before .before .before .read-fills .ensures) most
+    rw (r .read-fills .ensures) most
 
 returns : tie.Need-returns
 unfolding movesMade
 returns c =
-    let s = c .before .before .before .before .before .before .before .before .before .before .before .before .before .before .before .before .before in
     let w = c .before .before .before .before .write-counts in
+    let r = c .before .before .before .before .before .before .before .before .before .before .before in
+    let s = start r in
     let list = now (s .args .fills) in
     let page = now (s .args .page) in
     let time = movesMade (now (s .args .words)) in
@@ -47,7 +53,7 @@ returns c =
     (λ (counts : List ℕ).
     Leaves (w .result) (countsAnswer (s .args .first) time counts list page) (w .last .1 .1 .1 .0) (countsList (s .args .first) time counts list page) (w .last .1 .1 .1 .1 .0)
     (countsPage (s .args .first) time counts list page))
-    (c .before .before .before .before .before .before .before .before .before .before .before .read-fills .ensures)
+    (r .read-fills .ensures)
     (w .ensures)
 
 pub write-fills-spec : {M : Type 1} → statement M

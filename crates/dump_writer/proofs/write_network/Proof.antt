@@ -10,27 +10,30 @@ use Rattle.network.specs.TorusLaws.{sizes-nodes}
 use Rattle.dump_writer.proofs.write_network.Statement.{statement}
 use Rattle.dump_writer.proofs.write_network.Tie as tie
 
--- the list is long enough
-fit : (c : tie.After-nodes) → c .nodes .result * queues ≤ length (c .before .before .before .before .before .args .counts .now)
+-- where the function starts; the list is long enough
+abbrev start : tie.After-nodes → tie.Start
+start c = c .before .before .before .before .before
+
+fit : (c : tie.After-nodes) → c .nodes .result * queues ≤ length (start c .args .counts .now)
 fit c =
     let e = c .nodes .ensures in
-    let l = c .before .before .before .before .before .pre .1 in
+    let l = start c .pre .1 in
     omega arith
 
 mul-count : tie.Need-mul-count
 mul-count c =
-    let s = c .before .before .before .before .before in
+    let s = start c in
     let m = sizes-nodes (s .args .s) (s .pre .0 .in-range) in
     let e = c .nodes .ensures in
     omega arith
 
 slice-aggregate-write-fills : tie.Need-slice-aggregate-write-fills
-slice-aggregate-write-fills c = sym (length-take-le (c .before .nodes .result * queues) (c .before .before .before .before .before .before .args .counts .now) (fit (c .before)))
+slice-aggregate-write-fills c = sym (length-take-le (c .before .nodes .result * queues) (start (c .before) .args .counts .now) (fit (c .before)))
 
 write-fills-requires : tie.Need-write-fills-requires
 write-fills-requires c κs =
     let n = c .before .before .before in
-    let s = n .before .before .before .before .before in
+    let s = start n in
     (s .pre .0, length-take-le (n .nodes .result * queues) (s .args .counts .now) (fit n) ∙ ap (λ k. k * queues) (n .nodes .ensures))
 
 pub write-network-spec : {M : Type 1} → statement M
