@@ -41,8 +41,10 @@ fill-entry-requires c κs =
 
 loop-again : tie.Need-loop-again Inv-loop μ-loop
 loop-again c =
-    let h = c .before .before .before .before .loop-test .taken in
-    (counted (omega arith) (c .before .before .fill-entry .ensures), omega arith, c .before .before .fill-entry .kept .0 ∙ c .before .before .before .before .before .loop .inv .2)
+    let f = c .before .before in
+    let turn = f .before .before in
+    let h = turn .loop-test .taken in
+    (counted (omega arith) (f .fill-entry .ensures), omega arith, f .fill-entry .kept .0 ∙ turn .before .loop .inv .2)
 
 same-length : tie.Need-same-length Inv-loop μ-loop
 same-length c = c .before .loop .inv .2

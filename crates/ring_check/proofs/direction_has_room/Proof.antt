@@ -18,16 +18,20 @@ queue-start-requires c κs =
     let h = st .pre .1 in
     (st .pre .0 .sizes, nodes-pos (shapeOf (st .args .s)) (sizes-torus (st .args .s) (st .pre .0 .sizes)), omega arith)
 
+-- where the function starts, and where the words of a node were counted
 abbrev start : tie.After-queue-start → tie.Start
 start c = c .before .before .before .before .before .before
 
+abbrev words : tie.After-queue-start → tie.After-node-words
+words c = c .before .before .before .before
+
 -- what the calls have found
 found : (c : tie.After-queue-start)
-    → Found (start c .args .s) (start c .args .d) (c .before .before .before .before .node-words .result) (c .before .before .before .weight .result) (c .before .before .size .result)
+    → Found (start c .args .s) (start c .args .d) (words c .node-words .result) (c .before .before .before .weight .result) (c .before .before .size .result)
     (c .before .nodes .result) (c .queue-start .result)
 found c =
     record {
-      one = c .before .before .before .before .node-words .ensures;
+      one = words c .node-words .ensures;
       apart = c .before .before .before .weight .ensures;
       ring = c .before .before .size .ensures;
       every = c .before .nodes .ensures;
@@ -36,9 +40,9 @@ found c =
 
 inside : (c : tie.After-queue-start)
     → RingsIn (start c .args .words .now)
-    (made (start c .args .s .escape) (c .before .before .before .before .node-words .result) (c .before .before .before .weight .result) (c .before .before .size .result)
-    (c .before .nodes .result)) (c .queue-start .result) (c .before .nodes .result * c .before .before .before .before .node-words .result)
-    (c .before .before .before .before .node-words .result)
+    (made (start c .args .s .escape) (words c .node-words .result) (c .before .before .before .weight .result) (c .before .before .size .result)
+    (c .before .nodes .result)) (c .queue-start .result) (c .before .nodes .result * words c .node-words .result)
+    (words c .node-words .result)
 inside c = found-in (start c .pre .0) (start c .pre .1) (found c)
 
 mul-step : tie.Need-mul-step
