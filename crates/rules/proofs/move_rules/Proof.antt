@@ -23,12 +23,13 @@ tested : (S : Shape) (w : List ℕ) (n q o count held-there p flow : ℕ) (route
 unfolding moveRules
 tested S w n q o count held-there p flow route a b d e ec eh ep er ef ea eb ed ee = cc
 
--- node, queue and output are there
-there : (c : tie.Else3) → (leb (c .before .before .before .nodes .result) (c .before .before .before .before .before .args .n) ≡ false)
-    × (leb queues (c .before .before .before .before .before .args .q) ≡ false)
-    × (leb queues (c .before .before .before .before .before .args .o) ≡ false)
+-- where the function starts, from behind the three tests: node, queue and output are there
+abbrev start : tie.Else3 → tie.Start
+start c = c .before .before .before .before .before
+
+there : (c : tie.Else3) → (leb (c .before .before .before .nodes .result) (start c .args .n) ≡ false) × (leb queues (start c .args .q) ≡ false) × (leb queues (start c .args .o) ≡ false)
 there c =
-    let a = c .before .before .before .before .before .args in
+    let a = start c .args in
     (lt-leb (c .before .before .before .nodes .result) (a .n) (c .before .before .if1 .left), lt-leb queues (a .q) (c .before .if2 .left), lt-leb queues (a .o) (c .if3 .left))
 
 nodes-requires : tie.Need-nodes-requires
@@ -58,7 +59,7 @@ returns-3 c =
 returns-4 : tie.Need-returns-4
 returns-4 c =
     let f = c .before .before in
-    let a = f .before .before .before .before .before .args in
+    let a = start f .args in
     let count = f .before .before .before .nodes in
     let k = c .before .held-count in
     let t = there f in
@@ -69,26 +70,28 @@ returns-5 : tie.Need-returns-5
 returns-5 c =
     let h = c .before .before .before in
     let f = h .before .before in
-    let a = f .before .before .before .before .before .args in
+    let a = start f .args in
     let count = f .before .before .before .nodes in
     let k = h .before .held-count in
     let p = c .before .before .head in
     let t = there f in
+    let no = sym (not-true (c .before .is-route .result) (c .if5 .taken)) ∙ c .before .is-route .ensures in
     tested (shapeOf (a .s)) (a .words .now) (a .n) (a .q) (a .o) (count .result) (k .result) (p .result) _ false false false false false
-    (count .ensures) (k .ensures) (p .ensures) (sym (not-true (c .before .is-route .result) (c .if5 .taken)) ∙ c .before .is-route .ensures) refl (t .0) (t .1) (t .2) (ne-eqb (k .result) 0 (h .if4 .left))
+    (count .ensures) (k .ensures) (p .ensures) no refl (t .0) (t .1) (t .2) (ne-eqb (k .result) 0 (h .if4 .left))
 
 returns-6 : tie.Need-returns-6
 returns-6 c =
     let g = c .before in
     let h = g .before .before .before in
     let f = h .before .before in
-    let a = f .before .before .before .before .before .args in
+    let a = start f .args in
     let count = f .before .before .before .nodes in
     let k = h .before .held-count in
     let p = g .before .before .head in
     let t = there f in
+    let is = sym (not-false (g .before .is-route .result) (g .if5 .left)) ∙ g .before .is-route .ensures in
     tested (shapeOf (a .s)) (a .words .now) (a .n) (a .q) (a .o) (count .result) (k .result) (p .result) (c .flow-rules .result) true false false false false
-    (count .ensures) (k .ensures) (p .ensures) (sym (not-false (g .before .is-route .result) (g .if5 .left)) ∙ g .before .is-route .ensures) (c .flow-rules .ensures) (t .0) (t .1) (t .2) (ne-eqb (k .result) 0 (h .if4 .left))
+    (count .ensures) (k .ensures) (p .ensures) is (c .flow-rules .ensures) (t .0) (t .1) (t .2) (ne-eqb (k .result) 0 (h .if4 .left))
 
 pub move-rules-spec : {M : Type 1} → statement M
 move-rules-spec =

@@ -54,17 +54,20 @@ returns-3 c =
     (lt-leb (count .result) (a .n) (c .before .before .if1 .left)) (lt-leb (count .result) (a .destination) (c .before .if2 .left))
     (eq-eqb (a .n) (a .destination) (c .if3 .taken)) refl refl
 
--- where both nodes are there and differ, by the last two tests
+-- where the function starts, from where both nodes are there and differ; its answer, by the last two tests
+abbrev start : tie.After-held-count → tie.Start
+start c = c .before .before .before .before .before .before .before .before
+
 by-last : (c : tie.After-held-count) (d e : Bool)
-    → eqb (accepted (c .before .before .before .before .before .before .before .before .args .words .now)) mostAccepted ≡ d
+    → eqb (accepted (start c .args .words .now)) mostAccepted ≡ d
     → eqb (c .held-count .result) (c .before .capacity .result) ≡ e
     → refuse d countSpent (refuse e injectionFull 0)
-    ≡ offerRules (shapeOf (c .before .before .before .before .before .before .before .before .args .s)) (c .before .before .before .before .before .before .before .before .args .words .now) (c .before .before .before .before .before .before .before .before .args .n) (c .before .before .before .before .before .before .before .before .args .destination)
+    ≡ offerRules (shapeOf (start c .args .s)) (start c .args .words .now) (start c .args .n) (start c .args .destination)
 by-last c d e ed ee =
     let held = c .held-count in
     let slots = c .before .capacity in
     let f = c .before .before in
-    let a = f .before .before .before .before .before .before .args in
+    let a = start c .args in
     let count = f .before .before .before .before .nodes in
     tested (shapeOf (a .s)) (a .words .now) (a .n) (a .destination) (count .result) (held .result) (slots .result) false false false d e
     (count .ensures) (held .ensures ∙ sym (taken-length (shapeOf (a .s)) (a .words .now) (a .n) injectionQueue)) (slots .ensures)
@@ -75,21 +78,21 @@ returns-4 : tie.Need-returns-4
 unfolding accepted
 returns-4 c =
     let f = c .before in
-    let w = f .before .before .before .before .before .before .before .before .args .words .now in
+    let w = start f .args .words .now in
     by-last f true (eqb (f .held-count .result) (f .before .capacity .result)) (eq-eqb (accepted w) mostAccepted (c .if4 .taken)) refl
 
 returns-5 : tie.Need-returns-5
 unfolding accepted
 returns-5 c =
     let f = c .before .before in
-    let w = f .before .before .before .before .before .before .before .before .args .words .now in
+    let w = start f .args .words .now in
     by-last f false true (ne-eqb (accepted w) mostAccepted (c .before .if4 .left)) (eq-eqb (f .held-count .result) (f .before .capacity .result) (c .if5 .taken))
 
 returns-6 : tie.Need-returns-6
 unfolding accepted
 returns-6 c =
     let f = c .before .before in
-    let w = f .before .before .before .before .before .before .before .before .args .words .now in
+    let w = start f .args .words .now in
     by-last f false false (ne-eqb (accepted w) mostAccepted (c .before .if4 .left)) (ne-eqb (f .held-count .result) (f .before .capacity .result) (c .if5 .left))
 
 pub offer-rules-spec : {M : Type 1} → statement M
