@@ -42,19 +42,23 @@ fill-ring-requires c κs =
     let n = sizes-nodes s t in
     (at .loop .inv .1, h, omega arith, omega arith, omega arith)
 
+-- the turn, from where the ring's table is filled
+abbrev turn : tie.After-fill-ring Inv-loop μ-loop → tie.In-loop Inv-loop μ-loop
+turn c = c .before .before .before .before
+
 fill-passing-requires : tie.Need-fill-passing-requires Inv-loop μ-loop
 fill-passing-requires c κs =
     let ring = c .before .before .before in
-    let at = ring .before .before .before .before .before in
-    (at .before .before .pre .0, ring .fill-ring .ensures .words ∙ at .loop .inv .1, ring .before .before .before .before .loop-test .taken)
+    let at = turn ring .before in
+    (at .before .before .pre .0, ring .fill-ring .ensures .words ∙ at .loop .inv .1, turn ring .loop-test .taken)
 
 loop-again : tie.Need-loop-again Inv-loop μ-loop
 loop-again c =
     let pass = c .before .before in
     let ring = pass .before .before .before .before in
-    let at = ring .before .before .before .before .before in
+    let at = turn ring .before in
     let st = at .before .before in
-    let h = ring .before .before .before .before .loop-test .taken in (
+    let h = turn ring .loop-test .taken in (
       dimension-more (st .args .s) (at .loop .i) _ _ _ _ _ (st .pre .0) (at .loop .inv .0) (ring .before .before .size .ensures) (ring .before .weight .ensures) (ring .fill-ring .ensures)
           (pass .fill-passing .ensures),
       pass .fill-passing .ensures .words ∙ ring .fill-ring .ensures .words ∙ at .loop .inv .1,

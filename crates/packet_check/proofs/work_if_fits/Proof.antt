@@ -35,14 +35,21 @@ start c = c .before .before .before .before .before
 clear : (c : tie.At-loop Inv-loop μ-loop) → spare (start c .args .p) ≡ 0
 clear c = sym (c .before .before .before .spare .ensures) ∙ c .before .before .if1 .left
 
+-- the head of the loop and the call, from behind the test of an offset
+abbrev head : tie.After-passes Inv-loop μ-loop → tie.At-loop Inv-loop μ-loop
+head c = c .before .before .before
+
+abbrev call : tie.After-passes Inv-loop μ-loop → tie.Start Inv-loop μ-loop
+call c = start (head c)
+
 passes-requires : tie.Need-passes-requires Inv-loop μ-loop
 passes-requires c κs = let st = start (c .before .before) in (st .pre .1 .words, st .pre .2, c .before .loop-test .taken, c .above .ensures .0)
 
 -- what the test says
 along : (c : tie.After-passes Inv-loop μ-loop)
-    → c .passes .result ≡ belowAlong (shapeOf (start (c .before .before .before) .args .s)) (start (c .before .before .before) .args .q) (start (c .before .before .before) .args .p) (c .before .before .before .loop .i)
+    → c .passes .result ≡ belowAlong (shapeOf (call c .args .s)) (call c .args .q) (call c .args .p) (head c .loop .i)
 along c =
-    let st = start (c .before .before .before) in
+    let st = call c in
     c .passes .ensures ∙ passes-is (st .args .s) _ _ _ _ (c .before .before .loop-test .taken) (c .before .above .ensures .1) _ (st .pre .1) (st .pre .0 .sizes) (st .pre .2)
 
 returns-2 : tie.Need-returns-2 Inv-loop μ-loop
@@ -54,42 +61,39 @@ returns-2 c =
 
 -- the offset passes, and is less than once round
 below : (c : tie.Else2 Inv-loop μ-loop)
-    → belowAlong (shapeOf (start (c .before .before .before .before) .args .s)) (start (c .before .before .before .before) .args .q) (start (c .before .before .before .before) .args .p)
-    (c .before .before .before .before .loop .i)
-    ≡ true
+    → belowAlong (shapeOf (call (c .before) .args .s)) (call (c .before) .args .q) (call (c .before) .args .p) (head (c .before) .loop .i) ≡ true
 below c = sym (along (c .before)) ∙ not-false _ (c .if2 .left)
 
 once : (c : tie.Else2 Inv-loop μ-loop)
-    → Short (start (c .before .before .before .before) .args .s) (start (c .before .before .before .before) .args .q) (start (c .before .before .before .before) .args .p)
-    (c .before .before .before .before .loop .i) (c .before .before .above .result) (c .before .before .before .loop-test .taken) (c .before .before .above .ensures .1)
-once c = short _ _ _ _ _ _ _ (start (c .before .before .before .before) .pre .0 .sizes) (below c)
+    → Short (call (c .before) .args .s) (call (c .before) .args .q) (call (c .before) .args .p)
+    (head (c .before) .loop .i) (c .before .before .above .result) (c .before .before .before .loop-test .taken) (c .before .before .above .ensures .1)
+once c = short _ _ _ _ _ _ _ (call (c .before) .pre .0 .sizes) (below c)
 
 array-read-moved : tie.Need-array-read-moved Inv-loop μ-loop
 array-read-moved c = c .before .before .before .loop-test .taken
 
 moved-requires : tie.Need-moved-requires Inv-loop μ-loop
 moved-requires c κs =
-    let st = start (c .before .before .before .before) in
+    let st = call (c .before) in
     let h = c .before .before .before .loop-test .taken in
     (st .pre .1, st .pre .0 .sizes, h, st .pre .0 .below _ h, once c .least, once c .most)
 
--- one dimension more
 -- the distance that the table has for it
 far : (c : tie.Else2 Inv-loop μ-loop)
-    → getD (start (c .before .before .before .before) .args .tables .now) (firstDistance + c .before .before .above .result) 0
-    ≡ distance (c .before .before .before .before .loop .i) (start (c .before .before .before .before) .args .p)
+    → getD (call (c .before) .args .tables .now) (firstDistance + c .before .before .above .result) 0
+    ≡ distance (head (c .before) .loop .i) (call (c .before) .args .p)
 far c =
-    let st = start (c .before .before .before .before) in
+    let st = call (c .before) in
     distance-read (st .args .s) (st .args .q) _ _ _ (c .before .before .before .loop-test .taken) (c .before .before .above .ensures .1) _ (st .pre .1) (c .before .before .above .ensures .0)
 
 -- one dimension more
 more : (c : tie.After-moved Inv-loop μ-loop)
-    → More (start (c .before .before .before .before .before) .args .s) (record { at = start (c .before .before .before .before .before) .args .place .at })
-    (start (c .before .before .before .before .before) .args .q) (start (c .before .before .before .before .before) .args .p) (c .before .before .before .before .before .loop .i)
-    (c .before .before .before .before .before .loop .node + c .moved .result)
-    (c .before .before .before .before .before .loop .work + getD (start (c .before .before .before .before .before) .args .tables .now) (firstDistance + c .before .before .before .above .result) 0)
+    → More (call (c .before .before) .args .s) (record { at = call (c .before .before) .args .place .at })
+    (call (c .before .before) .args .q) (call (c .before .before) .args .p) (head (c .before .before) .loop .i)
+    (head (c .before .before) .loop .node + c .moved .result)
+    (head (c .before .before) .loop .work + getD (call (c .before .before) .args .tables .now) (firstDistance + c .before .before .before .above .result) 0)
 more c =
-    let at = c .before .before .before .before .before in
+    let at = head (c .before .before) in
     judged-more _ _ _ _ (start at .pre .0) _ _ _ _ _ (at .loop .inv) (c .before .before .before .before .loop-test .taken) (below (c .before))
     (c .moved .ensures _ _ (once (c .before) .back) (c .before .before .before .above .ensures .1)) (far (c .before))
 
@@ -99,7 +103,7 @@ add-node c = let l = more c .small in omega arith
 shared-slice-read-work : tie.Need-shared-slice-read-work Inv-loop μ-loop
 shared-slice-read-work c =
     let l = c .before .before .before .before .above .ensures .0 in
-    let w = start (c .before .before .before .before .before .before) .pre .1 .words in
+    let w = call (c .before .before .before) .pre .1 .words in
     omega arith
 
 add-work-2 : tie.Need-add-work-2 Inv-loop μ-loop

@@ -35,14 +35,16 @@ module _ (l : List ℕ) (i : ℕ) (h : i + 7 < length l) where
 
 returns : tie.Need-returns Inv-loop μ-loop
 returns c =
-    let l = c .before .before .before .before .before .before .before .before .before .before in
-    tells-stop _ _ _ _ (eight (l .before .before .args .part .now) (l .loop .i) (c .before .before .before .before .before .before .before .before .before .loop-test .taken)) (c .if1 .taken)
+    let t = c .before .before .before .before .before .before .before .before .before in
+    let l = t .before in
+    tells-stop _ _ _ _ (eight (l .before .before .args .part .now) (l .loop .i) (t .loop-test .taken)) (c .if1 .taken)
     ∙ l .loop .inv .0
 
 loop-again : tie.Need-loop-again Inv-loop μ-loop
 loop-again c =
-    let l = c .before .before .before .before .before .before .before .before .before .before in (
-      tells-on _ _ _ _ (eight (l .before .before .args .part .now) (l .loop .i) (c .before .before .before .before .before .before .before .before .before .loop-test .taken)) (c .if1 .left)
+    let t = c .before .before .before .before .before .before .before .before .before in
+    let l = t .before in (
+      tells-on _ _ _ _ (eight (l .before .before .args .part .now) (l .loop .i) (t .loop-test .taken)) (c .if1 .left)
           ∙ l .loop .inv .0,
       omega arith,
     )

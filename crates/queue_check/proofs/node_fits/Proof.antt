@@ -89,30 +89,37 @@ queue-fits-requires c κs =
       st .pre .3,
     )
 
-found : (c : tie.After-queue-fits Inv-loop μ-loop) → Found (start (c .before .before .before .before)) (c .before .before .before .before .loop .q) (c .queue-fits .result)
+-- the head of the loop, from behind the queue's test
+abbrev head : tie.After-queue-fits Inv-loop μ-loop → tie.At-loop Inv-loop μ-loop
+head c = c .before .before .before .before
+
+found : (c : tie.After-queue-fits Inv-loop μ-loop) → Found (start (head c)) (head c .loop .q) (c .queue-fits .result)
 found c = node-tally _ _ _ _ _ _ (part (c .before .before)) (c .queue-fits .ensures)
 
 returns : tie.Need-returns Inv-loop μ-loop
 returns c =
     node-stop _ _ _ _ _ _ (found (c .before .before .before)) (not-true _ (c .before .if1 .taken)) (c .before .before .before .before .before .before .loop-test .taken) (c .unfit .ensures)
 
+-- where the capacity was asked for of a queue that fits
+abbrev sized : tie.Else1 Inv-loop μ-loop → tie.After-capacity Inv-loop μ-loop
+sized c = c .before .before .before .before
+
 -- the walk goes on, and its sums are small
 module _ (c : tie.Else1 Inv-loop μ-loop) where
   st : tie.Start Inv-loop μ-loop
-  st = start (c .before .before .before .before .before .before)
+  st = start (head (c .before .before))
 
-  next : NodeWalk (S st) (w st) (n st) (c .before .before .before .before .before .before .loop .q + 1)
-      (c .before .before .before .before .before .before .loop .at + c .before .before .before .before .capacity .result + 1)
-      (c .before .before .before .before .before .before .loop .held + c .before .before .queue-fits .result .held)
-      (c .before .before .before .before .before .before .loop .work + c .before .before .queue-fits .result .work)
+  next : NodeWalk (S st) (w st) (n st) (head (c .before .before) .loop .q + 1)
+      (head (c .before .before) .loop .at + sized c .capacity .result + 1)
+      (head (c .before .before) .loop .held + c .before .before .queue-fits .result .held)
+      (head (c .before .before) .loop .work + c .before .before .queue-fits .result .work)
   unfolding st
   next =
-      node-more _ _ _ _ _ _ _ (c .before .before .before .before .capacity .result) (c .before .before .queue-fits .result)
-      (c .before .before .before .before .before .before .loop .inv) (slots (c .before .before .before .before)) (found (c .before .before))
-      (not-false _ (c .if1 .left)) (c .before .before .before .before .before .loop-test .taken)
+      node-more _ _ _ _ _ _ _ (sized c .capacity .result) (c .before .before .queue-fits .result) (head (c .before .before) .loop .inv) (slots (sized c)) (found (c .before .before))
+      (not-false _ (c .if1 .left)) (sized c .before .loop-test .taken)
 
-  small : (c .before .before .before .before .before .before .loop .held + c .before .before .queue-fits .result .held ≤ nodePackets)
-      × (c .before .before .before .before .before .before .loop .work + c .before .before .queue-fits .result .work ≤ nodeWork)
+  small : (head (c .before .before) .loop .held + c .before .before .queue-fits .result .held ≤ nodePackets)
+      × (head (c .before .before) .loop .work + c .before .before .queue-fits .result .work ≤ nodeWork)
   small = node-small _ _ _ (st .pre .1) (is-node st) _ _ _ _ next
 
 add-held : tie.Need-add-held Inv-loop μ-loop
@@ -122,10 +129,10 @@ add-work : tie.Need-add-work Inv-loop μ-loop
 add-work c = omega (arith, small (c .before .before))
 
 add-q : tie.Need-add-q Inv-loop μ-loop
-add-q c = omega (arith, c .before .before .before .before .before .before .before .loop-test .taken)
+add-q c = omega (arith, sized (c .before .before) .before .loop-test .taken)
 
 loop-less : tie.Need-loop-less Inv-loop μ-loop
-loop-less c = omega (arith, c .before .before .before .before .before .before .before .loop-test .taken)
+loop-less c = omega (arith, sized (c .before .before) .before .loop-test .taken)
 
 loop-again : tie.Need-loop-again Inv-loop μ-loop
 unfolding st

@@ -66,10 +66,11 @@ passed c = work-some _ _ _ (c .before .work-if-fits .ensures) (c .if1 .left)
 returns : tie.Need-returns Inv-loop μ-loop
 unfolding countOf
 returns c =
-    let st = start (c .before .before .before .before .before) in
+    let turn = c .before .before .before .before in
+    let at = turn .before in
+    let st = start at in
     tally-fails _ _ _ _ (c .unfit .ensures)
-    (packets-stop (test st) (part st) (st .pre .2) _ _ (c .before .before .before .before .before .loop .inv .0) (c .before .before .before .before .loop-test .taken)
-    (failed (c .before)))
+    (packets-stop (test st) (part st) (st .pre .2) _ _ (at .loop .inv .0) (turn .loop-test .taken) (failed (c .before)))
 
 add-work : tie.Need-add-work Inv-loop μ-loop
 unfolding countOf

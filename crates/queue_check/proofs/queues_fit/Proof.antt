@@ -52,16 +52,23 @@ node-fits-requires c κs =
 
 returns : tie.Need-returns Inv-loop μ-loop
 returns c =
-    net-stop _ _ _ _ _ _ _ (c .before .before .before .node-fits .result) (c .unfit .result) (c .before .before .before .before .before .before .loop .inv)
-    (is-node (c .before .before .before .before .before)) (c .before .before .before .node-fits .ensures) (not-true _ (c .before .if1 .taken)) (c .unfit .ensures)
+    let f = c .before .before .before in
+    let t = f .before .before in
+    net-stop _ _ _ _ _ _ _ (f .node-fits .result) (c .unfit .result) (t .before .loop .inv) (is-node t) (f .node-fits .ensures) (not-true _ (c .before .if1 .taken)) (c .unfit .ensures)
+
+-- the turn in which the node fits
+abbrev turn : tie.Else1 Inv-loop μ-loop → tie.In-loop Inv-loop μ-loop
+turn c = c .before .before .before .before
 
 sums : (c : tie.Else1 Inv-loop μ-loop)
-    → (c .before .before .before .before .before .loop .held + c .before .before .node-fits .result .held ≤ mostPackets)
-    × (c .before .before .before .before .before .loop .work + c .before .before .node-fits .result .work ≤ mostWorkLeft)
+    → (turn c .before .loop .held + c .before .before .node-fits .result .held ≤ mostPackets)
+    × (turn c .before .loop .work + c .before .before .node-fits .result .work ≤ mostWorkLeft)
 sums c =
-    let st = start (c .before .before .before .before .before .before .before) in
-    net-small _ _ (st .pre) _ _ _ (c .before .before .node-fits .result) (c .before .before .before .before .before .loop .inv .upto) (is-node (c .before .before .before .before))
-    (net-tally _ _ _ _ _ _ _ (c .before .before .node-fits .result) (c .before .before .before .before .before .loop .inv) (is-node (c .before .before .before .before)) (c .before .before .node-fits .ensures)) (not-false _ (c .if1 .left))
+    let f = c .before .before .node-fits in
+    let t = turn c in
+    let i = t .before .loop .inv in
+    let st = start (t .before .before .before) in
+    net-small _ _ (st .pre) _ _ _ (f .result) (i .upto) (is-node t) (net-tally _ _ _ _ _ _ _ (f .result) i (is-node t) (f .ensures)) (not-false _ (c .if1 .left))
 
 add-held : tie.Need-add-held Inv-loop μ-loop
 add-held c = omega (arith, sums (c .before))
@@ -71,32 +78,31 @@ add-work c = omega (arith, sums (c .before .before))
 
 add-start : tie.Need-add-start Inv-loop μ-loop
 add-start c =
-    let st = start (c .before .before .before .before .before .before .before .before .before) in
-    omega (
-      arith,
-      net-within _ _ (st .pre) _ _ _ _ _ _ (c .before .before .before .before .before .before .before .loop .inv) (is-node (c .before .before .before .before .before .before))
-          (words-is (c .before .before .before .before .before .before .before .before)),
-      st .good,
-    )
+    let t = turn (c .before .before) in
+    let l = t .before in
+    let st = start (l .before .before) in
+    omega (arith, net-within _ _ (st .pre) _ _ _ _ _ _ (l .loop .inv) (is-node t) (words-is (l .before)), st .good)
 
 next-place-requires : tie.Need-next-place-requires Inv-loop μ-loop
-next-place-requires c κs = c .before .before .before .before .before .before .before .loop .inv .walk .on
+next-place-requires c κs = turn (c .before .before) .before .loop .inv .walk .on
 
 add-n : tie.Need-add-n Inv-loop μ-loop
 add-n c =
-    let h = is-node (c .before .before .before .before .before .before .before) in
-    let m = sizes-nodes _ (start (c .before .before .before .before .before .before .before .before .before .before) .pre .sizes) in
+    let t = turn (c .before .before .before) in
+    let h = is-node t in
+    let m = sizes-nodes _ (start (t .before .before .before) .pre .sizes) in
     omega arith
 
 loop-less : tie.Need-loop-less Inv-loop μ-loop
-loop-less c = omega (arith, c .before .before .before .before .before .before .before .loop-test .taken)
+loop-less c = omega (arith, turn (c .before .before .before) .loop-test .taken)
 
 loop-again : tie.Need-loop-again Inv-loop μ-loop
 loop-again c =
-    net-more _ _ _ _ _ _ _ _ _ (c .before .before .before .before .before .node-fits .result)
-    (c .before .before .before .before .before .before .before .before .loop .inv) (is-node (c .before .before .before .before .before .before .before))
-    (words-is (c .before .before .before .before .before .before .before .before .before)) (c .before .before .before .before .before .node-fits .ensures)
-    (not-false _ (c .before .before .before .if1 .left)) (c .next-place .ensures .0) (c .next-place .ensures .1)
+    let e = c .before .before .before in
+    let f = e .before .before .node-fits in
+    let t = turn e in
+    let l = t .before in
+    net-more _ _ _ _ _ _ _ _ _ (f .result) (l .loop .inv) (is-node t) (words-is (l .before)) (f .ensures) (not-false _ (e .if1 .left)) (c .next-place .ensures .0) (c .next-place .ensures .1)
 
 returns-2 : tie.Need-returns-2 Inv-loop μ-loop
 returns-2 c =
