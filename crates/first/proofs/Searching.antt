@@ -153,9 +153,10 @@ module _ {s : Sizes} {w : List ℕ} {n q start : ℕ} {r : List ℕ} (k : Readin
   pub line-refused : (j : ℕ) → j < selectionLines → applies j (getD r j 0) ≡ true → flowRules (shapeOf s) w n q (getD r j 0) (getD w (start + 1) 0) ≢ 0 → FoundFrom s w n q r j
       → FoundFrom s w n q r (j + 1)
   line-refused j h a ne inv =
+      let refuses = flow-refuses (shapeOf s) w n q (getD r j 0) (λ z. ne (ap (flowRules (shapeOf s) w n q (getD r j 0)) the-head ∙ z)) in
       sym
       (ap (firstOutput (shapeOf s) w n q) (line-taken r j (among j h) a)
-      ∙ output-on (shapeOf s) w n q (getD r j 0) (outputsFrom (j + 1) (drop (j + 1) r)) (flow-refuses (shapeOf s) w n q (getD r j 0) (λ z. ne (ap (flowRules (shapeOf s) w n q (getD r j 0)) the-head ∙ z))))
+      ∙ output-on (shapeOf s) w n q (getD r j 0) (outputsFrom (j + 1) (drop (j + 1) r)) refuses)
       ∙ inv
 
   pub line-found : (j : ℕ) → j < selectionLines → applies j (getD r j 0) ≡ true → flowRules (shapeOf s) w n q (getD r j 0) (getD w (start + 1) 0) ≡ 0 → FoundFrom s w n q r j

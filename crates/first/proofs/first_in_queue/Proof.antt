@@ -27,10 +27,17 @@ passed said number e t = eqb-true number 0 (sym e ∙ t)
 failed : (said : Bool) (number : ℕ) → said ≡ eqb number 0 → said ≡ false → number ≢ 0
 failed said number e t = eqb-false number 0 (sym e ∙ t)
 
+-- where the function starts, and where the queue's words were sought
+abbrev start : tie.After-queue-start Inv-loop μ-loop → tie.Start Inv-loop μ-loop
+start c = c .before .before .before
+
+abbrev sought : tie.After-routes Inv-loop μ-loop → tie.After-queue-start Inv-loop μ-loop
+sought c = c .before .before .before .before
+
 -- the two words of the queue are among those lent
-two-words : (c : tie.After-queue-start Inv-loop μ-loop) → c .queue-start .result + 1 < length (c .before .before .before .args .words .now)
+two-words : (c : tie.After-queue-start Inv-loop μ-loop) → c .queue-start .result + 1 < length (start c .args .words .now)
 two-words c =
-    let f = c .before .before .before in
+    let f = start c in
     let a = f .args in
     inside-at (a .s) (a .words .now) (a .n) (a .q) (f .pre .0) (c .queue-start .result) (c .queue-start .ensures)
 
@@ -39,10 +46,10 @@ routes-requires c κs = c .before .before .before .before .before .before .pre .
 
 -- what was read of the queue
 reading : (c : tie.After-routes Inv-loop μ-loop)
-    → Reading (c .before .before .before .before .before .before .before .args .s) (c .before .before .before .before .before .before .before .args .words .now) (c .before .before .before .before .before .before .before .args .n) (c .before .before .before .before .before .before .before .args .q) (c .before .before .before .before .queue-start .result) (c .routes .result)
+    → Reading (start (sought c) .args .s) (start (sought c) .args .words .now) (start (sought c) .args .n) (start (sought c) .args .q) (sought c .queue-start .result) (c .routes .result)
 reading c =
-    let f = c .before .before .before .before in
-    let a = f .before .before .before in
+    let f = sought c in
+    let a = start f in
     record { queue = a .pre .0; at = f .queue-start .ensures; some = c .before .before .if1 .left; each = c .routes .ensures .0; these = c .routes .ensures .1 .0 }
 
 queue-start-requires : tie.Need-queue-start-requires Inv-loop μ-loop
@@ -52,7 +59,7 @@ queue-start-requires c κs =
     asked (a .s) (a .words .now) (a .n) (a .q) (f .pre .0)
 
 mul-if1 : tie.Need-mul-if1 Inv-loop μ-loop
-mul-if1 c = omega (arith, two-words c, c .before .before .before .good)
+mul-if1 c = omega (arith, two-words c, start c .good)
 
 shared-slice-read-if1 : tie.Need-shared-slice-read-if1 Inv-loop μ-loop
 shared-slice-read-if1 c = omega (arith, two-words (c .before))
@@ -60,15 +67,15 @@ shared-slice-read-if1 c = omega (arith, two-words (c .before))
 returns : tie.Need-returns Inv-loop μ-loop
 returns c =
     let f = c .before .before in
-    let b = f .before .before .before in
+    let b = start f in
     let a = b .args in
     sym (queue-none (a .s) (a .words .now) (a .n) (a .q) (f .queue-start .result) (b .pre .0) (f .queue-start .ensures) (c .if1 .taken))
 
 add-p : tie.Need-add-p Inv-loop μ-loop
-add-p c = let f = c .before .before in omega (arith, two-words f, f .before .before .before .good)
+add-p c = let f = c .before .before in omega (arith, two-words f, start f .good)
 
 mul-p : tie.Need-mul-p Inv-loop μ-loop
-mul-p c = let f = c .before .before in omega (arith, two-words f, f .before .before .before .good)
+mul-p c = let f = c .before .before in omega (arith, two-words f, start f .good)
 
 shared-slice-read-p : tie.Need-shared-slice-read-p Inv-loop μ-loop
 shared-slice-read-p c = two-words (c .before .before .before)
@@ -86,7 +93,7 @@ may-flow-requires c κs =
         node = k .queue .node;
         queue = output-lt k (f .before .loop .k) (f .loop-test .taken) (sym (c .before .applies .ensures) ∙ c .if2 .taken);
       },
-      r .before .before .before .before .before .before .before .pre .1,
+      start (sought r) .pre .1,
     )
 
 returns-2 : tie.Need-returns-2 Inv-loop μ-loop

@@ -44,24 +44,34 @@ abbrev μ-search : tie.MeasureT-search
 abbrev entry : tie.At-search Inv-loop2 μ-loop2 Inv-loop μ-loop Inv-search μ-search → tie.Start Inv-loop2 μ-loop2 Inv-loop μ-loop Inv-search μ-search
 entry c = c .before .before .before .before .before .before
 
+-- a turn of a node's queues: the node's turn, and the call; and the turn in which the routes were asked for
+abbrev node-of : tie.In-loop Inv-loop2 μ-loop2 Inv-loop μ-loop Inv-search μ-search → tie.At-search Inv-loop2 μ-loop2 Inv-loop μ-loop Inv-search μ-search
+node-of c = c .before .before .before
+
+abbrev call : tie.In-loop Inv-loop2 μ-loop2 Inv-loop μ-loop Inv-search μ-search → tie.Start Inv-loop2 μ-loop2 Inv-loop μ-loop Inv-search μ-search
+call c = entry (node-of c)
+
+abbrev turn : tie.After-routes Inv-loop2 μ-loop2 Inv-loop μ-loop Inv-search μ-search → tie.In-loop Inv-loop2 μ-loop2 Inv-loop μ-loop Inv-search μ-search
+turn c = c .before .before .before .before
+
 node-lt : (c : tie.In-search Inv-loop2 μ-loop2 Inv-loop μ-loop Inv-search μ-search) → c .before .search .n < nodes (shapeOf (entry (c .before) .args .s))
 node-lt c = let e = c .before .before .nodes .ensures in omega (arith, e, c .search-test .taken)
 
 queue-of : (c : tie.In-loop Inv-loop2 μ-loop2 Inv-loop μ-loop Inv-search μ-search)
-    → QueueOf (shapeOf (entry (c .before .before .before) .args .s)) (entry (c .before .before .before) .args .words .now) (c .before .before .before .search .n) (c .before .loop .q)
-queue-of c = record { network = entry (c .before .before .before) .pre; node = node-lt (c .before .before); queue = c .loop-test .taken }
+    → QueueOf (shapeOf (call c .args .s)) (call c .args .words .now) (node-of c .search .n) (c .before .loop .q)
+queue-of c = record { network = call c .pre; node = node-lt (c .before .before); queue = c .loop-test .taken }
 
 reading : (c : tie.After-routes Inv-loop2 μ-loop2 Inv-loop μ-loop Inv-search μ-search)
-    → Reading (entry (c .before .before .before .before .before .before .before) .args .s) (entry (c .before .before .before .before .before .before .before) .args .words .now) (c .before .before .before .before .before .before .before .search .n) (c .before .before .before .before .before .loop .q) (c .before .before .before .before .before .loop .start) (c .routes .result)
+    → Reading (call (turn c) .args .s) (call (turn c) .args .words .now) (node-of (turn c) .search .n) (turn c .before .loop .q) (turn c .before .loop .start) (c .routes .result)
 reading c =
-    let f = c .before .before .before .before in
+    let f = turn c in
     record { queue = queue-of f; at = f .before .loop .inv .place; some = c .before .before .if2 .taken; each = c .routes .ensures .0; these = c .routes .ensures .1 .0 }
 
 -- the two words of the queue are among those lent
-two-words : (c : tie.In-loop Inv-loop2 μ-loop2 Inv-loop μ-loop Inv-search μ-search) → c .before .loop .start + 1 < length (entry (c .before .before .before) .args .words .now)
+two-words : (c : tie.In-loop Inv-loop2 μ-loop2 Inv-loop μ-loop Inv-search μ-search) → c .before .loop .start + 1 < length (call c .args .words .now)
 two-words c =
-    let a = entry (c .before .before .before) .args in
-    inside-at (a .s) (a .words .now) (c .before .before .before .search .n) (c .before .loop .q) (queue-of c) (c .before .loop .start) (c .before .loop .inv .place)
+    let a = call c .args in
+    inside-at (a .s) (a .words .now) (node-of c .search .n) (c .before .loop .q) (queue-of c) (c .before .loop .start) (c .before .loop .inv .place)
 
 -- Nothing held ------------------------------------------------------------------------------------------------------------------------
 
@@ -95,16 +105,16 @@ loop-holds : tie.Need-loop-holds Inv-loop2 μ-loop2 Inv-loop μ-loop Inv-search 
 loop-holds c = let i = c .before .search .inv in queues-begin (i .nothing) (i .place)
 
 mul-if2 : tie.Need-mul-if2 Inv-loop2 μ-loop2 Inv-loop μ-loop Inv-search μ-search
-mul-if2 c = omega (arith, two-words c, entry (c .before .before .before) .good)
+mul-if2 c = omega (arith, two-words c, call c .good)
 
 shared-slice-read-if2 : tie.Need-shared-slice-read-if2 Inv-loop2 μ-loop2 Inv-loop μ-loop Inv-search μ-search
 shared-slice-read-if2 c = omega (arith, two-words (c .before))
 
 add-p : tie.Need-add-p Inv-loop2 μ-loop2 Inv-loop μ-loop Inv-search μ-search
-add-p c = let f = c .before .before in omega (arith, two-words f, entry (f .before .before .before) .good)
+add-p c = let f = c .before .before in omega (arith, two-words f, call f .good)
 
 mul-p : tie.Need-mul-p Inv-loop2 μ-loop2 Inv-loop μ-loop Inv-search μ-search
-mul-p c = let f = c .before .before in omega (arith, two-words f, entry (f .before .before .before) .good)
+mul-p c = let f = c .before .before in omega (arith, two-words f, call f .good)
 
 shared-slice-read-p : tie.Need-shared-slice-read-p Inv-loop2 μ-loop2 Inv-loop μ-loop Inv-search μ-search
 shared-slice-read-p c = two-words (c .before .before .before)
@@ -112,7 +122,7 @@ shared-slice-read-p c = two-words (c .before .before .before)
 -- The lines of a head's routes ---------------------------------------------------------------------------------------------------------
 
 loop2-holds : tie.Need-loop2-holds Inv-loop2 μ-loop2 Inv-loop μ-loop Inv-search μ-search
-loop2-holds c = (c .before .before .before .before .before .loop .inv .nothing, record { within = omega arith; left = found-from-first (reading c) })
+loop2-holds c = (turn c .before .loop .inv .nothing, record { within = omega arith; left = found-from-first (reading c) })
 
 flow-rules-requires : tie.Need-flow-rules-requires Inv-loop2 μ-loop2 Inv-loop μ-loop Inv-search μ-search
 flow-rules-requires c κs =
@@ -145,10 +155,11 @@ loop2-again c =
 
 nothing-in-queue : (c : tie.Joined2 Inv-loop2 μ-loop2 Inv-loop μ-loop Inv-search μ-search)
     → (c .if2 .found ≡ false)
-    × (firstInQueue (shapeOf (entry (c .before .before .before .before .before) .args .s)) (entry (c .before .before .before .before .before) .args .words .now) (c .before .before .before .before .before .search .n) (c .before .before .before .loop .q) ≡ Found.Nothing)
+    × (firstInQueue (shapeOf (call (c .before .before) .args .s)) (call (c .before .before) .args .words .now) (node-of (c .before .before) .search .n) (c .before .before .before .loop .q)
+    ≡ Found.Nothing)
 nothing-in-queue c =
     let f = c .before .before in
-    let a = entry (f .before .before .before) .args in
+    let a = call f .args in
     ⊎-elim
     (λ v. (
       v .5 ∙ v .3 .inv .0,
@@ -158,22 +169,24 @@ nothing-in-queue c =
     ))
     (λ v. (
       v .1 ∙ f .before .loop .inv .nothing,
-      queue-none (a .s) (a .words .now) (f .before .before .before .search .n) (f .before .loop .q) (f .before .loop .start) (queue-of f) (f .before .loop .inv .place) (v .0 .left),
+      queue-none (a .s) (a .words .now) (node-of f .search .n) (f .before .loop .q) (f .before .loop .start) (queue-of f) (f .before .loop .inv .place) (v .0 .left),
     ))
     (c .if2 .came)
 
 -- where the next queue's words start is among the words too, or just behind them
-next-start : (c : tie.After-capacity Inv-loop2 μ-loop2 Inv-loop μ-loop Inv-search μ-search) → c .before .before .before .before .loop .start + (1 + c .capacity .result) ≤ length (entry (c .before .before .before .before .before .before) .args .words .now)
+next-start : (c : tie.After-capacity Inv-loop2 μ-loop2 Inv-loop μ-loop Inv-search μ-search)
+    → c .before .before .before .before .loop .start + (1 + c .capacity .result) ≤ length (call (c .before .before .before) .args .words .now)
 next-start c =
     let f = c .before .before .before in
-    let a = entry (f .before .before .before) .args in
-    end-at (a .s) (a .words .now) (f .before .before .before .search .n) (f .before .loop .q) (queue-of f) (f .before .loop .start) (c .capacity .result) (f .before .loop .inv .place) (c .capacity .ensures)
+    let a = call f .args in
+    let l = f .before .loop in
+    end-at (a .s) (a .words .now) (node-of f .search .n) (l .q) (queue-of f) (l .start) (c .capacity .result) (l .inv .place) (c .capacity .ensures)
 
 add-start : tie.Need-add-start Inv-loop2 μ-loop2 Inv-loop μ-loop Inv-search μ-search
-add-start c = omega (arith, next-start c, entry (c .before .before .before .before .before .before) .good)
+add-start c = omega (arith, next-start c, call (c .before .before .before) .good)
 
 add-start-2 : tie.Need-add-start-2 Inv-loop2 μ-loop2 Inv-loop μ-loop Inv-search μ-search
-add-start-2 c = omega (arith, next-start c, entry (c .before .before .before .before .before .before) .good)
+add-start-2 c = omega (arith, next-start c, call (c .before .before .before) .good)
 
 add-q : tie.Need-add-q Inv-loop2 μ-loop2 Inv-loop μ-loop Inv-search μ-search
 add-q c = omega (arith, c .before .before .before .loop-test .taken)
@@ -184,7 +197,7 @@ loop-less c = omega (arith, c .before .before .before .loop-test .taken)
 loop-again : tie.Need-loop-again Inv-loop2 μ-loop2 Inv-loop μ-loop Inv-search μ-search
 loop-again c =
     let f = c .before .before .before in
-    let a = entry (f .before .before .before) .args in
+    let a = call f .args in
     let none = nothing-in-queue (c .before) in
     queue-next (f .before .loop .inv) (none .0) (f .loop-test .taken) (c .capacity .ensures) (none .1)
 
