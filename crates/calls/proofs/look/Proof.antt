@@ -15,6 +15,13 @@ use Rattle.checker.specs.Opened.{broken, is-open, is-shut}
 use Rattle.calls.proofs.look.Statement.{statement}
 use Rattle.calls.proofs.look.Tie as tie
 
+-- where the words were opened, and where the call starts
+abbrev opening : tie.Else1 → tie.After-opened
+opening c = c .before .before .before
+
+abbrev start : tie.After-opened → tie.Start
+start o = o .before .before .before .before
+
 look-rules-requires : tie.Need-look-rules-requires
 look-rules-requires c κs =
     let o = c .before in
@@ -25,7 +32,7 @@ returns : tie.Need-returns
 returns c =
     let t = c .before .before .look-rules in
     let o = c .before .before .before .before in
-    let a = o .before .before .before .before .args in
+    let a = start o .args in
     let k = is-open (o .before .before .«open» .ensures) (o .opened .given .1) in
     let ne : lookRefusal (now (a .words)) (a .node) (a .queue) ≢ 0 =
     λ z. c .before .if1 .taken (t .ensures ∙ look-rules (shapeOf (o .opened .given .0 .0)) (now (a .words)) (a .node) (a .queue) (k .passed) (k .sizes) ∙ z) in
@@ -34,10 +41,10 @@ returns c =
 
 -- the look is not refused
 look : (c : tie.Else1)
-    → QueueOf (shapeOf (c .before .before .before .opened .given .0 .0)) (now (c .before .before .before .before .before .before .before .args .words)) (c .before .before .before .before .before .before .before .args .node) (c .before .before .before .before .before .before .before .args .queue)
+    → QueueOf (shapeOf (opening c .opened .given .0 .0)) (now (start (opening c) .args .words)) (start (opening c) .args .node) (start (opening c) .args .queue)
 look c =
     let t = c .before .look-rules in
-    let o = c .before .before .before in
+    let o = opening c in
     let k = is-open (o .before .before .«open» .ensures) (o .opened .given .1) in
     looks (k .network) (t .ensures) (c .if1 .left)
 
@@ -48,19 +55,20 @@ held-count-requires : tie.Need-held-count-requires
 held-count-requires c κs = let k = look (c .before) in record { network = k .network; node = k .node; queue = k .queue }
 
 -- the held words end before the words do
-ends : (c : tie.After-held-count)
-    → c .before .queue-start .result + 1 + c .held-count .result ≤ length (now (c .before .before .before .before .before .before .before .before .before .args .words))
+ends : (c : tie.After-held-count) → c .before .queue-start .result + 1 + c .held-count .result ≤ length (now (start (opening (c .before .before)) .args .words))
 ends c =
     let e = c .before .before in
-    let o = e .before .before .before in
-    let a = o .before .before .before .before .args in
-    held-end (shapeOf (o .opened .given .0 .0)) (now (a .words)) (a .node) (a .queue) (c .before .queue-start .result) (c .held-count .result) (look e) (c .before .queue-start .ensures) (c .held-count .ensures)
+    let o = opening e in
+    let a = start o .args in
+    let q = c .before .queue-start in
+    let h = c .held-count in
+    held-end (shapeOf (o .opened .given .0 .0)) (now (a .words)) (a .node) (a .queue) (q .result) (h .result) (look e) (q .ensures) (h .ensures)
 
 add-from : tie.Need-add-from
-add-from c = let e = ends c in omega (arith, c .before .before .before .before .before .before .before .before .before .good .0)
+add-from c = let e = ends c in omega (arith, start (opening (c .before .before)) .good .0)
 
 add-to : tie.Need-add-to
-add-to c = let e = ends c in omega (arith, c .before .before .before .before .before .before .before .before .before .good .0)
+add-to c = let e = ends c in omega (arith, start (opening (c .before .before)) .good .0)
 
 between-requires : tie.Need-between-requires
 between-requires c κs = let e = ends c in (omega arith, omega arith)
@@ -80,8 +88,8 @@ returns-3 c =
     let q = c .before .before .queue-start in
     let f = c .before .before .before in
     let t = f .before .look-rules in
-    let o = f .before .before .before in
-    let a = o .before .before .before .before .args in
+    let o = opening f in
+    let a = start o .args in
     let k = is-open (o .before .before .«open» .ensures) (o .opened .given .1) in
     let none = sym (look-rules (shapeOf (o .opened .given .0 .0)) (now (a .words)) (a .node) (a .queue) (k .passed) (k .sizes)) ∙ sym (t .ensures) ∙ f .if1 .left in
     let e = look-shown (shapeOf (o .opened .given .0 .0)) (now (a .words)) _ (a .node) (a .queue) (k .sizes) none

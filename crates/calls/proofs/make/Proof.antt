@@ -19,6 +19,10 @@ returns c =
     let x = make-wrong-size (shapeOf (a .s)) (now (a .words)) (sym (i .ensures) ∙ not-true (i .result) (c .if1 .taken)) in
     (x .says, x .leaves)
 
+-- where the call starts, from behind the test of the sizes
+abbrev start : tie.After-need → tie.Start
+start c = c .before .before .before .before
+
 ranged : (c : tie.Else1) → sizesInRange (shapeOf (c .before .before .before .args .s)) ≡ true
 ranged c = let i = c .before .in-range in sym (i .ensures) ∙ not-false (i .result) (c .if1 .left)
 
@@ -27,7 +31,7 @@ need-requires c κs = true-T _ (ranged c)
 
 returns-2 : tie.Need-returns-2
 returns-2 c =
-    let a = c .before .before .before .before .before .args in
+    let a = start (c .before) .args in
     let d = c .before .need in
     let x = make-short (shapeOf (a .s)) (now (a .words)) (ranged (c .before .before))
     (subst (λ (n : ℕ). length (now (a .words)) < n) (d .ensures) (c .if2 .taken)) in
@@ -35,16 +39,16 @@ returns-2 c =
 
 write-empty-requires : tie.Need-write-empty-requires
 write-empty-requires c κs =
-    let a = c .before .before .before .before .before .before .args in
+    let a = start (c .before .before) .args in
     let d = c .before .before .need in
     (true-T _ (ranged (c .before .before .before)), subst (λ (n : ℕ). n ≤ length (now (a .words))) (d .ensures) (c .before .if2 .left))
 
 returns-3 : tie.Need-returns-3
 returns-3 c =
-    let a = c .before .before .before .before .before .before .before .before .before .args in
-    let d = c .before .before .before .before .before .need in
-    let x = make-made (shapeOf (a .s)) (now (a .words)) (ranged (c .before .before .before .before .before .before))
-    (subst (λ (n : ℕ). n ≤ length (now (a .words))) (d .ensures) (c .before .before .before .before .if2 .left)) in
+    let e = c .before .before .before .before in
+    let d = e .before in
+    let a = start d .args in
+    let x = make-made (shapeOf (a .s)) (now (a .words)) (ranged (d .before)) (subst (λ (n : ℕ). n ≤ length (now (a .words))) (d .need .ensures) (e .if2 .left)) in
     (x .says, c .before .before .write-empty .ensures ∙ x .leaves)
 
 pub make-spec : {M : Type 1} → statement M

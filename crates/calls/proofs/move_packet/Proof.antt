@@ -18,6 +18,10 @@ use Rattle.calls.proofs.move_packet.Tie as tie
 told : (w : List ℕ) (n q o : ℕ) (said : Moved) → said ≡ moveAnswer w n q o → MoveTells w n q o said
 told w n q o said e = subst (λ (r : Moved). MoveTells w n q o r) (sym e) (move-tells w n q o)
 
+-- where the call starts, from where the words were opened
+abbrev start : tie.After-opened2 → tie.Start
+start o = o .before .before .before .before .before
+
 move-rules-requires : tie.Need-move-rules-requires
 move-rules-requires c κs =
     let o = c .before .before in
@@ -28,7 +32,7 @@ returns : tie.Need-returns
 returns c =
     let t = c .before .move-rules in
     let o = c .before .before .before .before in
-    let a = o .before .before .before .before .before .args in
+    let a = start o .args in
     let k = is-open (o .before .before .«open» .ensures) (o .opened2 .given .1) in
     let x = move-refused (now (a .words)) (a .node) (a .queue) (a .output) (t .result)
     (move-rules (shapeOf (o .opened2 .given .0 .0)) (now (a .words)) (a .node) (a .queue) (a .output) (k .passed) (k .sizes) ∙ sym (t .ensures)) (λ z. c .if1 .taken (omega (arith, z))) in
@@ -38,7 +42,7 @@ make-move-requires : tie.Need-make-move-requires
 make-move-requires c κs =
     let t = c .before .before .move-rules in
     let o = c .before .before .before .before .before in
-    let a = o .before .before .before .before .before .args in
+    let a = start o .args in
     let k = is-open (o .before .before .«open» .ensures) (o .opened2 .given .1) in
     (k .network, permitted-of (shapeOf (o .opened2 .given .0 .0)) (now (a .words)) (a .node) (a .queue) (a .output) (let e = t .ensures in let l = c .before .if1 .left in omega arith))
 
@@ -48,7 +52,7 @@ returns-2 c =
     let e = c .before .before .before .before .before in
     let t = e .before .move-rules in
     let o = e .before .before .before .before in
-    let a = o .before .before .before .before .before .args in
+    let a = start o .args in
     let k = is-open (o .before .before .«open» .ensures) (o .opened2 .given .1) in
     let x = move-delivered (shapeOf (o .opened2 .given .0 .0)) (now (a .words)) (a .node) (a .queue) (a .output) (m .result) (k .passed) (k .sizes)
     (sym (t .ensures) ∙ e .if1 .left) (c .if2 .taken) (m .ensures .1) in
@@ -69,7 +73,7 @@ returns-4 c =
     let e = c .before .before .before .before .before in
     let t = e .before .move-rules in
     let o = e .before .before .before .before in
-    let a = o .before .before .before .before .before .args in
+    let a = start o .args in
     let k = is-open (o .before .before .«open» .ensures) (o .opened2 .given .1) in
     let x = move-passed (shapeOf (o .opened2 .given .0 .0)) (now (a .words)) (a .node) (a .queue) (a .output) (k .passed) (k .sizes)
     (sym (t .ensures) ∙ e .if1 .left) (c .if2 .left) in

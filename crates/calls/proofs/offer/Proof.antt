@@ -9,6 +9,10 @@ use Rattle.checker.specs.Opened.{broken, is-open, is-shut}
 use Rattle.calls.proofs.offer.Statement.{statement}
 use Rattle.calls.proofs.offer.Tie as tie
 
+-- where the call starts, from where the words were opened
+abbrev start : tie.After-opened2 → tie.Start
+start o = o .before .before .before .before .before
+
 offer-rules-requires : tie.Need-offer-rules-requires
 offer-rules-requires c κs =
     let o = c .before .before in
@@ -19,7 +23,7 @@ returns : tie.Need-returns
 returns c =
     let t = c .before .offer-rules in
     let o = c .before .before .before .before in
-    let a = o .before .before .before .before .before .args in
+    let a = start o .args in
     let k = is-open (o .before .before .«open» .ensures) (o .opened2 .given .1) in
     let x = offer-refused (now (a .words)) (a .node) (a .destination) (a .tag) (t .result)
     (offer-rules (shapeOf (o .opened2 .given .0 .0)) (now (a .words)) (a .node) (a .destination) (k .passed) (k .sizes) ∙ sym (t .ensures)) (c .if1 .taken) in
@@ -29,7 +33,7 @@ accept-requires : tie.Need-accept-requires
 accept-requires c κs =
     let t = c .before .before .offer-rules in
     let o = c .before .before .before .before .before in
-    let a = o .before .before .before .before .before .args in
+    let a = start o .args in
     let k = is-open (o .before .before .«open» .ensures) (o .opened2 .given .1) in
     let p = accepting (shapeOf (o .opened2 .given .0 .0)) (now (a .words)) (a .node) (a .destination) (k .network) (sym (t .ensures) ∙ c .before .if1 .left) in
     (k .network, (p .node, (p .addressed, p .free)))
@@ -48,7 +52,7 @@ returns-3 c =
     let e = c .before .before .before .before in
     let t = e .before .offer-rules in
     let o = e .before .before .before .before in
-    let a = o .before .before .before .before .before .args in
+    let a = start o .args in
     let k = is-open (o .before .before .«open» .ensures) (o .opened2 .given .1) in
     let x = offer-taken (shapeOf (o .opened2 .given .0 .0)) (now (a .words)) (a .node) (a .destination) (a .tag) (k .passed) (k .sizes) (sym (t .ensures) ∙ e .if1 .left) in
     (x .says, c .before .before .accept .ensures ∙ x .leaves)
