@@ -37,15 +37,19 @@ loop-holds c =
     let s = c .before .before in
     behind-none (s .args .base) (s .args .n) (s .pre .0 .0) (s .args .out .now) (s .args .at) (s .pre .1) _ (ap (λ l. s .args .at + l) (c .number-length .ensures))
 
+-- where the function starts
+abbrev start : tie.At-loop Inv-loop μ-loop → tie.Start Inv-loop μ-loop
+start c = c .before .before .before
+
 rem-out : tie.Need-rem-out Inv-loop μ-loop
 rem-out c =
-    let s = c .before .before .before .before in
+    let s = start (c .before) in
     let two = s .pre .0 .0 in
     omega arith
 
 cast-out : tie.Need-cast-out Inv-loop μ-loop
 cast-out c =
-    let s = c .before .before .before .before in
+    let s = start (c .before) in
     let two = s .pre .0 .0 in
     let ten = s .pre .0 .1 in
     let d = mod-lt (c .before .loop .rest) {m = s .args .base} (omega arith) in
@@ -53,7 +57,7 @@ cast-out c =
 
 add-out : tie.Need-add-out Inv-loop μ-loop
 add-out c =
-    let s = c .before .before .before .before in
+    let s = start (c .before) in
     let two = s .pre .0 .0 in
     let ten = s .pre .0 .1 in
     let d = mod-lt (c .before .loop .rest) {m = s .args .base} (omega arith) in
@@ -61,58 +65,60 @@ add-out c =
 
 slice-write-out : tie.Need-slice-write-out Inv-loop μ-loop
 slice-write-out c =
-    let s = c .before .before .before .before in
+    let s = start (c .before) in
     behind-place (s .args .base) (s .args .n) (s .pre .0 .0) (s .args .out .now) (s .args .at) (s .pre .1) (c .before .loop .inv)
 
 div-rest : tie.Need-div-rest Inv-loop μ-loop
 div-rest c =
-    let s = c .before .before .before .before in
+    let s = start (c .before) in
     let two = s .pre .0 .0 in
     omega arith
 
 sub-i-2 : tie.Need-sub-i-2 Inv-loop μ-loop
 sub-i-2 c =
-    let s = c .before .before .before .before in
+    let s = start (c .before) in
     behind-above (s .args .base) (s .args .n) (s .pre .0 .0) (s .args .out .now) (s .args .at) (s .pre .1) (c .before .loop .inv) (c .loop-test .taken)
 
 loop-less : tie.Need-loop-less Inv-loop μ-loop
 loop-less c =
-    let s = c .before .before .before .before in
+    let s = start (c .before) in
     smaller (s .args .base) (s .pre .0 .0) (c .before .loop .rest) (c .loop-test .taken)
 
 loop-again : tie.Need-loop-again Inv-loop μ-loop
 loop-again c =
-    let s = c .before .before .before .before in
+    let s = start (c .before) in
     behind-more (s .args .base) (s .args .n) (s .pre .0 .0) (s .args .out .now) (s .args .at) (s .pre .1) (c .before .loop .inv) (c .loop-test .taken)
 
 cast-out-2 : tie.Need-cast-out-2 Inv-loop μ-loop
 cast-out-2 c =
-    let s = c .before .before .before .before in
+    let s = start (c .before) in
     let ten = s .pre .0 .1 in
     let d = c .loop-test .left in
     omega arith
 
 add-out-2 : tie.Need-add-out-2 Inv-loop μ-loop
 add-out-2 c =
-    let s = c .before .before .before .before in
+    let s = start (c .before) in
     let ten = s .pre .0 .1 in
     let d = c .loop-test .left in
     omega arith
 
 slice-write-out-2 : tie.Need-slice-write-out-2 Inv-loop μ-loop
 slice-write-out-2 c =
-    let s = c .before .before .before .before in
+    let s = start (c .before) in
     behind-place (s .args .base) (s .args .n) (s .pre .0 .0) (s .args .out .now) (s .args .at) (s .pre .1) (c .before .loop .inv)
 
 same-length : tie.Need-same-length Inv-loop μ-loop
 same-length c =
-    let s = c .before .before .before .before in
-    length-set (c .before .loop .out) (c .before .loop .i) (48 + c .before .loop .rest) ∙ behind-length (s .args .base) (s .args .n) (s .pre .0 .0) (s .args .out .now) (s .args .at) (s .pre .1) (c .before .loop .inv)
+    let s = start (c .before) in
+    length-set (c .before .loop .out) (c .before .loop .i) (48 + c .before .loop .rest)
+    ∙ behind-length (s .args .base) (s .args .n) (s .pre .0 .0) (s .args .out .now) (s .args .at) (s .pre .1) (c .before .loop .inv)
 
 returns : tie.Need-returns Inv-loop μ-loop
 returns c =
-    let s = c .before .before .before .before in
-    behind-all (s .args .base) (s .args .n) (s .pre .0 .0) (s .args .out .now) (s .args .at) (s .pre .1) (c .before .loop .inv) _ (c .loop-test .left) (ap (λ l. s .args .at + l) (c .before .before .number-length .ensures))
+    let s = start (c .before) in
+    let end = ap (λ l. s .args .at + l) (c .before .before .number-length .ensures) in
+    behind-all (s .args .base) (s .args .n) (s .pre .0 .0) (s .args .out .now) (s .args .at) (s .pre .1) (c .before .loop .inv) _ (c .loop-test .left) end
 
 pub put-number-spec : {M : Type 1} → statement M
 put-number-spec =
