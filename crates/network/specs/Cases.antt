@@ -1,7 +1,7 @@
 -- The kept cases K1 to K12 as rows of one theorem about the definitions that the contracts cite, those of the third dimension and the table of routes with
--- them. A row like `k5` is computed from them; where the case is meant of any network, a row like `k5-every` beside it says so of each one (K2 and K8 say
--- it at once).
--- Order: how the rows' networks are written down; what the rows about every network speak of; the rows; what proves them; the theorem.
+-- them, and the kept rows (Rows.antt). A row like `k5` is computed from them; where the case is meant of any network, a row like `k5-every` beside it says so of
+-- each one (K2 and K8 say it at once).
+-- Order: how the rows' networks are written down (and in ByHand.antt); what the rows about every network speak of; the rows; what proves them; the theorem.
 -- Assumes nothing.
 use mathlib.Core.Path.{_≡_, refl, ap, ap₂, sym, _∙_}
 use mathlib.Core.Logic.{_⊎_, inl, inr, _≢_, _↔_}
@@ -16,57 +16,37 @@ use lib.Dec.{T, leb, ltb, eqb, ltb→lt, lt→ltb, le→leb, eqb→eq}
 use lib.IntN.{ℤ, pos, negsuc}
 use lib.ListN.{length, getD, take, drop, set, replicate, length-take}
 use Rattle.base.specs.Tests.{allBelow, someBelow, allOf, elem, EachBelow, each-at, T-true, T-false, passed?, and-l, and-r, allPass, EachPasses, clauses-by, or-l, or-r, or-e, all-by}
-use Rattle.base.specs.Sums.{sumBelow, sumOf}
-use Rattle.base.specs.Digits.{product, digit, putDigit, rotate}
+use Rattle.base.specs.Sums.{sumBelow}
+use Rattle.base.specs.Digits.{product, digit}
 use Rattle.network.specs.declared.Moved.{Moved}
 use Rattle.network.specs.declared.Found.{Found}
 use Rattle.network.specs.declared.Stop.{Stop}
 use Rattle.network.specs.declared.Drained.{Drained}
 use Rattle.network.specs.declared.Sizes.{Sizes}
-use Rattle.network.specs.Sizes.{Shape, shapeOf, sized, size, within, sizesInRange, nodes, queues, directions, dimensions, dimensionOf, directionOf, isPlus, isEscape, injectionQueue, adaptiveQueue, escapeQueue, capacity, largestRing}
+use Rattle.network.specs.Sizes.{Shape, shapeOf, sized, size, within, sizesInRange, nodes, queues, directions, dimensions, dimensionOf, directionOf, isPlus, isEscape, injectionQueue, adaptiveQueue, escapeQueue, largestRing}
 use Rattle.network.specs.SizesLaws.{escape-capacity}
-use Rattle.network.specs.Packet.{signed, unsigned, packetWord, tag, destination, spare, offset, withOffset, withOffsets, distance, forward, backward, hops, heading, hopsLeft, work, shrunk, hop, label, goesPlus, shorterWay}
-use Rattle.network.specs.Torus.{coordinate, stride, along, neighbour, movedBelow, movedBy}
-use Rattle.network.specs.Layout.{headerWords, shape, accepted, delivered, movesMade, raised, acceptedAt, movesAt, queueLength, nodeWords, queueStart, queueEnd, need, queueWords, queuePart, countOf, packetsOf, unusedOf, held, load, taken, putQueue, total}
+use Rattle.network.specs.Packet.{signed, tag, destination, spare, offset, withOffset, distance, hops, heading, hopsLeft, hop, label}
+use Rattle.network.specs.Torus.{coordinate, along, neighbour}
+use Rattle.network.specs.Layout.{headerWords, shape, movesAt, need, queuePart, countOf, packetsOf, held}
 use Rattle.network.specs.LayoutLaws.{header-long}
-use Rattle.network.specs.Check.{spareClear, rightPlace, isQueueOf, reach, nearEnough, opposite, rightSign, lowerDone, packetFits, queueFits, queuesFit, hasRoom, ringHasRoom, ringsHaveRoom, packetsHeld, workLeft, countersFit, isNetwork}
-use Rattle.network.specs.Routes.{deliver, inOrder, without, incoming, incomingFirst, headings, routes, target, freeSlots, entersRing, slotsNeeded}
+use Rattle.network.specs.Check.{packetFits, queuesFit, ringHasRoom, ringsHaveRoom, packetsHeld, countersFit, isNetwork}
+use Rattle.network.specs.Routes.{deliver, inOrder, routes, target, freeSlots, entersRing, slotsNeeded}
 use Rattle.network.specs.Selection.{selected}
 use Rattle.network.specs.SelectionLaws.{selection-routes}
-use Rattle.network.specs.Refusals.{refuse, noRoute, noSlot, noBubble, networkRefusal, makeRefusal, offerRules, offerRefusal, head, flowRules, moveRules, moveRefusal, creditRules, creditRefusal, lookRules, lookRefusal}
-use Rattle.network.specs.Calls.{Progress, emptyHeader, emptyNetwork, makeWords, offeredSteps, offered, afterOffer, offerWords, headLeaves, packetArrives, afterMove, moveWords, moveAnswer, firstOutput, firstInQueue, orElse, search, firstInNode, firstMove, firstAnswer, stopped, oneMore, deliverNext, moveNext, drainFrom, drained, drainLedger, drainAnswer}
+use Rattle.network.specs.Refusals.{refuse, noRoute, noSlot, noBubble, networkRefusal, makeRefusal, offerRules, offerRefusal, head, flowRules, moveRules, moveRefusal, creditRefusal, lookRefusal}
+use Rattle.network.specs.Calls.{Progress, offeredSteps, offered, offerWords, moveWords, moveAnswer, firstAnswer, stopped, drainFrom, drained, drainLedger, drainAnswer}
 use Rattle.network.specs.PacketLaws.{hops-hop-le, arrived-distance, spare-is}
 use Rattle.network.specs.TorusLaws.{Torus, size-pos, along-lt, inRange-torus, inRange-size, inRange-nodes, sizes-torus}
 use Rattle.network.specs.OfferLaws.{ShortRings, offset-nearer, offset-halfway}
 use Rattle.network.specs.CheckLaws.{Network, PacketFits, packet-of, reach-least, halfway-fits, own-fits, networkClauses, network-of, has-room-held}
 use Rattle.network.specs.RoutesLaws.{Onward, route-of, arrived-route, free-slots-held, needed-escape}
 use Rattle.network.specs.RefusalLaws.{elseBy-zero, network-passed, network-passes, own-node-exactly, no-node-first, permitted-by}
+use Rattle.network.specs.ByHand.{packet, here, straight, empty, holding, only, chosen, definitions}
+use Rattle.network.specs.Rows.{KeptRows, keptRows}
 
--- a packet with tag 0, this destination and these offsets dx, dy and dz
-abbrev packet : ℕ → ℤ → ℤ → ℤ → ℕ
-packet to dx dy dz = packetWord 0 to (λ i. getD (dx ∷ dy ∷ dz ∷ []) i (pos 0))
-
--- one that has arrived, one with an offset along dimension i alone, and the offset of one hop in direction d
-abbrev here : ℕ → ℕ
-here n = packet n (pos 0) (pos 0) (pos 0)
-
-abbrev straight : ℕ → ℕ → ℤ → ℕ
-straight to i z = packetWord 0 to (λ j. cond (eqb j i) z (pos 0))
-
+-- the offset of one hop in direction d
 abbrev oneWay : ℕ → ℤ
 oneWay d = cond (isPlus d) (pos 1) (negsuc 0)
-
--- an empty network of these sizes
-abbrev empty : Shape → List ℕ
-empty S = makeWords S (replicate (need S) 0)
-
--- the words with these packets in a queue and as many packets more accepted
-abbrev holding : List ℕ → ℕ → ℕ → List ℕ → List ℕ
-holding w n q ps = set (putQueue (shape w) w n q ps) acceptedAt (accepted w + length ps)
-
--- an empty network but for this packet in queue q of node 0
-abbrev only : Shape → ℕ → ℕ → List ℕ
-only S q p = holding (empty S) 0 q (p ∷ [])
 
 -- so many words are what these sizes need: enough for Make, whatever they hold, and one less is refused, by Check too
 abbrev Enough : Shape → ℕ → Type 0
@@ -124,11 +104,6 @@ next d = neighbour (four-along d) d 0
 -- a packet at node 0 with one hop left, in direction d
 unfoldable pub oneHop : ℕ → ℕ
 oneHop d = straight (next d) (dimensionOf d) (oneWay d)
-
--- the queues of a list that pass a test
-unfoldable pub chosen : (ℕ → Bool) → List ℕ → List ℕ
-chosen f [] = []
-chosen f (q ∷ qs) = cond (f q) (q ∷ chosen f qs) (chosen f qs)
 
 -- outside that packet's ring: every other queue of node 0 in which the check lets it stand. Its sign keeps it from the adaptive and escape queues
 -- of the opposite direction, and a hop left along one dimension from the escape queues of the later ones; so into an x ring there is no turn from an
@@ -523,6 +498,8 @@ pub record KeptCases : Type 0 where
       × (creditRefusal alone 0 0 ≡ 6)
       × (creditRefusal alone 0 12 ≡ 0)
       × (creditRefusal alone 0 13 ≡ 6)
+  -- each clause once more, in small networks: the rows of Rows.antt
+  pub rows : KeptRows
 
 -- a test that cannot pass
 untrue : (b : Bool) → (T b → ⊥) → b ≡ false
@@ -824,9 +801,9 @@ delivered-here w n q s z =
     })) in
     rw (eq-eqb (moveRefusal w n q deliver) 0 permitted)
 
--- the definitions with which the rows are computed, to be unfolded by one name
+-- what the rows are computed with, to be unfolded by one name
 computed : Unit {0}
-unfolding next oneHop chosen outside sources inEach crossing blocked allBelow someBelow allOf elem EachBelow sumBelow sumOf product digit putDigit rotate size within sizesInRange nodes capacity signed unsigned packetWord tag destination spare offset withOffset withOffsets distance forward backward hops heading hopsLeft work shrunk hop label goesPlus shorterWay coordinate stride along neighbour movedBelow movedBy shape accepted delivered movesMade raised queueLength nodeWords queueStart queueEnd need queueWords queuePart countOf packetsOf unusedOf held load taken putQueue total spareClear rightPlace isQueueOf reach nearEnough opposite rightSign lowerDone packetFits queueFits queuesFit hasRoom ringHasRoom ringsHaveRoom packetsHeld workLeft countersFit isNetwork inOrder without incoming incomingFirst headings routes target freeSlots entersRing slotsNeeded networkRefusal makeRefusal offerRules offerRefusal head flowRules moveRules moveRefusal creditRules creditRefusal lookRules lookRefusal shapeOf emptyHeader emptyNetwork makeWords offered afterOffer offerWords headLeaves packetArrives afterMove moveWords firstOutput firstInQueue orElse search firstInNode firstMove firstAnswer stopped oneMore deliverNext moveNext drainFrom drained drainLedger drainAnswer
+unfolding definitions next oneHop outside sources inEach crossing blocked
 computed = tt
 
 -- K5 to K7, direction by direction
@@ -951,6 +928,7 @@ keptCases =
       most-work = (refl, refl);
       nine-words = (refl, (λ w h. no-header w (omega arith)), past-header, refl);
       twelve-is-the-last = (refl, refl, refl, refl, refl, refl, refl, refl, refl);
+      rows = keptRows;
     }
   where
     leaves : (p : ℕ) {refusals : List ℕ} → networkRefusal (only two-cubed injectionQueue p) ≡ 0

@@ -35,4 +35,6 @@ pub mod FirstMovesLaws
 pub mod InLists
 pub mod InListsLaws
 pub mod SamePackets
+pub mod ByHand
+pub mod Rows
 pub mod Cases

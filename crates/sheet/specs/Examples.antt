@@ -1,4 +1,5 @@
--- The lines of R257, and lines that are none of the commands (R248), computed from the definitions. Assumes nothing.
+-- The lines of R257, and lines that are none of the commands (R248), computed from the definitions; `examples` has them all. A row that a must-fail edit
+-- names is a law of its own. Assumes nothing.
 use mathlib.Core.Path.{_≡_, refl}
 use mathlib.Core.List.{[], _∷_, _++_, map}
 use Prim.Native.Nat.{_+_, _*_, _^_}
@@ -15,6 +16,17 @@ use Rattle.sheet.specs.Text.{text}
 use Rattle.sheet.specs.Lines.{withoutCr, lastLine, linesFrom, lines, whole, tooLong, kept}
 use Rattle.sheet.specs.Commands.{upTo, laterFields, isDigit, valueFrom, value, noLeadingZero, isNumber, commandWith, wellFormed, commandOf}
 use Rattle.sheet.specs.Output.{numeralWithin, numeral, decimal, fieldsAndEnd, line, badLineAnswer, answerLine, packetLine, packetLines, movedLines, stopWord, stoppedLine, drainLine, drainedLines}
+
+-- R254: the three stops, with a packet handed out before each line of a D
+abbrev pub StopWords : Type 0
+StopWords = (drainedLines (Drained.Stopped 2 1 Stop.Emptied) ((7 * 2 ^ 32 + 2 * 2 ^ 16) ∷ 0 ∷ []) ≡ text "P,7,2\r\nD,0,2,emptied\r\n")
+    × (drainedLines (Drained.Stopped 3 1 Stop.Spent) ((8 * 2 ^ 32 + 3 * 2 ^ 16) ∷ 0 ∷ []) ≡ text "P,8,3\r\nD,0,3,spent\r\n")
+    × (drainedLines (Drained.Stopped 5 2 Stop.Full) ((8 * 2 ^ 32 + 3 * 2 ^ 16) ∷ (9 * 2 ^ 32 + 4 * 2 ^ 16) ∷ [])
+    ≡ text "P,8,3\r\nP,9,4\r\nD,0,5,full\r\n")
+
+stop-words : StopWords
+unfolding product digit tag destination numeralWithin numeral fieldsAndEnd line packetLine packetLines stopWord stoppedLine drainLine drainedDelivered drainedLines
+stop-words = (refl, refl, refl)
 
 pub record Examples : Type 0 where
   -- R241, R249, R250: both ends; a last line without an end; nothing after the last end; empty lines; a CR within a line and at the end of the input
@@ -64,11 +76,11 @@ pub record Examples : Type 0 where
       × (movedLines (Moved.Refused 10) ≡ text "M,10\r\n")
       × (movedLines Moved.Passed ≡ text "M,0\r\n")
       × (movedLines (Moved.Delivered (7 * 2 ^ 32 + 2 * 2 ^ 16)) ≡ text "P,7,2\r\nM,0\r\n")
-      × (drainedLines (Drained.Stopped 2 1 Stop.Emptied) ((7 * 2 ^ 32 + 2 * 2 ^ 16) ∷ 0 ∷ []) ≡ text "P,7,2\r\nD,0,2,emptied\r\n")
       × (drainedLines (Drained.Stopped 0 0 Stop.Spent) (0 ∷ []) ≡ text "D,0,0,spent\r\n")
       × (drainedLines (Drained.Refused 3) (0 ∷ []) ≡ text "D,3\r\n")
       × (badLineAnswer ≡ text "?,13\r\n")
       × (decimal 18446744073709551615 ≡ text "18446744073709551615")
+  pub stop-words : StopWords
 
 pub examples : Examples
 unfolding allOf product digit tag destination withoutCr lastLine linesFrom lines kept upTo laterFields isDigit valueFrom value noLeadingZero isNumber commandWith wellFormed commandOf numeralWithin numeral fieldsAndEnd line badLineAnswer answerLine packetLine packetLines movedLines stopWord stoppedLine drainLine drainedDelivered drainedLines
@@ -81,5 +93,6 @@ examples =
       sizes = (refl, refl, refl);
       numbers = (refl, refl, refl, refl, refl, refl, refl, refl);
       others = (refl, refl, refl, refl, refl, refl, refl, refl, refl, refl);
-      printed = (refl, refl, refl, refl, refl, refl, refl, refl, refl, refl);
+      printed = (refl, refl, refl, refl, refl, refl, refl, refl, refl);
+      stop-words = stop-words;
     }
