@@ -51,7 +51,7 @@ pub record StepIn (bs : List ℕ) (s : Step) : Type 0 where
   pub all : s .header ≡ true → AllTold (s .changes)
 
 -- R417: bytes that the reader takes are, from the first to the last, those of the step that it makes of them, and that is a step of the subset
-pub OnlySteps : Type 0
+unfoldable pub OnlySteps : Type 0
 OnlySteps = (bs : List ℕ) → readStep bs .good ≡ true → StepIn bs (readStep bs)
 
 -- It is proved from here on --------------------------------------------------------------------------------------------

@@ -10,3 +10,7 @@ pub mod StartLaws
 pub mod ReadingLaws
 pub mod Theorem
 pub mod Exact
+pub mod ChangesLaws
+pub mod CallsLaws
+pub mod TheoremLaws
+pub mod Examples

@@ -54,7 +54,7 @@ readAll list (step ∷ steps) =
     ∷ readAll (readList step list) steps
 
 -- R421: whatever both lists hold at the start, after every step the reader's list begins with the fills of the words at that step, and the time is their moves
-pub DumpRead : Type 0
+unfoldable pub DumpRead : Type 0
 DumpRead =
     (S : Shape) (list list′ : List ℕ) (cs : List Call)
     → WrittenAll S true list cs
@@ -63,7 +63,7 @@ DumpRead =
     ≡ map (λ (c : Call). record { number = 0; time = movesMade (c .words); list = fills S (c .words) ++ drop (variablesOf S) list′ }) cs
 
 -- R422: whatever the lists hold and however long they are
-pub NeverBad : Type 0
+unfoldable pub NeverBad : Type 0
 NeverBad =
     (first : Bool) (w list list′ : List ℕ) → networkRefusal w ≡ 0 → readNumber (readAnswer (writtenStep first w list) list′) ≢ badLine
 
