@@ -1,19 +1,19 @@
 -- What the helpers of the calls that write and read a step state, said without them. Order: when a step is written (R413); what is left then (R406, R411, R414);
 -- when a step is read (R417, R418). Assumes nothing.
-use mathlib.Core.Path.{_≡_, refl, ap, ap₂, sym, _∙_}
-use mathlib.Core.Logic.{_≢_, _↔_}
-use mathlib.Core.Bool.{Bool, true, false, not, cond, _||_, true≢false, false≢true}
-use mathlib.Core.List.{List, _++_}
+use mathlib.Core.Path.{_≡_, refl, ap, _∙_}
+use mathlib.Core.Logic.{_↔_}
+use mathlib.Core.Bool.{Bool, true, false, not, _||_, true≢false, false≢true}
+use mathlib.Core.List.{List}
 use Prim.Native.Nat.{ℕ, _/_, _%_, _<_, _≤_}
+use native.Mathlib.Decide.{ℕ-discrete}
 use native.Mathlib.Omega.{arith}
-use borrow.Author.Tests.{eq-eqb, le-ltb, ltb-false, eqb-true}
-use lib.Dec.{eqb, ltb}
+use borrow.Author.Tests.{eq-eqb, ne-eqb, le-ltb, ltb-false}
+use lib.Dec.{ltb}
 use lib.ListN.{length, getD, drop, length-append, length-drop, List·getD-append}
 use lib.Seq.{drop-append-seam, drop-at}
 use Rattle.network.specs.Layout.{shape, held}
-use Rattle.network.specs.Refusals.{networkRefusal, refuse, elseBy, badLine, shortPage}
-use Rattle.network.specs.RefusalLaws.{not-refused, neither, elseBy-zero}
-use Rattle.waveform.specs.declared.Written.{Written}
+use Rattle.network.specs.Refusals.{networkRefusal, refuse, badLine, shortPage}
+use Rattle.network.specs.RefusalLaws.{not-refused, neither}
 use Rattle.waveform.specs.Dump.{variablesOf, fills, Change}
 use Rattle.waveform.specs.Reading.{Step, readStep, needed}
 use Rattle.waveform.specs.Calls.{fillsNow, writtenStep, writeRules, writeRefusal, writeAnswer, writePage, writeList, readRefusal, writtenLength}
@@ -42,19 +42,15 @@ write-exactly first w list page = (of, by)
     bytes : ℕ
     bytes = length (writtenStep first w list)
 
-    of : elseBy (networkRefusal w) (refuse (ltb (length list) variables || ltb (length page) bytes) shortPage 0) ≡ 0
-        → (networkRefusal w ≡ 0) × (variables ≤ length list) × (bytes ≤ length page)
+    of : writeRefusal first w list page ≡ 0 → (networkRefusal w ≡ 0) × (variables ≤ length list) × (bytes ≤ length page)
     of z =
-        let (passed, rest) = neither (networkRefusal w) (refuse (ltb (length list) variables || ltb (length page) bytes) shortPage 0) z in
-        let (none, rest) = not-refused (ltb (length list) variables || ltb (length page) bytes) 14 0 rest in
+        let (passed, rules) = neither (networkRefusal w) _ z in
+        let (none, rest) = not-refused (ltb (length list) variables || ltb (length page) bytes) 14 _ rules in
         let (a, b) = neither-holds (ltb (length list) variables) (ltb (length page) bytes) none in
         (passed, ltb-false (length list) variables a, ltb-false (length page) bytes b)
 
-    by : (networkRefusal w ≡ 0) × (variables ≤ length list) × (bytes ≤ length page)
-        → elseBy (networkRefusal w) (refuse (ltb (length list) variables || ltb (length page) bytes) shortPage 0) ≡ 0
-    by (passed, a, b) =
-        elseBy-zero (networkRefusal w) _ passed
-        ∙ ap₂ (λ s t. refuse (s || t) shortPage 0) (le-ltb (length list) variables a) (le-ltb (length page) bytes b)
+    by : (networkRefusal w ≡ 0) × (variables ≤ length list) × (bytes ≤ length page) → writeRefusal first w list page ≡ 0
+    by (passed, a, b) = rw (eq-eqb (networkRefusal w) 0 passed, le-ltb (length list) variables a, le-ltb (length page) bytes b) refl
 
 -- a page of 120 bytes and 48 more for each queue is never refused
 pub page-enough : (first : Bool) (w list page : List ℕ) → networkRefusal w ≡ 0 → variablesOf (shape w) ≤ length list
@@ -69,60 +65,57 @@ page-enough first w list page passed room long =
 pub page-behind : (first : Bool) (w list page : List ℕ)
     → drop (writtenLength (writeAnswer first w list page)) (writePage first w list page) ≡ drop (writtenLength (writeAnswer first w list page)) page
 unfolding writeAnswer writePage writtenLength
-page-behind first w list page = go (eqb (writeRefusal first w list page) 0)
+page-behind first w list page = go (ℕ-discrete refusal 0)
   where
-    step : List ℕ
-    step = writtenStep first w list
+    refusal : ℕ
+    refusal = writeRefusal first w list page
 
-    answer : Bool → Written
-    answer b = cond b (Written.Bytes (length step)) (Written.Refused (writeRefusal first w list page))
-
-    go : (b : Bool) → drop (writtenLength (answer b)) (cond b (step ++ drop (length step) page) page) ≡ drop (writtenLength (answer b)) page
-    go true = drop-append-seam step (drop (length step) page)
-    go false = refl
+    go : Dec (refusal ≡ 0)
+        → drop (writtenLength (writeAnswer first w list page)) (writePage first w list page) ≡ drop (writtenLength (writeAnswer first w list page)) page
+    go (yes z) = rw (eq-eqb refusal 0 z) (drop-append-seam (writtenStep first w list) _)
+    go (no ne) = rw (ne-eqb refusal 0 ne) refl
 
 pub page-length : (first : Bool) (w list page : List ℕ) → length (writePage first w list page) ≡ length page
 unfolding writePage
-page-length first w list page = go (eqb (writeRefusal first w list page) 0) refl
+page-length first w list page = go (ℕ-discrete refusal 0)
   where
-    step : List ℕ
-    step = writtenStep first w list
+    refusal : ℕ
+    refusal = writeRefusal first w list page
 
-    go : (b : Bool) → eqb (writeRefusal first w list page) 0 ≡ b → length (cond b (step ++ drop (length step) page) page) ≡ length page
-    go true e =
-        let (passed, list-room, room) = write-exactly first w list page .0 (eqb-true (writeRefusal first w list page) 0 e) in
-        let a = length-append step (drop (length step) page) in
+    go : Dec (refusal ≡ 0) → length (writePage first w list page) ≡ length page
+    go (yes z) =
+        let step : List ℕ = writtenStep first w list in
+        let (passed, list-room, room) = write-exactly first w list page .0 z in
         let d = length-drop (length step) page in
-        omega arith
-    go false e = refl
+        rw (eq-eqb refusal 0 z) (length-append step _ ∙ omega arith)
+    go (no ne) = rw (ne-eqb refusal 0 ne) refl
 
 -- `writeList`: as long as it was, the same behind the fills, and in place 13 · n + q the packets that queue q of node n holds
 pub list-behind : (first : Bool) (w list page : List ℕ) → drop (variablesOf (shape w)) (writeList first w list page) ≡ drop (variablesOf (shape w)) list
 unfolding writeList
-list-behind first w list page = go (eqb (writeRefusal first w list page) 0)
+list-behind first w list page = go (ℕ-discrete refusal 0)
   where
-    v : ℕ
-    v = variablesOf (shape w)
+    refusal : ℕ
+    refusal = writeRefusal first w list page
 
-    go : (b : Bool) → drop v (cond b (fillsNow w ++ drop v list) list) ≡ drop v list
-    go true = drop-at (fillsNow w) (drop v list) v (fills-length (shape w) w)
-    go false = refl
+    go : Dec (refusal ≡ 0) → drop (variablesOf (shape w)) (writeList first w list page) ≡ drop (variablesOf (shape w)) list
+    go (yes z) = rw (eq-eqb refusal 0 z) (drop-at (fillsNow w) _ (variablesOf (shape w)) (fills-length (shape w) w))
+    go (no ne) = rw (ne-eqb refusal 0 ne) refl
 
 pub list-length : (first : Bool) (w list page : List ℕ) → length (writeList first w list page) ≡ length list
 unfolding writeList
-list-length first w list page = go (eqb (writeRefusal first w list page) 0) refl
+list-length first w list page = go (ℕ-discrete refusal 0)
   where
-    v : ℕ
-    v = variablesOf (shape w)
+    refusal : ℕ
+    refusal = writeRefusal first w list page
 
-    go : (b : Bool) → eqb (writeRefusal first w list page) 0 ≡ b → length (cond b (fillsNow w ++ drop v list) list) ≡ length list
-    go true e =
-        let (passed, room, page-room) = write-exactly first w list page .0 (eqb-true (writeRefusal first w list page) 0 e) in
-        let a = length-append (fillsNow w) (drop v list) in
-        let d = length-drop v list in
-        let l : length (fillsNow w) ≡ v = fills-length (shape w) w in
-        omega arith
-    go false e = refl
+    go : Dec (refusal ≡ 0) → length (writeList first w list page) ≡ length list
+    go (yes z) =
+        let (passed, room, page-room) = write-exactly first w list page .0 z in
+        let d = length-drop (variablesOf (shape w)) list in
+        let l : length (fillsNow w) ≡ variablesOf (shape w) = fills-length (shape w) w in
+        rw (eq-eqb refusal 0 z) (length-append (fillsNow w) _ ∙ omega arith)
+    go (no ne) = rw (ne-eqb refusal 0 ne) refl
 
 pub list-at : (first : Bool) (w list page : List ℕ) (i : ℕ) → writeRefusal first w list page ≡ 0 → i < variablesOf (shape w)
     → getD (writeList first w list page) i 0 ≡ length (held (shape w) w (i / 13) (i % 13))

@@ -27,7 +27,7 @@ unfolding fillsTo
 fillsTo-length S w zero = refl
 fillsTo-length S w (suc i) =
     let l = fillsTo-length S w i in
-    length-append (fillsTo S w i) (length (held S w (i / queues) (i % queues)) ∷ []) ∙ omega arith
+    length-append (fillsTo S w i) (_ ∷ []) ∙ omega arith
 
 pub fills-length : (S : Shape) (w : List ℕ) → length (fills S w) ≡ variablesOf S
 unfolding fills

@@ -6,7 +6,7 @@ use mathlib.Core.Bool.{true, false}
 use mathlib.Core.List.{List, [], _∷_, _++_, map}
 use Prim.Native.Nat.{ℕ}
 use Prim.Native.String.{String}
-use lib.ListN.{take, set, replicate}
+use lib.ListN.{set, replicate}
 use Rattle.network.specs.Sizes.{Shape, shapeOf, sized}
 use Rattle.network.specs.Calls.{offerWords, moveWords}
 use Rattle.network.specs.ByHand.{here, empty, holding, definitions}
@@ -125,6 +125,10 @@ offered = offerWords made 0 1 7
 abbrev moved : List ℕ
 moved = moveWords offered 0 0 1
 
+-- M,0,0,7 in its place: the packet is in queue 7 of node 1
+abbrev escaped : List ℕ
+escaped = moveWords offered 0 0 7
+
 abbrev header-of-two-is : List ℕ
 header-of-two-is =
     linesOf
@@ -144,7 +148,7 @@ pub header-of-two : writtenStep true made [] ≡ header-of-two-is
 unfolding dumped
 header-of-two = refl
 
--- R406: the fills at each of the three steps
+-- R406: the fills at each of the three steps, and by the other move
 abbrev zeros : List ℕ
 zeros = replicate 26 0
 
@@ -154,7 +158,10 @@ fills-offered = 1 ∷ replicate 25 0
 abbrev fills-moved : List ℕ
 fills-moved = replicate 14 0 ++ (1 ∷ replicate 11 0)
 
-pub fills-of-two : map (fills pair) (made ∷ offered ∷ moved ∷ []) ≡ zeros ∷ fills-offered ∷ fills-moved ∷ []
+abbrev fills-escaped : List ℕ
+fills-escaped = replicate 20 0 ++ (1 ∷ replicate 5 0)
+
+pub fills-of-two : map (fills pair) (made ∷ offered ∷ moved ∷ escaped ∷ []) ≡ zeros ∷ fills-offered ∷ fills-moved ∷ fills-escaped ∷ []
 unfolding dumped
 fills-of-two = refl
 
@@ -233,38 +240,43 @@ pub steps-taken : readAnswer header-of-one-is (replicate 13 9)
 unfolding dumped
 steps-taken = refl
 
--- R402, R403, R417: the header of one node with 9 bits in place of 8 in its first variable; with a byte behind it; without its last
-pub headers-refused : map (λ bs. readNumber (readAnswer bs (replicate 13 0)))
-    (set header-of-one-is 58 57 ∷ (header-of-one-is ++ (lf ∷ [])) ∷ take 489 header-of-one-is ∷ [])
-    ≡ 13 ∷ 13 ∷ 13 ∷ []
+-- R402, R403, R417: the header of one node with 9 bits in place of 8 in its first variable; with a byte behind it
+pub headers-refused : map (λ bs. readNumber (readAnswer bs (replicate 13 0))) (set header-of-one-is 58 57 ∷ (header-of-one-is ++ (lf ∷ [])) ∷ []) ≡ 13 ∷ 13 ∷ []
 unfolding dumped
 headers-refused = refl
 
--- R403: a header of no variable and of one, which are no whole node
-pub parts-of-nodes : map (λ bs. readNumber (readAnswer bs (replicate 26 0)))
-    (linesOf ("$timescale 1 ns $end" ∷ "$scope module network $end" ∷ "$upscope $end" ∷ "$enddefinitions $end" ∷ "#0" ∷ "$dumpvars" ∷ "$end" ∷ [])
-    ∷ linesOf
+-- R403: a header of one variable, which is no whole node
+pub part-of-a-node : readNumber
+    (readAnswer
+    (linesOf
     ("$timescale 1 ns $end" ∷ "$scope module network $end" ∷ "$var wire 8 0 n0q0 $end" ∷ "$upscope $end" ∷ "$enddefinitions $end" ∷ "#0" ∷ "$dumpvars"
-    ∷ "b0 0" ∷ "$end" ∷ [])
-    ∷ [])
-    ≡ 13 ∷ 13 ∷ []
+    ∷ "b0 0" ∷ "$end" ∷ []))
+    (replicate 13 0))
+    ≡ 13
 unfolding dumped
-parts-of-nodes = refl
+part-of-a-node = refl
 
--- R404, R405: the last time, fill and variable that are taken, and the first that are not
-pub largest-taken : map (λ s. readNumber (readAnswer (text s) (replicate 53248 0)))
-    ("#18446744073709551615\n" ∷ "#1\nb11111111 0\n" ∷ "#1\nb1 53247\n" ∷ [])
-    ≡ 0 ∷ 0 ∷ 0 ∷ []
+-- R403 to R405: the last time, fill and variable that are taken; below, the first that are not
+pub largest-taken : map (λ s. readStep (text s) .good) ("#18446744073709551615\n" ∷ "#1\nb11111111 0\n" ∷ "#1\nb1 53247\n" ∷ [])
+    ≡ true ∷ true ∷ true ∷ []
 unfolding dumped
 largest-taken = refl
 
--- what is told of bytes, by a list that is long enough
+-- the number that is told of bytes, with a list of thirteen
 abbrev judged : List String → List ℕ
 judged ss = map (λ s. readNumber (readAnswer (text s) (replicate 13 0))) ss
 
-pub too-large : judged ("#18446744073709551616\n" ∷ "#1\nb100000000 0\n" ∷ "#1\nb1 53248\n" ∷ []) ≡ 13 ∷ 13 ∷ 13 ∷ []
+pub time-too-large : judged ("#18446744073709551616\n" ∷ []) ≡ 13 ∷ []
 unfolding dumped
-too-large = refl
+time-too-large = refl
+
+pub fill-too-large : judged ("#1\nb100000000 0\n" ∷ []) ≡ 13 ∷ []
+unfolding dumped
+fill-too-large = refl
+
+pub variable-too-large : judged ("#1\nb1 53248\n" ∷ []) ≡ 13 ∷ []
+unfolding dumped
+variable-too-large = refl
 
 -- R410: a number is digits of its base, none of them a zero before others
 pub numbers-longer : judged ("#\n" ∷ "#01\n" ∷ "#-1\n" ∷ "#1\nb01 0\n" ∷ "#1\nb2 0\n" ∷ "#1\nb 0\n" ∷ "#1\nb1 00\n" ∷ "#1\nb1 \n" ∷ [])
@@ -272,9 +284,9 @@ pub numbers-longer : judged ("#\n" ∷ "#01\n" ∷ "#-1\n" ∷ "#1\nb01 0\n" ∷
 unfolding dumped
 numbers-longer = refl
 
--- R401, R417: no LF; a CR; a blank at the end; two blanks; an empty line; a time twice; a value alone; no byte; other letters
-pub other-bytes : judged ("#1" ∷ "#1\r\n" ∷ "#1 \n" ∷ "#1\nb1  0\n" ∷ "#1\n\n" ∷ "#1\n#2\n" ∷ "b1 0\n" ∷ "" ∷ "#1\nB1 0\n" ∷ [])
-    ≡ replicate 9 13
+-- R401, R417: no byte; no LF; a CR; a blank at the end; two blanks; an empty line; a time twice; another letter
+pub other-bytes : judged ("" ∷ "#1" ∷ "#1\r\n" ∷ "#1 \n" ∷ "#1\nb1  0\n" ∷ "#1\n\n" ∷ "#1\n#2\n" ∷ "#1\nB1 0\n" ∷ [])
+    ≡ replicate 8 13
 unfolding dumped
 other-bytes = refl
 
