@@ -2,18 +2,19 @@
 -- when a step is read (R417, R418). Assumes nothing.
 use mathlib.Core.Path.{_≡_, refl, ap, _∙_}
 use mathlib.Core.Logic.{_↔_}
-use mathlib.Core.Bool.{Bool, true, false, not, _||_, true≢false, false≢true}
-use mathlib.Core.List.{List}
+use mathlib.Core.Bool.{Bool, true, false, not, cond, _||_, true≢false, false≢true}
+use mathlib.Core.List.{List, _++_}
 use Prim.Native.Nat.{ℕ, _/_, _%_, _<_, _≤_}
 use native.Mathlib.Decide.{ℕ-discrete}
 use native.Mathlib.Omega.{arith}
-use borrow.Author.Tests.{eq-eqb, ne-eqb, le-ltb, ltb-false}
-use lib.Dec.{ltb}
+use borrow.Author.Tests.{eq-eqb, ne-eqb, le-ltb, ltb-false, eqb-true}
+use lib.Dec.{eqb, ltb}
 use lib.ListN.{length, getD, drop, length-append, length-drop, List·getD-append}
 use lib.Seq.{drop-append-seam, drop-at}
 use Rattle.network.specs.Layout.{shape, held}
 use Rattle.network.specs.Refusals.{networkRefusal, refuse, badLine, shortPage}
 use Rattle.network.specs.RefusalLaws.{not-refused, neither}
+use Rattle.network.specs.Calls.{unlessRefused}
 use Rattle.waveform.specs.Dump.{variablesOf, fills, Change}
 use Rattle.waveform.specs.Reading.{Step, readStep, needed}
 use Rattle.waveform.specs.Calls.{fillsNow, writtenStep, writeRules, writeRefusal, writeAnswer, writePage, writeList, readRefusal, writtenLength}
@@ -61,7 +62,33 @@ page-enough first w list page passed room long =
 
 -- What is left then (R406, R411, R414) -----------------------------------------------------------------------------------------------------
 
+-- n elements in front of what is lent, put there unless a call is refused: what is behind them stays, and as many as there were
+module _ (refusal : ℕ) (front lent : List ℕ) (n : ℕ) (long : length front ≡ n) where
+  same-behind : drop n (unlessRefused refusal (front ++ drop n lent) lent) ≡ drop n lent
+  same-behind = go (eqb refusal 0)
+    where
+      go : (b : Bool) → drop n (cond b (front ++ drop n lent) lent) ≡ drop n lent
+      go true = drop-at front (drop n lent) n long
+      go false = refl
+
+  same-length : (refusal ≡ 0 → n ≤ length lent) → length (unlessRefused refusal (front ++ drop n lent) lent) ≡ length lent
+  same-length room = go (eqb refusal 0) refl
+    where
+      go : (b : Bool) → eqb refusal 0 ≡ b → length (cond b (front ++ drop n lent) lent) ≡ length lent
+      go true e =
+          let h : n ≤ length lent = room (eqb-true refusal 0 e) in
+          let a = length-append front (drop n lent) in
+          let d = length-drop n lent in
+          omega (arith, long)
+      go false e = refl
+
 -- `writePage`: as long as it was, and the same behind the step; refused, a step has no bytes
+pub page-length : (first : Bool) (w list page : List ℕ) → length (writePage first w list page) ≡ length page
+unfolding writePage
+page-length first w list page =
+    same-length (writeRefusal first w list page) (writtenStep first w list) page (length (writtenStep first w list)) refl
+    (λ z. write-exactly first w list page .0 z .2)
+
 pub page-behind : (first : Bool) (w list page : List ℕ)
     → drop (writtenLength (writeAnswer first w list page)) (writePage first w list page) ≡ drop (writtenLength (writeAnswer first w list page)) page
 unfolding writeAnswer writePage writtenLength
@@ -75,47 +102,16 @@ page-behind first w list page = go (ℕ-discrete refusal 0)
     go (yes z) = rw (eq-eqb refusal 0 z) (drop-append-seam (writtenStep first w list) _)
     go (no ne) = rw (ne-eqb refusal 0 ne) refl
 
-pub page-length : (first : Bool) (w list page : List ℕ) → length (writePage first w list page) ≡ length page
-unfolding writePage
-page-length first w list page = go (ℕ-discrete refusal 0)
-  where
-    refusal : ℕ
-    refusal = writeRefusal first w list page
-
-    go : Dec (refusal ≡ 0) → length (writePage first w list page) ≡ length page
-    go (yes z) =
-        let step : List ℕ = writtenStep first w list in
-        let (passed, list-room, room) = write-exactly first w list page .0 z in
-        let d = length-drop (length step) page in
-        rw (eq-eqb refusal 0 z) (length-append step _ ∙ omega arith)
-    go (no ne) = rw (ne-eqb refusal 0 ne) refl
-
 -- `writeList`: as long as it was, the same behind the fills, and in place 13 · n + q the packets that queue q of node n holds
-pub list-behind : (first : Bool) (w list page : List ℕ) → drop (variablesOf (shape w)) (writeList first w list page) ≡ drop (variablesOf (shape w)) list
-unfolding writeList
-list-behind first w list page = go (ℕ-discrete refusal 0)
-  where
-    refusal : ℕ
-    refusal = writeRefusal first w list page
-
-    go : Dec (refusal ≡ 0) → drop (variablesOf (shape w)) (writeList first w list page) ≡ drop (variablesOf (shape w)) list
-    go (yes z) = rw (eq-eqb refusal 0 z) (drop-at (fillsNow w) _ (variablesOf (shape w)) (fills-length (shape w) w))
-    go (no ne) = rw (ne-eqb refusal 0 ne) refl
-
 pub list-length : (first : Bool) (w list page : List ℕ) → length (writeList first w list page) ≡ length list
 unfolding writeList
-list-length first w list page = go (ℕ-discrete refusal 0)
-  where
-    refusal : ℕ
-    refusal = writeRefusal first w list page
+list-length first w list page =
+    same-length (writeRefusal first w list page) (fillsNow w) list (variablesOf (shape w)) (fills-length (shape w) w)
+    (λ z. write-exactly first w list page .0 z .1)
 
-    go : Dec (refusal ≡ 0) → length (writeList first w list page) ≡ length list
-    go (yes z) =
-        let (passed, room, page-room) = write-exactly first w list page .0 z in
-        let d = length-drop (variablesOf (shape w)) list in
-        let l : length (fillsNow w) ≡ variablesOf (shape w) = fills-length (shape w) w in
-        rw (eq-eqb refusal 0 z) (length-append (fillsNow w) _ ∙ omega arith)
-    go (no ne) = rw (ne-eqb refusal 0 ne) refl
+pub list-behind : (first : Bool) (w list page : List ℕ) → drop (variablesOf (shape w)) (writeList first w list page) ≡ drop (variablesOf (shape w)) list
+unfolding writeList
+list-behind first w list page = same-behind (writeRefusal first w list page) (fillsNow w) list (variablesOf (shape w)) (fills-length (shape w) w)
 
 pub list-at : (first : Bool) (w list page : List ℕ) (i : ℕ) → writeRefusal first w list page ≡ 0 → i < variablesOf (shape w)
     → getD (writeList first w list page) i 0 ≡ length (held (shape w) w (i / 13) (i % 13))

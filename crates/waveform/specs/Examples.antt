@@ -54,13 +54,13 @@ dumped = tt
 -- Single lines ----------------------------------------------------------------------------------------------------------------------------
 
 -- R403: queue 4 of node 2; the first variable of the second node; the last variable that there is
-pub variable-lines : map variableLine (30 ∷ 13 ∷ 53247 ∷ [])
+variable-lines : map variableLine (30 ∷ 13 ∷ 53247 ∷ [])
     ≡ text "$var wire 8 30 n2q4 $end\n" ∷ text "$var wire 8 13 n1q0 $end\n" ∷ text "$var wire 8 53247 n4095q12 $end\n" ∷ []
 unfolding dumped
 variable-lines = refl
 
 -- R404, R410: the first time and the last
-pub stamp-lines : map stampLine (0 ∷ 10 ∷ 18446744073709551615 ∷ []) ≡ text "#0\n" ∷ text "#10\n" ∷ text "#18446744073709551615\n" ∷ []
+stamp-lines : map stampLine (0 ∷ 10 ∷ 18446744073709551615 ∷ []) ≡ text "#0\n" ∷ text "#10\n" ∷ text "#18446744073709551615\n" ∷ []
 unfolding dumped
 stamp-lines = refl
 
@@ -68,7 +68,7 @@ abbrev told : ℕ → ℕ → Change
 told v f = record { variable = v; fill = f }
 
 -- R405, R410: an empty queue, three packets, ten, and the most that eight digits say
-pub value-lines : map valueLine (told 0 0 ∷ told 30 3 ∷ told 12 10 ∷ told 53247 255 ∷ [])
+value-lines : map valueLine (told 0 0 ∷ told 30 3 ∷ told 12 10 ∷ told 53247 255 ∷ [])
     ≡ text "b0 0\n" ∷ text "b11 30\n" ∷ text "b1010 12\n" ∷ text "b11111111 53247\n" ∷ []
 unfolding dumped
 value-lines = refl
@@ -97,7 +97,7 @@ header-of-one-is =
     ∷ "$end" ∷ [])
 
 -- R402 to R407: the whole header, whatever the list has
-pub header-of-one : writtenStep true five-waiting (replicate 13 9) ≡ header-of-one-is
+header-of-one : writtenStep true five-waiting (replicate 13 9) ≡ header-of-one-is
 unfolding dumped
 header-of-one = refl
 
@@ -105,7 +105,7 @@ header-of-one = refl
 abbrev two-waiting : List ℕ
 two-waiting = counting (holding (empty one) 0 0 (replicate 2 (here 0))) 7 5 15
 
-pub later-of-one : (writtenStep false two-waiting (5 ∷ replicate 12 0) ≡ linesOf ("#15" ∷ "b10 0" ∷ []))
+later-of-one : (writtenStep false two-waiting (5 ∷ replicate 12 0) ≡ linesOf ("#15" ∷ "b10 0" ∷ []))
     × (writtenStep false two-waiting (2 ∷ replicate 12 0) ≡ linesOf ("#15" ∷ []))
 unfolding dumped
 later-of-one = (refl, refl)
@@ -144,7 +144,7 @@ header-of-two-is =
     ∷ "b0 13" ∷ "b0 14" ∷ "b0 15" ∷ "b0 16" ∷ "b0 17" ∷ "b0 18" ∷ "b0 19" ∷ "b0 20" ∷ "b0 21" ∷ "b0 22" ∷ "b0 23" ∷ "b0 24" ∷ "b0 25"
     ∷ "$end" ∷ [])
 
-pub header-of-two : writtenStep true made [] ≡ header-of-two-is
+header-of-two : writtenStep true made [] ≡ header-of-two-is
 unfolding dumped
 header-of-two = refl
 
@@ -161,12 +161,12 @@ fills-moved = replicate 14 0 ++ (1 ∷ replicate 11 0)
 abbrev fills-escaped : List ℕ
 fills-escaped = replicate 20 0 ++ (1 ∷ replicate 5 0)
 
-pub fills-of-two : map (fills pair) (made ∷ offered ∷ moved ∷ escaped ∷ []) ≡ zeros ∷ fills-offered ∷ fills-moved ∷ fills-escaped ∷ []
+fills-of-two : map (fills pair) (made ∷ offered ∷ moved ∷ escaped ∷ []) ≡ zeros ∷ fills-offered ∷ fills-moved ∷ fills-escaped ∷ []
 unfolding dumped
 fills-of-two = refl
 
 -- R408: an offer makes no move; a move tells both queues, by rising variables
-pub later-of-two : writtenStep false offered zeros ∷ writtenStep false moved fills-offered ∷ []
+later-of-two : writtenStep false offered zeros ∷ writtenStep false moved fills-offered ∷ []
     ≡ linesOf ("#0" ∷ "b1 0" ∷ []) ∷ linesOf ("#1" ∷ "b0 0" ∷ "b1 14" ∷ []) ∷ []
 unfolding dumped
 later-of-two = refl
@@ -179,19 +179,19 @@ calls =
     ∷ record { words = moved; page = replicate 14 7 }
     ∷ []
 
-pub calls-written : WrittenAll pair true (replicate 26 9) calls
+calls-written : WrittenAll pair true (replicate 26 9) calls
 unfolding dumped WrittenAll
 calls-written = (refl, refl, (refl, refl, (refl, refl, tt)))
 
 abbrev dump-of-two : List (List ℕ)
 dump-of-two = header-of-two-is ∷ linesOf ("#0" ∷ "b1 0" ∷ []) ∷ linesOf ("#1" ∷ "b0 0" ∷ "b1 14" ∷ []) ∷ []
 
-pub steps-of-two : stepsOf true (replicate 26 9) calls ≡ dump-of-two
+steps-of-two : stepsOf true (replicate 26 9) calls ≡ dump-of-two
 unfolding dumped stepsOf
 steps-of-two = refl
 
 -- R415, R416, R421: read with a list that is two bytes longer
-pub read-of-two : readAll (replicate 28 9) dump-of-two
+read-of-two : readAll (replicate 28 9) dump-of-two
     ≡ record { number = 0; time = 0; list = zeros ++ (9 ∷ 9 ∷ []) }
     ∷ record { number = 0; time = 0; list = fills-offered ++ (9 ∷ 9 ∷ []) }
     ∷ record { number = 0; time = 1; list = fills-moved ++ (9 ∷ 9 ∷ []) }
@@ -206,23 +206,23 @@ abbrev refused : List ℕ → ℕ → ℕ → ℕ
 refused w list page = writeRefusal true w (replicate list 9) (replicate page 7)
 
 -- R413: both long enough; the page too short; the list; both
-pub too-short : refused five-waiting 13 490 ∷ refused five-waiting 13 489 ∷ refused five-waiting 12 490 ∷ refused five-waiting 0 0 ∷ [] ≡ 0 ∷ 15 ∷ 15 ∷ 15 ∷ []
+too-short : refused five-waiting 13 490 ∷ refused five-waiting 13 489 ∷ refused five-waiting 12 490 ∷ refused five-waiting 0 0 ∷ [] ≡ 0 ∷ 15 ∷ 15 ∷ 15 ∷ []
 unfolding dumped
 too-short = refl
 
 -- R413: no words; sizes that no network has; five packets held where three were accepted; each before 15
-pub words-first : map (λ w. refused w 0 0) ([] ∷ replicate 9 0 ∷ counting five-waiting 3 0 0 ∷ []) ≡ 1 ∷ 2 ∷ 3 ∷ []
+words-first : map (λ w. refused w 0 0) ([] ∷ replicate 9 0 ∷ counting five-waiting 3 0 0 ∷ []) ≡ 1 ∷ 2 ∷ 3 ∷ []
 unfolding dumped
 words-first = refl
 
 -- R411, R414: a page and a list that are two bytes longer
-pub behind-kept : (writePage true five-waiting (replicate 15 9) (replicate 492 7) ≡ header-of-one-is ++ (7 ∷ 7 ∷ []))
+behind-kept : (writePage true five-waiting (replicate 15 9) (replicate 492 7) ≡ header-of-one-is ++ (7 ∷ 7 ∷ []))
     × (writeList true five-waiting (replicate 15 9) (replicate 492 7) ≡ 5 ∷ (replicate 12 0 ++ (9 ∷ 9 ∷ [])))
 unfolding dumped
 behind-kept = (refl, refl)
 
 -- R414: refused by 15, and by 3
-pub refused-kept : (writePage true five-waiting (replicate 13 9) (replicate 489 7) ≡ replicate 489 7)
+refused-kept : (writePage true five-waiting (replicate 13 9) (replicate 489 7) ≡ replicate 489 7)
     × (writeList true five-waiting (replicate 13 9) (replicate 489 7) ≡ replicate 13 9)
     × (writePage true (counting five-waiting 3 0 0) (replicate 13 9) (replicate 490 7) ≡ replicate 490 7)
     × (writeList true (counting five-waiting 3 0 0) (replicate 13 9) (replicate 490 7) ≡ replicate 13 9)
@@ -232,7 +232,7 @@ refused-kept = (refl, refl, refl, refl)
 -- What the reader takes, refuses and leaves -------------------------------------------------------------------------------------------------
 
 -- R415: a header and its variables; a later step; one that tells nothing, to a list that has nothing
-pub steps-taken : readAnswer header-of-one-is (replicate 13 9)
+steps-taken : readAnswer header-of-one-is (replicate 13 9)
     ∷ readAnswer (text "#1\nb0 0\nb1 14\n") (replicate 26 9)
     ∷ readAnswer (text "#7\n") []
     ∷ []
@@ -241,12 +241,12 @@ unfolding dumped
 steps-taken = refl
 
 -- R402, R403, R417: the header of one node with 9 bits in place of 8 in its first variable; with a byte behind it
-pub headers-refused : map (λ bs. readNumber (readAnswer bs (replicate 13 0))) (set header-of-one-is 58 57 ∷ (header-of-one-is ++ (lf ∷ [])) ∷ []) ≡ 13 ∷ 13 ∷ []
+headers-refused : map (λ bs. readNumber (readAnswer bs (replicate 13 0))) (set header-of-one-is 58 57 ∷ (header-of-one-is ++ (lf ∷ [])) ∷ []) ≡ 13 ∷ 13 ∷ []
 unfolding dumped
 headers-refused = refl
 
 -- R403: a header of one variable, which is no whole node
-pub part-of-a-node : readNumber
+part-of-a-node : readNumber
     (readAnswer
     (linesOf
     ("$timescale 1 ns $end" ∷ "$scope module network $end" ∷ "$var wire 8 0 n0q0 $end" ∷ "$upscope $end" ∷ "$enddefinitions $end" ∷ "#0" ∷ "$dumpvars"
@@ -257,7 +257,7 @@ unfolding dumped
 part-of-a-node = refl
 
 -- R403 to R405: the last time, fill and variable that are taken; below, the first that are not
-pub largest-taken : map (λ s. readStep (text s) .good) ("#18446744073709551615\n" ∷ "#1\nb11111111 0\n" ∷ "#1\nb1 53247\n" ∷ [])
+largest-taken : map (λ s. readStep (text s) .good) ("#18446744073709551615\n" ∷ "#1\nb11111111 0\n" ∷ "#1\nb1 53247\n" ∷ [])
     ≡ true ∷ true ∷ true ∷ []
 unfolding dumped
 largest-taken = refl
@@ -266,44 +266,44 @@ largest-taken = refl
 abbrev judged : List String → List ℕ
 judged ss = map (λ s. readNumber (readAnswer (text s) (replicate 13 0))) ss
 
-pub time-too-large : judged ("#18446744073709551616\n" ∷ []) ≡ 13 ∷ []
+time-too-large : judged ("#18446744073709551616\n" ∷ []) ≡ 13 ∷ []
 unfolding dumped
 time-too-large = refl
 
-pub fill-too-large : judged ("#1\nb100000000 0\n" ∷ []) ≡ 13 ∷ []
+fill-too-large : judged ("#1\nb100000000 0\n" ∷ []) ≡ 13 ∷ []
 unfolding dumped
 fill-too-large = refl
 
-pub variable-too-large : judged ("#1\nb1 53248\n" ∷ []) ≡ 13 ∷ []
+variable-too-large : judged ("#1\nb1 53248\n" ∷ []) ≡ 13 ∷ []
 unfolding dumped
 variable-too-large = refl
 
 -- R410: a number is digits of its base, none of them a zero before others
-pub numbers-longer : judged ("#\n" ∷ "#01\n" ∷ "#-1\n" ∷ "#1\nb01 0\n" ∷ "#1\nb2 0\n" ∷ "#1\nb 0\n" ∷ "#1\nb1 00\n" ∷ "#1\nb1 \n" ∷ [])
+numbers-longer : judged ("#\n" ∷ "#01\n" ∷ "#-1\n" ∷ "#1\nb01 0\n" ∷ "#1\nb2 0\n" ∷ "#1\nb 0\n" ∷ "#1\nb1 00\n" ∷ "#1\nb1 \n" ∷ [])
     ≡ replicate 8 13
 unfolding dumped
 numbers-longer = refl
 
 -- R401, R417: no byte; no LF; a CR; a blank at the end; two blanks; an empty line; a time twice; another letter
-pub other-bytes : judged ("" ∷ "#1" ∷ "#1\r\n" ∷ "#1 \n" ∷ "#1\nb1  0\n" ∷ "#1\n\n" ∷ "#1\n#2\n" ∷ "#1\nB1 0\n" ∷ [])
+other-bytes : judged ("" ∷ "#1" ∷ "#1\r\n" ∷ "#1 \n" ∷ "#1\nb1  0\n" ∷ "#1\n\n" ∷ "#1\n#2\n" ∷ "#1\nB1 0\n" ∷ [])
     ≡ replicate 8 13
 unfolding dumped
 other-bytes = refl
 
 -- R408: a variable behind a later one, and one twice
-pub not-rising : judged ("#1\nb1 3\nb1 2\n" ∷ "#1\nb1 3\nb0 3\n" ∷ "#1\nb1 2\nb1 3\n" ∷ []) ≡ 13 ∷ 13 ∷ 0 ∷ []
+not-rising : judged ("#1\nb1 3\nb1 2\n" ∷ "#1\nb1 3\nb0 3\n" ∷ "#1\nb1 2\nb1 3\n" ∷ []) ≡ 13 ∷ 13 ∷ 0 ∷ []
 unfolding dumped
 not-rising = refl
 
 -- R418: the step tells variable 14, and so needs a list of 15; what is no step is 13 before that
-pub lists-needed : (map (λ n. readNumber (readAnswer (text "#1\nb0 0\nb1 14\n") (replicate n 9))) (15 ∷ 14 ∷ 0 ∷ []) ≡ 0 ∷ 15 ∷ 15 ∷ [])
+lists-needed : (map (λ n. readNumber (readAnswer (text "#1\nb0 0\nb1 14\n") (replicate n 9))) (15 ∷ 14 ∷ 0 ∷ []) ≡ 0 ∷ 15 ∷ 15 ∷ [])
     × (readNumber (readAnswer header-of-one-is (replicate 12 9)) ≡ 15)
     × (readNumber (readAnswer (text "#1\nb0 0\nb1 14") []) ≡ 13)
 unfolding dumped
 lists-needed = (refl, refl, refl)
 
 -- R416, R420: what a step leaves in a list, taken and refused
-pub lists-left : (readList (text "#1\nb10 1\nb1 3\n") (9 ∷ 8 ∷ 7 ∷ 6 ∷ 5 ∷ []) ≡ 9 ∷ 2 ∷ 7 ∷ 1 ∷ 5 ∷ [])
+lists-left : (readList (text "#1\nb10 1\nb1 3\n") (9 ∷ 8 ∷ 7 ∷ 6 ∷ 5 ∷ []) ≡ 9 ∷ 2 ∷ 7 ∷ 1 ∷ 5 ∷ [])
     × (readList (text "#1\nb10 1\nb1 3\n") (9 ∷ 8 ∷ 7 ∷ []) ≡ 9 ∷ 8 ∷ 7 ∷ [])
     × (readList (text "#1\nb10 1\nb1 3") (9 ∷ 8 ∷ 7 ∷ 6 ∷ 5 ∷ []) ≡ 9 ∷ 8 ∷ 7 ∷ 6 ∷ 5 ∷ [])
 unfolding dumped

@@ -2,19 +2,19 @@
 -- a place; calls that are written (`WrittenAll`); their steps (`stepsOf`); what is read (`readAll`); R421 once more. Assumes nothing.
 use mathlib.Core.Path.{_≡_, refl, ap, ap₂, sym, _∙_, subst}
 use mathlib.Core.Logic.{_↔_}
-use mathlib.Core.Bool.{Bool, true, false}
+use mathlib.Core.Bool.{Bool, true, false, true≢false}
 use mathlib.Core.List.{List, [], _∷_, _++_, map}
 use Prim.Native.Nat.{ℕ, zero, suc, _<_, _≤_, suc-le-suc}
 use native.Mathlib.Nat.{le-of-suc-le-suc, not-suc-le-zero}
 use native.Mathlib.Omega.{arith}
 use borrow.Author.Tests.{eq-eqb}
-use lib.ListN.{length, getD, take, drop, length-append, List·getD-append, length-map, List·getD-map}
+use lib.ListN.{length, getD, take, drop, List·getD-append, length-map, List·getD-map}
 use lib.Seq.{take-append-seam}
 use Rattle.network.specs.Sizes.{Shape}
 use Rattle.network.specs.Layout.{shape, movesMade}
 use Rattle.network.specs.Refusals.{networkRefusal}
 use Rattle.waveform.specs.Dump.{variablesOf, fills, stepBytes}
-use Rattle.waveform.specs.Calls.{fillsNow, writtenStep, writeRefusal, writeAnswer, writePage, writeList, writtenLength, readAnswer, readList, readNumber, readTime}
+use Rattle.waveform.specs.Calls.{writtenStep, writeRefusal, writeAnswer, writePage, writeList, writtenLength, readAnswer, readList, readNumber, readTime}
 use Rattle.waveform.specs.DumpLaws.{fills-length, step-same}
 use Rattle.waveform.specs.CallsLaws.{write-exactly, list-length}
 use Rattle.waveform.specs.Theorem.{Call, WrittenAll, stepsOf, Told, readAll, DumpRead, dump-read}
@@ -51,7 +51,7 @@ bytes-later S first list rest c cs (suc i) = refl
 bytes-first : (S : Shape) (list list′ : List ℕ) (cs : List Call) (i : ℕ) → bytesFrom S true list cs i ≡ bytesFrom S true list′ cs i
 unfolding bytesFrom
 bytes-first S list list′ cs zero =
-    step-same true (movesMade (wordsAt cs 0)) (fills S (wordsAt cs 0)) list list′ (λ j h f. absurd (mathlib.Core.Bool.true≢false f))
+    step-same true (movesMade (wordsAt cs 0)) (fills S (wordsAt cs 0)) list list′ (λ j h f. absurd (true≢false f))
 bytes-first S list list′ cs (suc i) = refl
 
 -- `WrittenAll` -----------------------------------------------------------------------------------------------------------------------------
