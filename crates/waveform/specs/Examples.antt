@@ -19,6 +19,7 @@ use Rattle.waveform.specs.Reading.{isStamp, readStamp, isValueLine, read
 use Rattle.waveform.specs.Reading.{readNames, neededFrom, readLater, headerStamp, headerValues, tellsAll, readHeader, readStep, applied}
 use Rattle.waveform.specs.Calls.{writtenStep, writeRules, writeRefusal, writeAnswer, writePage, writeList}
 use Rattle.waveform.specs.Calls.{readRefusal, stepTold, readAnswer, readList, writtenLength, readNumber, readTime}
+use Rattle.waveform.specs.Lengths.{pageRoom}
 use Rattle.waveform.specs.Theorem.{Call, WrittenAll, stepsOf, readAll}
 
 -- lines, each ended by LF (R401)
@@ -209,6 +210,10 @@ refused w list page = writeRefusal true w (replicate list 9) (replicate page 7)
 too-short : refused five-waiting 13 490 ∷ refused five-waiting 13 489 ∷ refused five-waiting 12 490 ∷ refused five-waiting 0 0 ∷ [] ≡ 0 ∷ 15 ∷ 15 ∷ 15 ∷ []
 unfolding dumped
 too-short = refl
+
+-- R413: a page that is long enough for any step: of one node, 120 + 48 × 13 bytes; of the most nodes, 120 + 48 × 53248
+page-rooms : map pageRoom (13 ∷ 53248 ∷ []) ≡ 744 ∷ 2556024 ∷ []
+page-rooms = refl
 
 -- R413: no words; sizes that no network has; five packets held where three were accepted; each before 15
 words-first : map (λ w. refused w 0 0) ([] ∷ replicate 9 0 ∷ counting five-waiting 3 0 0 ∷ []) ≡ 1 ∷ 2 ∷ 3 ∷ []
