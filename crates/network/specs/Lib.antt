@@ -20,6 +20,7 @@ pub mod FlowControl
 pub mod FlowControlLaws
 pub mod Calls
 pub mod AfterLaws
+pub mod CallLaws
 pub mod FirstLaws
 pub mod Choices
 pub mod ChoiceLaws

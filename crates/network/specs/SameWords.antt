@@ -13,9 +13,9 @@ use lib.Seq.{length-take-le, getD-take, take-add, ext-getD}
 use Rattle.base.specs.Tests.{allOf, EachBelow, each-at}
 use Rattle.base.specs.Sums.{sumBelow}
 use Rattle.network.specs.Sizes.{Shape, nodes, queues, capacity}
-use Rattle.network.specs.Layout.{headerWords, shape, accepted, delivered, movesMade, raised, queueLength, nodeWords, queueStart, queueEnd, need, queueWords, queuePart, countOf, unusedOf, held, putQueue}
-use Rattle.network.specs.LayoutLaws.{header-long, node-words, start-end, end-next, Fits, countOf-queueWords, unused-zero, length-packetsOf, queueWords-packetsOf, length-queuePart, part-put-same, part-put-other, length-put, length-raised, part-raised}
-use Rattle.network.specs.CheckLaws.{Network}
+use Rattle.network.specs.Layout.{headerWords, shape, accepted, delivered, movesMade, raised, taken, queueLength, nodeWords, queueStart, queueEnd, need, queueWords, queuePart, countOf, unusedOf, held, putQueue}
+use Rattle.network.specs.LayoutLaws.{header-long, taken-length, node-words, start-end, end-next, Fits, countOf-queueWords, unused-zero, length-packetsOf, queueWords-packetsOf, length-queuePart, part-put-same, part-put-other, length-put, length-raised, part-raised}
+use Rattle.network.specs.CheckLaws.{QueueFits, Network}
 
 -- queue q of node n is another one than queue r of node m; and two queues are the same one or not
 abbrev pub OtherQueue : ℕ → ℕ → ℕ → ℕ → Type 0
@@ -45,6 +45,13 @@ queue-stored S v n q ps e h = record { few = rw (e, countOf-queueWords (capacity
 pub stored-few : (S : Shape) (w : List ℕ) (n q : ℕ) → Fits S w n q → QueueStored S w n q → length (held S w n q) ≤ capacity S q
 unfolding held queueLength
 stored-few S w n q at l = rw (length-packetsOf (capacity S q) (queuePart S w n q) (length-queuePart S w n q at) (l .few)) (l .few)
+
+-- no more of a queue that fits is taken than its capacity
+pub taken-few : (S : Shape) (w : List ℕ) (n q : ℕ) → Fits S w n q → QueueFits S w n q → taken S w n q ≤ capacity S q
+taken-few S w n q at f =
+    let e = taken-length S w n q in
+    let l = stored-few S w n q at (record { few = f .few; unused = f .unused }) in
+    omega arith
 
 -- every queue is so stored
 pub record QueuesStored (S : Shape) (w : List ℕ) : Type 0 where
@@ -105,14 +112,10 @@ SameHeader w v = (i : ℕ) → i < headerWords → getD w i 0 ≡ getD v i 0
 abbrev pub SameQueues : Shape → List ℕ → List ℕ → Type 0
 SameQueues S w v = (n q : ℕ) → n < nodes S → q < queues → held S w n q ≡ held S v n q
 
--- R40 to R49: nothing else stands in the words. Their lengths are the same by what lies behind the last node
-pub same-words : (S : Shape) (w v : List ℕ) → QueuesStored S w → QueuesStored S v → SameHeader w v → SameQueues S w v → drop (need S) w ≡ drop (need S) v
-    → w ≡ v
+-- R40 to R49: nothing else stands in the words up to the last node
+pub same-nodes : (S : Shape) (w v : List ℕ) → QueuesStored S w → QueuesStored S v → SameHeader w v → SameQueues S w v → take (need S) w ≡ take (need S) v
 unfolding need
-same-words S w v a b header queue rest =
-    sym (take-append-drop (need S) w)
-    ∙ ap₂ (λ (x y : List ℕ). x ++ y) nodes-same rest
-    ∙ take-append-drop (need S) v
+same-nodes S w v a b header queue = rw (starts S (nodes S)) at (to-node (nodes S) (le-refl (nodes S)))
   where
     part : (n q : ℕ) → n < nodes S → q < queues → queuePart S w n q ≡ queuePart S v n q
     part n q hn hq =
@@ -135,8 +138,13 @@ same-words S w v a b header queue rest =
     to-node zero h = let e : queueStart S 0 0 ≡ headerWords = (let s = starts S 0 in omega arith) in rw e first
     to-node (suc n) h = rw (next-starts S n) (to-queue n queues h (le-refl queues) (to-node n (le-of-suc-le h)))
 
-    nodes-same : take (need S) w ≡ take (need S) v
-    nodes-same = rw (starts S (nodes S)) at (to-node (nodes S) (le-refl (nodes S)))
+-- nor behind it, where both have the same words there. Their lengths are the same by these
+pub same-words : (S : Shape) (w v : List ℕ) → QueuesStored S w → QueuesStored S v → SameHeader w v → SameQueues S w v → drop (need S) w ≡ drop (need S) v
+    → w ≡ v
+same-words S w v a b header queue rest =
+    sym (take-append-drop (need S) w)
+    ∙ ap₂ (λ (x y : List ℕ). x ++ y) (same-nodes S w v a b header queue) rest
+    ∙ take-append-drop (need S) v
 
 -- Networks -------------------------------------------------------------------------------------------------------------------------------
 

@@ -3,23 +3,20 @@
 use mathlib.Core.Path.{_≡_, refl, ap, sym, _∙_, subst}
 use mathlib.Core.Bool.{Bool, true, false, true≢false}
 use mathlib.Core.Logic.{_⊎_, inl, inr}
-use mathlib.Core.List.{List, [], _∷_, _++_}
+use mathlib.Core.List.{List, [], _∷_}
 use Prim.Native.Nat.{ℕ, _<_, _≤_}
 use native.Mathlib.Omega.{arith}
-use borrow.Author.Tests.{eqb-true, eq-eqb}
-use lib.ListN.{length, getD, take, drop, length-append}
+use borrow.Author.Tests.{eqb-true}
+use lib.ListN.{length, getD, take, drop}
 use lib.Seq.{getD-take, take-at, take-append-seam}
-use Rattle.network.specs.Sizes.{capacity, injectionQueue}
 use Rattle.network.specs.SizesLaws.{range-of}
-use Rattle.network.specs.Layout.{shape, movesMade, held}
-use Rattle.network.specs.LayoutLaws.{Fits, shape-put, shape-raised}
-use Rattle.network.specs.CheckLaws.{Network}
+use Rattle.network.specs.Layout.{shape, movesMade}
 use Rattle.network.specs.Refusals.{networkRefusal, offerRefusal, offerRules}
 use Rattle.network.specs.RefusalLaws.{neither, network-passed}
-use Rattle.network.specs.Calls.{moveOf, makeWords, offered, afterOffer, offerWords, moveWords}
+use Rattle.network.specs.Calls.{moveOf, makeWords, offerWords, moveWords}
 use Rattle.network.specs.Run.{move, outcome, run, Demand3}
+use Rattle.network.specs.CallLaws.{offer-call}
 use Rattle.run.specs.Theorem.{demand3}
-use Rattle.run.specs.Reached.{accepting}
 use Rattle.sheet.specs.declared.Command.{Command}
 use Rattle.session.specs.Session.{perform, newStore}
 use Rattle.session.specs.Reads.{sheet, startSheet}
@@ -68,27 +65,13 @@ whole-tells first w v list page later is =
       list = λ z. take-at (fillsNow v) (drop (variablesOf (shape v)) list) (variablesOf (shape v)) (fills-length (shape v) v);
     }
 
--- an offer leaves the sizes as they were
-offer-shape : (w : List ℕ) (n dest tag : ℕ) → offerRefusal w n dest ≡ 0 → shape (offerWords w n dest tag) ≡ shape w
-unfolding offerWords offerRefusal afterOffer
-offer-shape w n dest tag e =
-    let (passed, rules) = neither (networkRefusal w) (offerRules (shape w) w n dest) e in
-    let N : Network (shape w) w = network-passed w passed in
-    let A = accepting (shape w) w n dest N rules in
-    let joined : List ℕ = held (shape w) w n injectionQueue ++ (offered (shape w) n dest tag ∷ []) in
-    let l = length-append (held (shape w) w n injectionQueue) (offered (shape w) n dest tag ∷ []) in
-    let free = A .free in
-    let few : length joined ≤ capacity (shape w) injectionQueue = omega arith in
-    let place : Fits (shape w) w n injectionQueue = record { node = A .node; queue = omega arith; long = N .long } in
-    rw (eq-eqb (offerRefusal w n dest) 0 e) (shape-raised _ _ (omega arith) ∙ shape-put (shape w) w n injectionQueue joined place few)
-
 -- a command that changes something and begins no dump, and one that changes nothing
 command-follows : (c : Command) (w : List ℕ) → changed c w ≡ true → beginsDump c ≡ false → Follows w (carriedOut c w)
 unfolding changed beginsDump carriedOut perform offerRefusal run outcome Demand3
 command-follows (Command.Make x y z e a j) w t f = absurd (true≢false f)
 command-follows (Command.Offer node destination tag) w t f =
     let z = eqb-true _ 0 t in
-    record { network = neither (networkRefusal w) (offerRules (shape w) w node destination) z .0; same-shape = offer-shape w node destination tag z }
+    record { network = neither (networkRefusal w) (offerRules (shape w) w node destination) z .0; same-shape = offer-call w node destination tag z .kept .same-shape }
 command-follows (Command.Move node queue output) w t f =
     let z = moved-network w node queue output (eqb-true _ 0 t) in
     record { network = z; same-shape = demand3 w (move (moveOf node queue output) ∷ []) z .same-shape }

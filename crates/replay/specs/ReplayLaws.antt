@@ -22,8 +22,8 @@ use Rattle.network.specs.Refusals.{networkRefusal}
 use Rattle.network.specs.RefusalLaws.{Permitted, network-passed, network-passes}
 use Rattle.network.specs.FirstLaws.{Finds, nothing, named, first-finds}
 use Rattle.network.specs.Calls.{Progress, afterMove, firstMove, stopped, oneMore, deliverNext, moveNext, drainFrom, drained, drainWords, drainAnswer, drainedMoves, drainedDelivered}
+use Rattle.network.specs.CallLaws.{torus}
 use Rattle.run.specs.Step.{step}
-use Rattle.run.specs.Theorem.{torus}
 use Rattle.sheet.specs.declared.Command.{Command}
 use Rattle.session.specs.Session.{perform, ledgerWords}
 use Rattle.replay.specs.Replay.{carriedOut, movesAsked, oneWord, movedOn, makesMove, roomLeft, replayed}

@@ -22,12 +22,13 @@ use Rattle.network.specs.RefusalLaws.{network-passed, Permitted}
 use Rattle.network.specs.FirstLaws.{Finds, nothing, named, first-finds, first-nothing}
 use Rattle.network.specs.FirstMovesLaws.{held-some}
 use Rattle.network.specs.Calls.{Progress, firstMove, firstAnswer, drainFrom, drained, drainAnswer, drainedMoves, offerWords}
+use Rattle.network.specs.CallLaws.{torus}
 use Rattle.network.specs.Run.{Call, drain, Outcome, outcome, run, isLabelled, heldWith, handedWith, hopsWith, Demand3}
 use Rattle.run.specs.Step.{Ran}
 use Rattle.run.specs.Alive.{PermittedMove, alive}
 use Rattle.run.specs.DrainMoves.{drain-ran}
 use Rattle.run.specs.Stops.{StopReason, nothing-held, budget-used, ledger-full, drain-why}
-use Rattle.run.specs.Theorem.{torus, no-work, no-packets, run-made, demand3}
+use Rattle.run.specs.Theorem.{no-work, no-packets, run-made, demand3}
 use Rattle.run.specs.Reached.{offer-network, offer-moves}
 
 -- R124: First says none exactly when nothing is held

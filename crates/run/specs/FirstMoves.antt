@@ -10,10 +10,10 @@ use Rattle.network.specs.CheckLaws.{Network}
 use Rattle.network.specs.Refusals.{networkRefusal}
 use Rattle.network.specs.RefusalLaws.{network-passed}
 use Rattle.network.specs.Calls.{drained, drainWords}
+use Rattle.network.specs.CallLaws.{torus}
 use Rattle.network.specs.Run.{Call, move, drain, outcome}
 use Rattle.network.specs.FirstMoves.{ByFirst, DrainsByFirst}
 use Rattle.run.specs.DrainMoves.{drain-by-first}
-use Rattle.run.specs.Theorem.{torus}
 
 -- one Drain; a refused one makes no move
 drain-picks : (budget : ℕ) (ledger w : List ℕ) → ByFirst w (outcome (drain budget ledger) w .moves) (outcome (drain budget ledger) w .words)

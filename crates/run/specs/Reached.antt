@@ -3,13 +3,13 @@
 -- nothing.
 use mathlib.Core.Path.{_≡_, refl, ap, sym, subst, _∙_}
 use mathlib.Core.Logic.{_≢_}
-use mathlib.Core.Bool.{Bool, true, false, not, _||_}
+use mathlib.Core.Bool.{Bool, true, false, not}
 use mathlib.Core.List.{List, [], _∷_, _++_}
 use Prim.Native.Nat.{ℕ, suc, _+_, _*_, _-_, _^_, _<_, _≤_}
 use native.Mathlib.Decide.{ℕ-discrete}
 use native.Mathlib.Omega.{arith}
-use borrow.Author.Tests.{eq-eqb, ne-eqb, leb-false, eqb-false, ltb-false}
-use lib.Dec.{T, leb, ltb, eqb}
+use borrow.Author.Tests.{eq-eqb, ne-eqb, ltb-false}
+use lib.Dec.{T, ltb}
 use lib.ListN.{length, getD, drop, replicate, length-append, length-replicate, length-drop, getD-replicate, List·getD-append}
 use lib.Seq.{ext-getD, getD-append-add}
 use Rattle.base.specs.Tests.{allOf}
@@ -22,18 +22,18 @@ use Rattle.network.specs.Packet.{spareField, destinationField, destination, spa
 use Rattle.network.specs.Torus.{along}
 use Rattle.network.specs.TorusLaws.{Torus, inRange-torus, inRange-size, inRange-nodes, along-lt}
 use Rattle.network.specs.Layout.{headerWords, shape, need, nodeWords, queueStart, queueEnd, queueWords, queuePart, packetsOf, held, taken, total, accepted, delivered, movesMade}
-use Rattle.network.specs.LayoutLaws.{start-header, start-end, end-start, end-need, packetsOf-queueWords, length-taken, taken-none, taken-same, total-change}
+use Rattle.network.specs.LayoutLaws.{start-header, start-end, end-start, end-need, packetsOf-queueWords, taken-none, taken-same, total-change}
 use Rattle.network.specs.Check.{reach, isQueueOf, packetFits, ringHasRoom, packetsHeld, workLeft, mostAccepted, mostWork}
 use Rattle.network.specs.CheckLaws.{PacketFits, packet-by, Network}
-use Rattle.network.specs.SameWords.{same?, queue-stored, network-stored}
+use Rattle.network.specs.SameWords.{same?, queue-stored}
 use Rattle.network.specs.Refusals.{networkRefusal, makeRefusal, offerRules, offerRefusal}
 use Rattle.network.specs.RefusalLaws.{not-refused, neither, network-passed, network-passes, own-node-exactly}
 use Rattle.network.specs.OfferLaws.{ShortRings, field-offered, distance-offered, work-offered, movedBy-offered, hops-offered}
 use Rattle.network.specs.Calls.{emptyHeader, emptyNetwork, makeWords, offered, afterOffer, offerWords}
-use Rattle.network.specs.AfterLaws.{OfferTaken, offer-taken}
-use Rattle.run.specs.Queues.{taken-few, fits-by, one, packets-sum, allOf-newest}
+use Rattle.network.specs.AfterLaws.{OfferTaken}
+use Rattle.network.specs.CallLaws.{torus, Accepting, accepting, accepted-taken, offer-call, empty-length}
+use Rattle.run.specs.Queues.{fits-by, one, packets-sum, allOf-newest}
 use Rattle.run.specs.Rings.{Room, RingRoom, ring-of, ring-by, escape-lt}
-use Rattle.run.specs.Theorem.{torus}
 
 -- Words that hold nothing ---------------------------------------------------------------------------------------------------------------
 
@@ -189,14 +189,13 @@ make-passes S w all-dimensions e =
 
 -- the store is as long as it was
 pub make-length : (S : Shape) (w : List ℕ) → length (S .sizes) ≡ dimensions → makeRefusal S w ≡ 0 → length (makeWords S w) ≡ length w
-unfolding makeWords makeRefusal made S
+unfolding makeWords makeRefusal
 make-length S w all-dimensions e =
     let (range, rest) = not-refused (not (sizesInRange S)) 1 _ e in
     let (short, none) = not-refused (ltb (length w) (need S)) 0 _ rest in
     let long : need S ≤ length w = ltb-false (length w) (need S) short in
-    let whole : S ≡ shapeOf (sizesOf S) = shape-is S all-dimensions in
-    let l : length (emptyNetwork S ++ drop (need S) w) ≡ need S + length (drop (need S) w) =
-    subst (λ (R : Shape). length (emptyNetwork R ++ drop (need S) w) ≡ need R + length (drop (need S) w)) (sym whole) (made-length (sizesOf S) (drop (need S) w)) in
+    let l : length (emptyNetwork S ++ drop (need S) w) ≡ length (emptyNetwork S) + length (drop (need S) w) = length-append (emptyNetwork S) (drop (need S) w) in
+    let n : length (emptyNetwork S) ≡ need S = empty-length S all-dimensions in
     let d = length-drop (need S) w in
     rw (eq-eqb (makeRefusal S w) 0 e) (omega arith)
 
@@ -277,38 +276,6 @@ module _ (S : Shape) (w v : List ℕ) (n dest tag : ℕ) (tor : Torus S) (N : Ne
         bounded = omega arith;
       }
 
--- what a packet from node n to node dest needs to join words that are a network. That the two differ is Offer's rule and not the check's (R86)
-pub record Accepting (S : Shape) (w : List ℕ) (n dest : ℕ) : Type 0 where
-  pub node : n < nodes S
-  pub addressed : dest < nodes S
-  pub fewer : accepted w < mostAccepted
-  pub free : length (held S w n injectionQueue) < capacity S injectionQueue
-
-pub accepting : (S : Shape) (w : List ℕ) (n dest : ℕ) → Network S w → offerRules S w n dest ≡ 0 → Accepting S w n dest
-unfolding offerRules
-accepting S w n dest N e =
-    let (a, e₁) = not-refused (leb (nodes S) n || leb (nodes S) dest) 3 _ e in
-    let (o, e₂) = not-refused (eqb n dest) 13 _ e₁ in
-    let (b, e₃) = not-refused (eqb (accepted w) mostAccepted) 7 _ e₂ in
-    let (c, e₄) = not-refused (eqb (taken S w n injectionQueue) (capacity S injectionQueue)) 6 _ e₃ in
-    let (x, y) = neither-of (leb (nodes S) n) (leb (nodes S) dest) a in
-    let hn : n < nodes S = leb-false (nodes S) n x in
-    let spent : accepted w ≢ mostAccepted = eqb-false (accepted w) mostAccepted b in
-    let full : taken S w n injectionQueue ≢ capacity S injectionQueue = eqb-false (taken S w n injectionQueue) (capacity S injectionQueue) c in
-    let most : accepted w ≤ mostAccepted = N .few-accepted in
-    let few : taken S w n injectionQueue ≤ capacity S injectionQueue =
-    taken-few S w n injectionQueue (record { node = hn; queue = omega arith; long = N .long }) (N .queue n injectionQueue hn (omega arith)) in
-    let fewer : length (held S w n injectionQueue) ≤ taken S w n injectionQueue = length-taken S w n injectionQueue in
-    record { node = hn; addressed = leb-false (nodes S) dest y; fewer = omega arith; free = omega arith }
-  where
-    neither-of : (a b : Bool) → a || b ≡ false → (a ≡ false) × (b ≡ false)
-    neither-of true b e = absurd (mathlib.Core.Bool.true≢false e)
-    neither-of false b e = (refl, e)
-
--- what such an offer does
-accepted-taken : (S : Shape) (w : List ℕ) (n dest tag : ℕ) → Network S w → Accepting S w n dest → OfferTaken S w (afterOffer S w n dest tag) n (offered S n dest tag)
-accepted-taken S w n dest tag N A = offer-taken S w n dest tag (network-stored S w N) (A .node) (A .free)
-
 -- R86: words that such a packet has joined pass the check, one for the very node where it stands too, which no Offer takes any more (R174)
 pub joined-passes : (w : List ℕ) (n dest tag : ℕ) → networkRefusal w ≡ 0 → Accepting (shape w) w n dest
     → networkRefusal (afterOffer (shape w) w n dest tag) ≡ 0
@@ -329,12 +296,7 @@ offer-passes w n dest tag e =
 
 -- and leaves the store as long as it was
 pub offer-length : (w : List ℕ) (n dest tag : ℕ) → offerRefusal w n dest ≡ 0 → length (offerWords w n dest tag) ≡ length w
-unfolding offerWords offerRefusal
-offer-length w n dest tag e =
-    let (network, rules) = neither (networkRefusal w) (offerRules (shape w) w n dest) e in
-    let N : Network (shape w) w = network-passed w network in
-    let A : Accepting (shape w) w n dest = accepting (shape w) w n dest N rules in
-    rw (eq-eqb (offerRefusal w n dest) 0 e) (accepted-taken (shape w) w n dest tag N A .kept .same-length)
+offer-length w n dest tag e = offer-call w n dest tag e .kept .same-length
 
 -- refused or not, an offer leaves a network where there was one, and makes no move
 pub offer-network : (w : List ℕ) (n dest tag : ℕ) → networkRefusal w ≡ 0 → networkRefusal (offerWords w n dest tag) ≡ 0
@@ -346,15 +308,11 @@ offer-network w n dest tag z = go (ℕ-discrete (offerRefusal w n dest) 0)
     go (no ne) = rw (ne-eqb (offerRefusal w n dest) 0 ne) z
 
 pub offer-moves : (w : List ℕ) (n dest tag : ℕ) → movesMade (offerWords w n dest tag) ≡ movesMade w
-unfolding offerWords offerRefusal
+unfolding offerWords
 offer-moves w n dest tag = go (ℕ-discrete (offerRefusal w n dest) 0)
   where
     go : Dec (offerRefusal w n dest ≡ 0) → movesMade (offerWords w n dest tag) ≡ movesMade w
-    go (yes e) =
-        let (network, rules) = neither (networkRefusal w) (offerRules (shape w) w n dest) e in
-        let N : Network (shape w) w = network-passed w network in
-        let A : Accepting (shape w) w n dest = accepting (shape w) w n dest N rules in
-        rw (eq-eqb (offerRefusal w n dest) 0 e) (accepted-taken (shape w) w n dest tag N A .same-moves)
+    go (yes e) = offer-call w n dest tag e .same-moves
     go (no ne) = rw (ne-eqb (offerRefusal w n dest) 0 ne) refl
 
 -- R174: the packet of an offer that is not refused has a hop to make: where it is handed out, it has crossed a link

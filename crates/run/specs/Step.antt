@@ -27,10 +27,10 @@ use Rattle.network.specs.RoutesLaws.{Onward, route-of}
 use Rattle.network.specs.Refusals.{head}
 use Rattle.network.specs.RefusalLaws.{Permitted}
 use Rattle.network.specs.Calls.{Delivery, afterMove}
-use Rattle.network.specs.SameWords.{OtherQueue}
+use Rattle.network.specs.SameWords.{OtherQueue, taken-few}
 use Rattle.network.specs.AfterLaws.{first-rest, head-fits, onward-along, hopped, NotTarget, MoveMade, move-made, Role, is-source, is-target, is-neither, role, move-sum}
 use Rattle.network.specs.Run.{isLabelled, heldWith, handedWith, hopsOf, hopsWith, atDestination}
-use Rattle.run.specs.Queues.{taken-few, fits-by, one, packets-sum, allOf-rest, allOf-newest}
+use Rattle.run.specs.Queues.{fits-by, one, packets-sum, allOf-rest, allOf-newest}
 use Rattle.run.specs.Rings.{Shifted, ring-kept}
 use Rattle.run.specs.Hop.{Going, going, hopped-fits}
 

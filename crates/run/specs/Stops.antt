@@ -24,12 +24,12 @@ use Rattle.network.specs.Refusals.{networkRefusal, head}
 use Rattle.network.specs.RefusalLaws.{Permitted, network-passed, network-passes}
 use Rattle.network.specs.FirstLaws.{Finds, nothing, named, first-finds, first-nothing}
 use Rattle.network.specs.Calls.{NamedMove, moveOf, Delivery, Progress, afterMove, firstMove, firstAnswer, stopped, oneMore, deliverNext, moveNext, drainFrom, drained, drainWords, drainAnswer, drainedMoves, drainedDelivered, drainedStop, foundMove}
+use Rattle.network.specs.CallLaws.{torus}
 use Rattle.network.specs.DrainLaws.{Within, drain-within}
 use Rattle.network.specs.Choices.{NextDelivers, DrainStops}
 use Rattle.run.specs.Step.{Ran, step}
 use Rattle.run.specs.Alive.{PermittedMove, alive}
 use Rattle.run.specs.DrainMoves.{drain-ran}
-use Rattle.run.specs.Theorem.{torus}
 
 -- the first move on is a delivery
 pub record Delivers (S : Shape) (w : List ℕ) : Type 0 where

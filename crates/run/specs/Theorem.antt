@@ -18,7 +18,6 @@ use Rattle.base.specs.Sums.{sumOf, sumOf-least, sumBelow, sum-zero}
 use Rattle.network.specs.declared.Moved.{Moved}
 use Rattle.network.specs.Sizes.{Shape, nodes, queues}
 use Rattle.network.specs.Packet.{work}
-use Rattle.network.specs.TorusLaws.{Torus, inRange-torus}
 use Rattle.network.specs.Layout.{shape, held, total}
 use Rattle.network.specs.LayoutLaws.{total-zero, some-held, total-part}
 use Rattle.network.specs.Check.{packetsHeld, workLeft}
@@ -27,6 +26,7 @@ use Rattle.network.specs.Routes.{deliver}
 use Rattle.network.specs.Refusals.{networkRefusal, moveRules, moveRefusal, head}
 use Rattle.network.specs.RefusalLaws.{network-passed, network-passes, neither, elseBy-zero, permitted-of, permitted-by}
 use Rattle.network.specs.Calls.{moveOf, unlessRefused, movedNumber, Delivery, afterMove, moveWords, moveAnswer, movedPackets, drained, drainWords, drainAnswer, drainedMoves}
+use Rattle.network.specs.CallLaws.{torus}
 use Rattle.network.specs.Run.{Call, move, drain, Outcome, outcome, run, Leads, ledgerOf, SomeMove, AfterRun, Demand3}
 use Rattle.network.specs.RunLaws.{drain-handed, run-kept, leads-none, leads-one, leads-append}
 use Rattle.run.specs.Step.{Ran, ran-none, ran-then, handsOut, step}
@@ -61,11 +61,6 @@ no-packets S w z =
   where
     none : (ps : List ℕ) → ps ≡ [] → sumOf work ps ≡ 0
     none ps e = ap (sumOf work) e
-
--- the sizes of a network are those of a torus
-pub torus : (w : List ℕ) → Network (shape w) w → Torus (shape w)
-unfolding shape
-torus w N = inRange-torus (shape w) (N .in-range) refl
 
 -- one call: its outcome is that of moves made one after the other, which its answer tells of
 pub record Made (w : List ℕ) (r : Outcome) : Type 0 where

@@ -3,7 +3,7 @@ use borrow.Author.Needs.{needs}
 use mathlib.Core.Path.{sym, _∙_}
 use denote.Ref.{now}
 use Rattle.network.specs.Sizes.{shapeOf}
-use Rattle.run.specs.Reached.{accepting}
+use Rattle.network.specs.CallLaws.{accepting}
 use Rattle.calls.specs.Returns.{offer-refused, offer-broken, offer-rules, offer-taken}
 use Rattle.checker.specs.Opened.{broken, is-open, is-shut}
 use Rattle.calls.proofs.offer.Statement.{statement}
