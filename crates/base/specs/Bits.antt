@@ -62,7 +62,8 @@ bit-high q b j = bit-suc (q * 2 + digit b) j ∙ ap (λ (x : ℕ). bit x j) (dig
 -- Or, and, not ---------------------------------------------------------------------------------------------------------------------------
 
 -- an operation on words that is one on digits is one on bits
-module _ (f : ℕ → ℕ → ℕ) (g : ℕ → ℕ → ℕ) (h : Bool → Bool → Bool) (step : (a b : ℕ) → f a b ≡ f (a / 2) (b / 2) * 2 + g (a % 2) (b % 2)) (digits : (x y : Bool) → g (digit x) (digit y) ≡ digit (h x y)) where
+module _ (f : ℕ → ℕ → ℕ) (g : ℕ → ℕ → ℕ) (h : Bool → Bool → Bool)
+    (step : (a b : ℕ) → f a b ≡ f (a / 2) (b / 2) * 2 + g (a % 2) (b % 2)) (digits : (x y : Bool) → g (digit x) (digit y) ≡ digit (h x y)) where
   split : (a b : ℕ) → f a b ≡ f (a / 2) (b / 2) * 2 + digit (h (bit a 0) (bit b 0))
   split a b = step a b ∙ ap (λ (x : ℕ). f (a / 2) (b / 2) * 2 + x) (ap₂ g (lowest-digit a) (lowest-digit b) ∙ digits (bit a 0) (bit b 0))
 

@@ -70,7 +70,8 @@ small-negation m n h e = ap again (small-is m h) ∙ toZ-ofZ (small-fits m h) �
 half-turn : (b : ℕ) → b < offsetValues → pos ((b + halfOffsets) % offsetValues) -ℤ pos halfOffsets ≡ signed b
 half-turn b h = go (decLt b halfOffsets)
   where
-    go : Dec (b < halfOffsets) → cond (ltb ((b + halfOffsets) % offsetValues) halfOffsets) (negsuc (halfOffsets - suc ((b + halfOffsets) % offsetValues))) (pos ((b + halfOffsets) % offsetValues - halfOffsets)) ≡ signed b
+    go : Dec (b < halfOffsets)
+        → cond (ltb ((b + halfOffsets) % offsetValues) halfOffsets) (negsuc (halfOffsets - suc ((b + halfOffsets) % offsetValues))) (pos ((b + halfOffsets) % offsetValues - halfOffsets)) ≡ signed b
     go (yes l) = rw (le-ltb ((b + halfOffsets) % offsetValues) halfOffsets (omega arith)) (ap pos (omega arith) ∙ sym (signed-small b l))
     go (no g) = rw (lt-ltb ((b + halfOffsets) % offsetValues) halfOffsets (omega arith)) (ap negsuc (omega arith) ∙ sym (signed-large b (omega arith)))
 

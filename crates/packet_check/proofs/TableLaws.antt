@@ -50,7 +50,8 @@ module _ (before : List ℕ) (start : ℕ) (g : ℕ → ℕ) where
   filled-all tables j count f l m = subst (λ (n : ℕ). PartWritten before tables start n g) (let e : j ≡ count = omega arith in e) f
 
 -- a part that ends before another one is filled stays
-pub part-kept : (before after : List ℕ) (start count other more : ℕ) (g h : ℕ → ℕ) → Part before start count g → PartWritten before after other more h → start + count ≤ other → Part after start count g
+pub part-kept : (before after : List ℕ) (start count other more : ℕ) (g h : ℕ → ℕ) → Part before start count g → PartWritten before after other more h
+    → start + count ≤ other → Part after start count g
 part-kept before after start count other more g h part f l j k = f .kept (start + j) (omega arith) ∙ part j k
 
 -- A ring ---------------------------------------------------------------------------------------------------------------------------------

@@ -44,7 +44,8 @@ pub data StopReason (S : Shape) (budget room : ℕ) (r : Progress) : Type 0 wher
   ledger-full : r .stop ≡ Stop.Full → packetsHeld S (r .words) ≢ 0 → length (r .moves) < budget → Delivers S (r .words) → length (r .deliveries) ≡ room → StopReason S budget room r
 
 -- one move more, with what it handed out
-why-more : (S : Shape) (budget left room : ℕ) (k : NamedMove) (ds : List Delivery) (r : Progress) → length ds + left ≡ room → StopReason S budget left r → StopReason S (suc budget) room (oneMore k ds r)
+why-more : (S : Shape) (budget left room : ℕ) (k : NamedMove) (ds : List Delivery) (r : Progress) → length ds + left ≡ room
+    → StopReason S budget left r → StopReason S (suc budget) room (oneMore k ds r)
 unfolding oneMore
 why-more S budget left room k ds r e (nothing-held s z) = nothing-held s z
 why-more S budget left room k ds r e (budget-used s h m) = budget-used s h (ap suc m)

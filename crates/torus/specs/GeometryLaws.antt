@@ -35,7 +35,10 @@ nodes-is s = mul-assoc (s .x) (s .y) (s .z) ∙ ap (λ (z : ℕ). s .x * (s .y *
 -- the nodes of a plane are no more than all
 pub plane-most : (s : Sizes) → T (sizesInRange (shapeOf s)) → s .x * s .y ≤ nodes (shapeOf s)
 unfolding shapeOf size
-plane-most s t = subst (λ (n : ℕ). s .x * s .y ≤ n) (nodes-is s) (let m = mul-le-mul-left (s .x * s .y) (size-pos (shapeOf s) 2 (sizes-torus s t) (omega arith)) in let o = mul-one (s .x * s .y) in omega arith)
+plane-most s t =
+    let m = mul-le-mul-left (s .x * s .y) (size-pos (shapeOf s) 2 (sizes-torus s t) (omega arith)) in
+    let o = mul-one (s .x * s .y) in
+    subst (λ (n : ℕ). s .x * s .y ≤ n) (nodes-is s) (omega arith)
 
 pub size-x : (s : Sizes) (i : ℕ) → i ≡ 0 → s .x ≡ size (shapeOf s) i
 unfolding size shapeOf

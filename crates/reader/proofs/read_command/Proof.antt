@@ -23,7 +23,8 @@ returns-3 c =
     let r = c .before .before .before in
     let f = r .before .before in
     let line = f .before .before .before .args .line .now in
-    letter-and-numbers line (f .field-end .result) (f .field-end .ensures) (r .read-numbers .result) (r .read-numbers .ensures) (c .command-with .result) (c .command-with .ensures) (f .before .if1 .left) (r .before .if2 .left)
+    letter-and-numbers line (f .field-end .result) (f .field-end .ensures) (r .read-numbers .result) (r .read-numbers .ensures)
+    (c .command-with .result) (c .command-with .ensures) (f .before .if1 .left) (r .before .if2 .left)
     (c .before .before .if3 .taken)
 
 returns-4 : tie.Need-returns-4

@@ -34,7 +34,8 @@ cast-values c =
 returns : tie.Need-returns Inv-loop μ-loop
 returns c =
     let f = c .before .before .before .before in
-    broken (f .before .before .loop .inv) (f .before .loop-test .taken) (f .field-end .result) (f .field-end .ensures) (c .before .before .read-number .result) (c .before .before .read-number .ensures) (c .enum-told .given .1)
+    broken (f .before .before .loop .inv) (f .before .loop-test .taken) (f .field-end .result) (f .field-end .ensures)
+    (c .before .before .read-number .result) (c .before .before .read-number .ensures) (c .enum-told .given .1)
 
 loop-again : tie.Need-loop-again Inv-loop μ-loop
 loop-again c =
