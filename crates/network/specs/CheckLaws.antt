@@ -1,5 +1,5 @@
 -- The check of a network as facts, and back: each Boolean definition of Check.antt is the record of its clauses that stands here.
--- Order: a packet; a queue; its room; the whole. Assumes nothing.
+-- Order: how far a packet may have to go; the way back; a packet, half-way round and at its own node; a queue; its room; the whole. Assumes nothing.
 use mathlib.Core.Path.{_≡_, refl, ap, sym, _∙_}
 use mathlib.Core.Logic.{_⊎_, inl, inr, _≢_}
 use mathlib.Core.Bool.{Bool, true, false, cond, not, _&&_, _||_}

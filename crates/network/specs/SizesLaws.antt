@@ -1,4 +1,4 @@
--- Sizes in range as facts: the capacities of the queues and their bounds. Assumes nothing.
+-- Sizes in range as facts, and back; then the capacities of the queues and their bounds. Assumes nothing.
 use mathlib.Core.Path.{_≡_}
 use mathlib.Core.Bool.{Bool, true, false, cond}
 use mathlib.Core.List.{List, [], _∷_}
