@@ -1,11 +1,13 @@
 -- Kept rows: what the definitions give for small networks, with every number worked out by hand from docs/RULES.md. A definition that is wrong contradicts
 -- one of them, whatever the laws and the code beside it say. A must-fail edit of a definition names the row that it breaks; so each row is a law of its
 -- own, `keptRows` has them all, and `keptCases` (Cases.antt) takes it. Words are counted from 0, as in R42.
--- Order: the words; places and the packet word; the ranges of the sizes; the check; the order of refusals; what refused calls leave; routes; flow; first in,
--- first out; Credit; First; Drain; all of them. Assumes nothing.
+-- Order: the words; places and the packet word; the ranges of the sizes; the check; the order of refusals; what refused calls leave; what is read of an answer;
+-- routes; flow; first in, first out; Credit; First; Drain; a run of calls; all of them. Assumes nothing.
 use mathlib.Core.Path.{_≡_, refl}
+use mathlib.Core.Bool.{true, false}
 use mathlib.Core.List.{List, [], _∷_, _++_, map}
 use Prim.Native.Nat.{ℕ, _+_, _*_, _-_, _%_, _^_}
+use native.Mathlib.Omega.{arith}
 use lib.IntN.{ℤ, pos, negsuc}
 use lib.ListN.{take, drop, set, replicate}
 use Rattle.network.specs.declared.Sizes.{Sizes}
@@ -18,10 +20,13 @@ use Rattle.network.specs.Sizes.{Shape, shapeOf, sized, size, capacity}
 use Rattle.network.specs.Packet.{tag, destination, spare, offset, label, work, hop}
 use Rattle.network.specs.Torus.{neighbour, movedBy}
 use Rattle.network.specs.Layout.{shape, accepted, delivered, movesMade, need, queueStart, queueWords, putQueue}
-use Rattle.network.specs.Check.{packetFits}
+use Rattle.network.specs.Check.{packetFits, workLeft}
 use Rattle.network.specs.Routes.{routes, target}
 use Rattle.network.specs.Refusals.{badLine, shortPage, networkRefusal, makeRefusal, offerRefusal, moveRefusal, lookRefusal}
 use Rattle.network.specs.Calls.{makeWords, offered, offerWords, moveWords, moveAnswer, creditAnswer, lookPart, lookAt, firstAnswer, drainWords, drainLedger, drainAnswer}
+use Rattle.network.specs.Calls.{NamedMove, moveOf, Delivery, movedNumber, movedPackets, creditNumber, creditSlots, foundNumber, foundMove, drainedNumber, drainedMoves, drainedDelivered, drainedStop}
+use Rattle.network.specs.Choices.{Permits}
+use Rattle.network.specs.Run.{move, drain, Ledger, Outcome, deliveryNodes, atNodes, ledgerOf, wordsWritten, outcome, run, isLabelled, heldWith, handedWith, hopsOf, hopsWith, atDestination}
 use Rattle.network.specs.ByHand.{packet, here, empty, holding, only, chosen, definitions}
 
 -- the numbers of the queues
@@ -438,6 +443,18 @@ full-ring : FullRing
 unfolding definitions
 full-ring = (refl, refl)
 
+-- R81, R501, 1 by 1 by 2, E 2: the same of the rings z+ and z−, with 2 and 2, 2 and 1
+abbrev ring-of-z : ℕ → ℕ → List ℕ
+ring-of-z q b = holding (holding (empty (shapeOf (sized 1 1 2 2 1 1))) 0 q (here 0 ∷ here 0 ∷ [])) 1 q (replicate b (here 1))
+
+abbrev pub FullRingOfZ : Type 0
+FullRingOfZ = networkRefusal (ring-of-z 11 2) ∷ networkRefusal (ring-of-z 11 1) ∷ networkRefusal (ring-of-z 12 2) ∷ networkRefusal (ring-of-z 12 1) ∷ []
+    ≡ 3 ∷ 0 ∷ 3 ∷ 0 ∷ []
+
+full-ring-of-z : FullRingOfZ
+unfolding definitions
+full-ring-of-z = refl
+
 -- R80, 2 by 2 by 1, E 2: escape queues y+ that are full at nodes 0 and 2, which are one ring, and at nodes 0 and 1, which are of two
 abbrev full-at : ℕ → ℕ → List ℕ
 full-at m n = holding (holding (empty (shapeOf (sized 2 2 1 2 1 1))) m 9 (here m ∷ here m ∷ [])) n 9 (here n ∷ here n ∷ [])
@@ -791,6 +808,55 @@ refused-drain : RefusedDrain
 unfolding definitions
 refused-drain = (refl, refl)
 
+-- What is read of an answer (R190 to R192, R321) ------------------------------------------------------------------------------------------------
+
+-- Move: refused by 12; a hop, after the delivery from queue 7 of node 1 has made the second slot free; a delivery. The number, and the packets handed out
+abbrev move-answers : List Moved
+move-answers = moveAnswer crowded 0 0 7 ∷ moveAnswer (moveWords crowded 1 7 0) 0 0 7 ∷ moveAnswer crowded 1 1 0 ∷ []
+
+abbrev pub MoveTold : Type 0
+MoveTold = (map movedNumber move-answers ≡ 12 ∷ 0 ∷ 0 ∷ []) × (map movedPackets move-answers ≡ [] ∷ [] ∷ (arrived 1 ∷ []) ∷ [])
+
+move-told : MoveTold
+unfolding definitions movedNumber movedPackets
+move-told = (refl, refl)
+
+-- Credit: refused by 6; of output 7, which has one of two slots free. The number, and the slots
+abbrev credit-answers : List Credit
+credit-answers = creditAnswer crowded 0 13 ∷ creditAnswer crowded 0 7 ∷ []
+
+abbrev pub CreditTold : Type 0
+CreditTold = (map creditNumber credit-answers ≡ 6 ∷ 0 ∷ []) × (map creditSlots credit-answers ≡ 0 ∷ 1 ∷ [])
+
+credit-told : CreditTold
+unfolding definitions creditNumber creditSlots
+credit-told = (refl, refl)
+
+-- First: refused by 3; the delivery from queue 1 of node 1; none. The number, and the move
+abbrev first-answers : List Found
+first-answers = firstAnswer no-network ∷ firstAnswer crowded ∷ firstAnswer (empty two) ∷ []
+
+abbrev pub FirstTold : Type 0
+FirstTold = (map foundNumber first-answers ≡ 3 ∷ 0 ∷ 0 ∷ []) × (map foundMove first-answers ≡ [] ∷ (moveOf 1 1 0 ∷ []) ∷ [] ∷ [])
+
+first-told : FirstTold
+unfolding definitions foundNumber foundMove
+first-told = (refl, refl)
+
+-- Drain: refused by 3; six moves, five of them deliveries (below). The number, the moves, the deliveries and the stop
+abbrev drain-answers : List Drained
+drain-answers = drainAnswer no-network 6 5 ∷ drainAnswer crowded 6 5 ∷ []
+
+abbrev pub DrainTold : Type 0
+DrainTold = (map drainedNumber drain-answers ≡ 3 ∷ 0 ∷ [])
+    × (map drainedMoves drain-answers ≡ 0 ∷ 6 ∷ [])
+    × (map drainedDelivered drain-answers ≡ 0 ∷ 5 ∷ [])
+    × (map drainedStop drain-answers ≡ [] ∷ (Stop.Emptied ∷ []) ∷ [])
+
+drain-told : DrainTold
+unfolding definitions drainedNumber drainedMoves drainedDelivered drainedStop
+drain-told = (refl, refl, refl, refl)
+
 -- Routes -----------------------------------------------------------------------------------------------------------------------------------
 
 -- R141: a head that has arrived is delivered, from every queue
@@ -811,6 +877,15 @@ RoutesOfHeads = (map (λ q. routes q (packet 0 (pos 1) (negsuc 0) (pos 1))) (0 �
 routes-of-heads : RoutesOfHeads
 unfolding definitions
 routes-of-heads = (refl, refl, refl)
+
+-- R144: heads in the injection queue with hops left in x−, y+ and z+; in y+ and z−; in z−: the last route is the escape queue of the first of x, y, z
+abbrev pub EscapeOfHeads : Type 0
+EscapeOfHeads = map (routes 0) (packet 0 (negsuc 0) (pos 1) (pos 1) ∷ packet 0 (pos 0) (pos 1) (negsuc 0) ∷ packet 0 (pos 0) (pos 0) (negsuc 0) ∷ [])
+    ≡ (2 ∷ 3 ∷ 5 ∷ 8 ∷ []) ∷ (3 ∷ 6 ∷ 9 ∷ []) ∷ (6 ∷ 12 ∷ []) ∷ []
+
+escape-of-heads : EscapeOfHeads
+unfolding definitions
+escape-of-heads = refl
 
 -- Flow -------------------------------------------------------------------------------------------------------------------------------------
 
@@ -912,6 +987,14 @@ look-begins : LookBegins
 unfolding definitions
 look-begins = refl
 
+-- R118, R119: Look at queues 0, 1, 2, 7 and 8 of node 1 of the crowded network
+abbrev pub LookByQueue : Type 0
+LookByQueue = map (lookPart crowded 1) (0 ∷ 1 ∷ 2 ∷ 7 ∷ 8 ∷ []) ≡ [] ∷ (arrived 1 ∷ []) ∷ (arrived 2 ∷ []) ∷ (arrived 3 ∷ []) ∷ (arrived 4 ∷ []) ∷ []
+
+look-by-queue : LookByQueue
+unfolding definitions
+look-by-queue = refl
+
 -- R110: one hop along x, from dx = 2, 1, −1, −2, with dy = 3 and dz = −4; and one along z
 abbrev pub OneHopNearer : Type 0
 OneHopNearer = (map (λ dx. hop 0 (packet 1 dx (pos 3) (negsuc 3))) (pos 2 ∷ pos 1 ∷ negsuc 0 ∷ negsuc 1 ∷ [])
@@ -977,6 +1060,14 @@ first-by-queue : FirstByQueue
 unfolding definitions
 first-by-queue = refl
 
+-- a head alone in its network, with outputs 1 and 7 permitted: its first route comes first
+abbrev pub FirstByRoute : Type 0
+FirstByRoute = (map (moveRefusal (only two 0 nine) 0 0) (1 ∷ 7 ∷ []) ≡ 0 ∷ 0 ∷ []) × (firstAnswer (only two 0 nine) ≡ Found.Move 0 0 1)
+
+first-by-route : FirstByRoute
+unfolding definitions
+first-by-route = (refl, refl)
+
 -- nothing held: none, and that is no refusal
 abbrev pub FirstNone : Type 0
 FirstNone = firstAnswer (empty two) ≡ Found.Nothing
@@ -990,14 +1081,18 @@ first-none = refl
 -- First's moves in the crowded network: delivery from queue 1 of node 1, tag 1; the hop to output 1 that this has made free; delivery of tag 9, from queue 1; then
 -- of tags 2, 3 and 4, from queues 2, 7 and 8. Six moves, five deliveries
 
--- R127, R111: every word after two of them: accepted 5, delivered 1, moves made 2; node 0 is empty; node 1 has its 2 words of queue 0, one packet in each of the
--- queues 1, 2, 7 and 8, and 8 and 12 words of the queues between and behind
-abbrev pub DrainWords : Type 0
-DrainWords = drainWords crowded 2 4
-    ≡ 2 ∷ 1 ∷ 1 ∷ 2 ∷ 1 ∷ 1 ∷ 5 ∷ 1 ∷ 2
+-- every word after two of them: accepted 5, delivered 1, moves made 2; node 0 is empty; node 1 has its 2 words of queue 0, one packet in each of the queues 1, 2, 7
+-- and 8, and 8 and 12 words of the queues between and behind
+abbrev after-two : List ℕ
+after-two =
+    2 ∷ 1 ∷ 1 ∷ 2 ∷ 1 ∷ 1 ∷ 5 ∷ 1 ∷ 2
     ∷ (replicate 32 0
     ++ (replicate 2 0
     ++ (1 ∷ nine-arrived ∷ 1 ∷ arrived 2 ∷ (replicate 8 0 ++ (1 ∷ arrived 3 ∷ 0 ∷ 1 ∷ arrived 4 ∷ 0 ∷ replicate 12 0)))))
+
+-- R127, R111: with a budget of 2
+abbrev pub DrainWords : Type 0
+DrainWords = drainWords crowded 2 4 ≡ after-two
 
 drain-words : DrainWords
 unfolding definitions
@@ -1035,6 +1130,14 @@ drain-full : DrainFull
 unfolding definitions
 drain-full = (refl, refl)
 
+-- R132: with one ledger word, which the first delivery takes: the packet whose delivery is next stands where it stood, and is not counted
+abbrev pub WordsAtFull : Type 0
+WordsAtFull = drainWords crowded 3 1 ≡ after-two
+
+words-at-full : WordsAtFull
+unfolding definitions
+words-at-full = refl
+
 -- R134: one word written, and two that stay
 abbrev pub DrainLedger : Type 0
 DrainLedger = drainLedger crowded 2 (90 ∷ 91 ∷ 92 ∷ []) ≡ arrived 1 ∷ 91 ∷ 92 ∷ []
@@ -1042,6 +1145,117 @@ DrainLedger = drainLedger crowded 2 (90 ∷ 91 ∷ 92 ∷ []) ≡ arrived 1 ∷ 
 drain-ledger : DrainLedger
 unfolding definitions
 drain-ledger = refl
+
+-- A run of calls -----------------------------------------------------------------------------------------------------------------------------
+
+-- the crowded network with one packet more that has arrived, tag 7, in queue 8 of node 0. Three calls: a Move that is refused by 12; the delivery of tag 1 at node 1;
+-- a Drain with a budget of 3 and three ledger words. Its moves are the hop to output 1, which has become free, the delivery of tag 7 at node 0 and that of tag 9,
+-- which the hop brought there, at node 1
+abbrev crowded-more : List ℕ
+crowded-more = holding crowded 0 8 (seven ∷ [])
+
+abbrev ran : Outcome
+ran = run (move (moveOf 0 0 7) ∷ move (moveOf 1 1 0) ∷ drain 3 (90 ∷ 91 ∷ 92 ∷ []) ∷ []) crowded-more
+
+-- what a run is computed with, to be unfolded by one name
+running : Unit {0}
+unfolding definitions movedNumber movedPackets drainedMoves drainedDelivered deliveryNodes atNodes ledgerOf wordsWritten outcome run
+running = tt
+
+-- R223: permitted is the delivery of tag 1, and not the Move that is refused by 12
+abbrev pub PermittedMoves : Type 0
+PermittedMoves = Permits crowded (moveOf 1 1 0) × (Permits crowded (moveOf 0 0 7) → ⊥)
+
+permitted-moves : PermittedMoves
+unfolding definitions
+permitted-moves = (refl, λ e. let z : _≡_ {A = ℕ} 12 0 = e in omega arith)
+
+-- R220, R224, R225: its moves, in order: a refused Move is none
+abbrev pub RunMoves : Type 0
+RunMoves = ran .moves ≡ moveOf 1 1 0 ∷ moveOf 0 0 1 ∷ moveOf 0 8 0 ∷ moveOf 1 1 0 ∷ []
+
+run-moves : RunMoves
+unfolding running
+run-moves = refl
+
+-- and how many its answers tell of
+abbrev pub RunTold : Type 0
+RunTold = ran .told ≡ 4
+
+run-told : RunTold
+unfolding running
+run-told = refl
+
+-- R227: what was handed out, and at which nodes
+abbrev pub RunHandedOut : Type 0
+RunHandedOut = (map (λ (d : Delivery). d .packet) (ran .handedOut) ≡ arrived 1 ∷ seven ∷ nine-arrived ∷ [])
+    × (map (λ (d : Delivery). d .node) (ran .handedOut) ≡ 1 ∷ 0 ∷ 1 ∷ [])
+
+run-handed-out : RunHandedOut
+unfolding running
+run-handed-out = (refl, refl)
+
+-- R221, R238: the Drain's ledger, as it was lent, as it was left, and how many of its words were written
+abbrev pub RunLedgers : Type 0
+RunLedgers = (map (λ (L : Ledger). L .lent) (ran .ledgers) ≡ (90 ∷ 91 ∷ 92 ∷ []) ∷ [])
+    × (map (λ (L : Ledger). L .left) (ran .ledgers) ≡ (seven ∷ nine-arrived ∷ 92 ∷ []) ∷ [])
+    × (map (λ (L : Ledger). L .written) (ran .ledgers) ≡ 2 ∷ [])
+
+run-ledgers : RunLedgers
+unfolding running
+run-ledgers = (refl, refl, refl)
+
+-- R215, R226, R234, R235: every word afterwards: accepted 6, delivered 3, moves made 4; node 0 is empty; node 1 has one packet in each of the queues 2, 7 and 8
+abbrev pub RunWords : Type 0
+RunWords = ran .words
+    ≡ 2 ∷ 1 ∷ 1 ∷ 2 ∷ 1 ∷ 1 ∷ 6 ∷ 3 ∷ 4
+    ∷ (replicate 32 0 ++ (replicate 4 0 ++ (1 ∷ arrived 2 ∷ (replicate 8 0 ++ (1 ∷ arrived 3 ∷ 0 ∷ 1 ∷ arrived 4 ∷ 0 ∷ replicate 12 0)))))
+
+run-words : RunWords
+unfolding running
+run-words = refl
+
+-- R84, R212, R229, R233: the work left before the run, two for the packet with a hop left and one for each of the five others; and after its four moves
+abbrev pub RunWork : Type 0
+RunWork = workLeft two crowded-more ∷ workLeft two (ran .words) ∷ [] ≡ 7 ∷ 3 ∷ []
+
+run-work : RunWork
+unfolding running
+run-work = refl
+
+-- R228, R232: how many packets are held with a label, where 1 + 0 + 1 + 2 have arrived at node 0 and 2 + 1 + 0 + 4 at node 1 (`lopsided`); one with a hop left counts
+-- for its label, and for no other; and how many of those handed out have it
+abbrev pub LabelsCounted : Type 0
+LabelsCounted = (map (λ l. heldWith l small lopsided) (here 0 ∷ here 1 ∷ arrived 1 ∷ []) ≡ 4 ∷ 7 ∷ 0 ∷ [])
+    × (map (λ l. heldWith l two crowded) (nine-arrived ∷ nine ∷ []) ≡ 1 ∷ 0 ∷ [])
+    × (map (λ l. handedWith l (ran .handedOut)) (seven ∷ nine-arrived ∷ nine ∷ []) ≡ 1 ∷ 1 ∷ 0 ∷ [])
+
+labels-counted : LabelsCounted
+unfolding running isLabelled heldWith handedWith
+labels-counted = (refl, refl, refl)
+
+-- R230, R231: handed out at node 1 and at node 0, for node 1; and at node 1 with a hop left
+abbrev pub AtDestination : Type 0
+AtDestination = map atDestination (record { node = 1; packet = nine-arrived } ∷ record { node = 0; packet = nine-arrived } ∷ record { node = 1; packet = nine } ∷ [])
+    ≡ true ∷ false ∷ false ∷ []
+
+at-destination : AtDestination
+unfolding definitions atDestination
+at-destination = refl
+
+-- R304, 4 by 1 by 1: two packets for node 2 with one label, at node 0 with dx = 2 and at node 3 with dx = −1: their hops left in x+, x−, y+, y−, z+, z−; and those of a
+-- label that no packet has
+abbrev from-both-sides : List ℕ
+from-both-sides =
+    holding (only (shapeOf (sized 4 1 1 2 1 1)) 0 (packet 2 (pos 2) (pos 0) (pos 0))) 3 0 (packet 2 (negsuc 0) (pos 0) (pos 0) ∷ [])
+
+abbrev pub HopsOfALabel : Type 0
+HopsOfALabel = (map (λ d. hopsWith (here 2) d (shapeOf (sized 4 1 1 2 1 1)) from-both-sides) (0 ∷ 1 ∷ 2 ∷ 3 ∷ 4 ∷ 5 ∷ []) ≡ 2 ∷ 1 ∷ 0 ∷ 0 ∷ 0 ∷ 0 ∷ [])
+    × (hopsWith (here 1) 0 (shapeOf (sized 4 1 1 2 1 1)) from-both-sides ≡ 0)
+
+hops-of-a-label : HopsOfALabel
+unfolding definitions hopsOf hopsWith
+hops-of-a-label = (refl, refl)
 
 -- All of them ------------------------------------------------------------------------------------------------------------------------------
 
@@ -1083,6 +1297,7 @@ pub record KeptRows : Type 0 where
   pub own-node-held : OwnNodeHeld
   pub spare-bit-set : SpareBitSet
   pub full-ring : FullRing
+  pub full-ring-of-z : FullRingOfZ
   pub ring-of-a-column : RingOfAColumn
   pub most-accepted : MostAccepted
   pub delivered-and-held : DeliveredAndHeld
@@ -1123,8 +1338,13 @@ pub record KeptRows : Type 0 where
   pub refused-move : RefusedMove
   pub refused-look : RefusedLook
   pub refused-drain : RefusedDrain
+  pub move-told : MoveTold
+  pub credit-told : CreditTold
+  pub first-told : FirstTold
+  pub drain-told : DrainTold
   pub arrived-is-delivered : ArrivedIsDelivered
   pub routes-of-heads : RoutesOfHeads
+  pub escape-of-heads : EscapeOfHeads
   pub along-the-ring : AlongTheRing
   pub into-the-ring : IntoTheRing
   pub along-the-ring-of-eight : AlongTheRingOfEight
@@ -1135,19 +1355,32 @@ pub record KeptRows : Type 0 where
   pub newest-last-by-hop : NewestLastByHop
   pub oldest-out : OldestOut
   pub look-begins : LookBegins
+  pub look-by-queue : LookByQueue
   pub one-hop-nearer : OneHopNearer
   pub credit-adaptive : CreditAdaptive
   pub credit-escape : CreditEscape
   pub first-permitted : FirstPermitted
   pub first-by-node : FirstByNode
   pub first-by-queue : FirstByQueue
+  pub first-by-route : FirstByRoute
   pub first-none : FirstNone
   pub drain-words : DrainWords
   pub drain-emptied : DrainEmptied
   pub drain-in-order : DrainInOrder
   pub drain-spent : DrainSpent
   pub drain-full : DrainFull
+  pub words-at-full : WordsAtFull
   pub drain-ledger : DrainLedger
+  pub permitted-moves : PermittedMoves
+  pub run-moves : RunMoves
+  pub run-told : RunTold
+  pub run-handed-out : RunHandedOut
+  pub run-ledgers : RunLedgers
+  pub run-words : RunWords
+  pub run-work : RunWork
+  pub labels-counted : LabelsCounted
+  pub at-destination : AtDestination
+  pub hops-of-a-label : HopsOfALabel
 
 pub keptRows : KeptRows
 keptRows =
@@ -1189,6 +1422,7 @@ keptRows =
       own-node-held = own-node-held;
       spare-bit-set = spare-bit-set;
       full-ring = full-ring;
+      full-ring-of-z = full-ring-of-z;
       ring-of-a-column = ring-of-a-column;
       most-accepted = most-accepted;
       delivered-and-held = delivered-and-held;
@@ -1229,8 +1463,13 @@ keptRows =
       refused-move = refused-move;
       refused-look = refused-look;
       refused-drain = refused-drain;
+      move-told = move-told;
+      credit-told = credit-told;
+      first-told = first-told;
+      drain-told = drain-told;
       arrived-is-delivered = arrived-is-delivered;
       routes-of-heads = routes-of-heads;
+      escape-of-heads = escape-of-heads;
       along-the-ring = along-the-ring;
       into-the-ring = into-the-ring;
       along-the-ring-of-eight = along-the-ring-of-eight;
@@ -1241,17 +1480,30 @@ keptRows =
       newest-last-by-hop = newest-last-by-hop;
       oldest-out = oldest-out;
       look-begins = look-begins;
+      look-by-queue = look-by-queue;
       one-hop-nearer = one-hop-nearer;
       credit-adaptive = credit-adaptive;
       credit-escape = credit-escape;
       first-permitted = first-permitted;
       first-by-node = first-by-node;
       first-by-queue = first-by-queue;
+      first-by-route = first-by-route;
       first-none = first-none;
       drain-words = drain-words;
       drain-emptied = drain-emptied;
       drain-in-order = drain-in-order;
       drain-spent = drain-spent;
       drain-full = drain-full;
+      words-at-full = words-at-full;
       drain-ledger = drain-ledger;
+      permitted-moves = permitted-moves;
+      run-moves = run-moves;
+      run-told = run-told;
+      run-handed-out = run-handed-out;
+      run-ledgers = run-ledgers;
+      run-words = run-words;
+      run-work = run-work;
+      labels-counted = labels-counted;
+      at-destination = at-destination;
+      hops-of-a-label = hops-of-a-label;
     }

@@ -1,8 +1,13 @@
--- Whole sheets, input and output, computed from the definitions: the worked example (R257); every letter that is printed; and the last network that the store
--- has words for, with one that needs a word more (R251). Assumes nothing.
+-- Whole sheets, input and output, computed from the definitions: the worked example (R257); every letter that is printed; a packet moved by hand; the last network
+-- that the store has words for, with one that needs a word more (R251); and a D that fills its ledger (R246). Assumes nothing.
 use mathlib.Core.Path.{_≡_, refl}
+use mathlib.Core.List.{List, [], _∷_}
+use Prim.Native.Nat.{ℕ, _+_, _*_, _^_}
+use lib.ListN.{drop, replicate}
+use Rattle.network.specs.Sizes.{shapeOf, sized}
 use Rattle.network.specs.Calls.{drainedDelivered}
-use Rattle.network.specs.ByHand.{definitions}
+use Rattle.network.specs.ByHand.{empty, holding, definitions}
+use Rattle.sheet.specs.declared.Command.{Command}
 use Rattle.sheet.specs.Text.{text}
 use Rattle.sheet.specs.Lines.{withoutCr, lastLine, linesFrom, lines}
 use Rattle.sheet.specs.Commands.{upTo, laterFields, isDigit, valueFrom, value, noLeadingZero, isNumber, commandWith, wellFormed, commandOf}
@@ -31,3 +36,24 @@ every-letter = refl
 pub last-that-fits : sheetOutput (text "T,11,11,2,2,1,2\nT,6,6,6,2,1,6\n") ≡ text "T,0\r\nT,1\r\n"
 unfolding computed
 last-that-fits = refl
+
+-- R244, R245: of two nodes, a packet that is offered at node 0 for node 1 with tag 9, moved to the escape queue x+ and delivered there
+pub moved-by-hand : sheetOutput (text "T,2,1,1,2,1,1\nO,0,1,9\nM,0,0,7\nM,1,7,0\n") ≡ text "T,0\r\nO,0\r\nM,0\r\nP,9,1\r\nM,0\r\n"
+unfolding computed
+moved-by-hand = refl
+
+-- R246: 2 by 1 by 1 and 8 slots everywhere. 65 packets that have arrived, tag 7: at node 0 eight in each of the queues 0, 1, 2, 7 and 8, at node 1 eight in each of the
+-- queues 0, 1 and 2 and one in queue 7
+abbrev eight : ℕ → List ℕ
+eight n = replicate 8 (7 * 2 ^ 32 + n * 2 ^ 16)
+
+abbrev sixty-five : List ℕ
+sixty-five =
+    holding (holding (holding (holding (holding (holding (holding (holding (holding (empty (shapeOf (sized 2 1 1 8 8 8)))
+    0 0 (eight 0)) 0 1 (eight 0)) 0 2 (eight 0)) 0 7 (eight 0)) 0 8 (eight 0)) 1 0 (eight 1)) 1 1 (eight 1)) 1 2 (eight 1))
+    1 7 ((7 * 2 ^ 32 + 2 ^ 16) ∷ [])
+
+-- a D prints 64 lines of 7 bytes, `P,7,0` and `P,7,1` with their ends; then its ledger is full
+pub ledger-of-64 : drop 448 (perform (Command.Drain 99) sixty-five .output) ≡ text "D,0,64,full\r\n"
+unfolding computed
+ledger-of-64 = refl
