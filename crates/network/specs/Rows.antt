@@ -3,7 +3,7 @@
 -- own, `keptRows` has them all, and `keptCases` (Cases.antt) takes it. Words are counted from 0, as in R42.
 -- Order: the words; places and the packet word; the ranges of the sizes; the check; the order of refusals; what refused calls leave; what is read of an answer;
 -- routes; flow; first in, first out; Credit; First; Drain; a run of calls; all of them. Assumes nothing.
-use mathlib.Core.Path.{_≡_, refl}
+use mathlib.Core.Path.{_≡_, refl, ap}
 use mathlib.Core.Bool.{true, false}
 use mathlib.Core.List.{List, [], _∷_, _++_, map}
 use Prim.Native.Nat.{ℕ, _+_, _*_, _-_, _%_, _^_}
@@ -16,7 +16,7 @@ use Rattle.network.specs.declared.Credit.{Credit}
 use Rattle.network.specs.declared.Found.{Found}
 use Rattle.network.specs.declared.Stop.{Stop}
 use Rattle.network.specs.declared.Drained.{Drained}
-use Rattle.network.specs.Sizes.{Shape, shapeOf, sized, size, capacity}
+use Rattle.network.specs.Sizes.{Shape, shapeOf, sized, size, nodes, mostNodes, capacity}
 use Rattle.network.specs.Packet.{tag, destination, spare, offset, label, work, hop}
 use Rattle.network.specs.Torus.{neighbour, movedBy}
 use Rattle.network.specs.Layout.{shape, accepted, delivered, movesMade, need, queueStart, queueWords, putQueue}
@@ -27,6 +27,7 @@ use Rattle.network.specs.Calls.{makeWords, offered, offerWords, moveWord
 use Rattle.network.specs.Calls.{NamedMove, moveOf, Delivery, movedNumber, movedPackets, creditNumber, creditSlots, foundNumber, foundMove, drainedNumber, drainedMoves, drainedDelivered, drainedStop}
 use Rattle.network.specs.Choices.{Permits}
 use Rattle.network.specs.Run.{move, drain, Ledger, Outcome, deliveryNodes, atNodes, ledgerOf, wordsWritten, outcome, run, isLabelled, heldWith, handedWith, hopsOf, hopsWith, atDestination}
+use Rattle.network.specs.FirstMoves.{ByFirst}
 use Rattle.network.specs.ByHand.{packet, here, empty, holding, only, chosen, definitions}
 
 -- the numbers of the queues
@@ -212,6 +213,22 @@ Neighbours = (map (λ d. neighbour (shapeOf (sized 3 4 5 2 1 1)) d 0) (0 ∷ 1 �
 neighbours : Neighbours
 unfolding definitions
 neighbours = (refl, refl)
+
+-- R36, 3 by 1 by 5: the same of node 7, which is (1, 0, 2): along y, where there is one node, it is its own neighbour
+abbrev pub OwnNeighbour : Type 0
+OwnNeighbour = map (λ d. neighbour (shapeOf (sized 3 1 5 2 1 1)) d 7) (0 ∷ 1 ∷ 2 ∷ 3 ∷ 4 ∷ 5 ∷ []) ≡ 8 ∷ 6 ∷ 7 ∷ 7 ∷ 10 ∷ 4 ∷ []
+
+own-neighbour : OwnNeighbour
+unfolding definitions
+own-neighbour = refl
+
+-- R30: the nodes of 3 by 4 by 5, and of the largest network, of which there are the most
+abbrev pub NodesOf : Type 0
+NodesOf = nodes (shapeOf (sized 3 4 5 2 1 1)) ∷ nodes (shapeOf (sized 16 16 16 8 8 8)) ∷ mostNodes ∷ [] ≡ 60 ∷ 4096 ∷ 4096 ∷ []
+
+nodes-of : NodesOf
+unfolding definitions
+nodes-of = refl
 
 -- R107: the nodes of the targets of outputs 1 to 12 of node 0: the same six, for the adaptive queues and for the escape queues
 abbrev pub Targets : Type 0
@@ -415,6 +432,27 @@ queues-by-lower-offsets : QueuesByLowerOffsets
 unfolding definitions
 queues-by-lower-offsets = refl
 
+-- R78, R79, the same sizes: one with a hop left in x−, for node 3; in y−, for node 12; in z−, for node 48. Not in the plus queues of that dimension
+abbrev pub QueuesByMinus : Type 0
+QueuesByMinus = map (λ p. chosen (λ q. packetFits four-cubed 0 q p) thirteen)
+    (packet 3 (negsuc 0) (pos 0) (pos 0) ∷ packet 12 (pos 0) (negsuc 0) (pos 0) ∷ packet 48 (pos 0) (pos 0) (negsuc 0) ∷ [])
+    ≡ (0 ∷ 2 ∷ 3 ∷ 4 ∷ 5 ∷ 6 ∷ 8 ∷ []) ∷ (0 ∷ 1 ∷ 2 ∷ 4 ∷ 5 ∷ 6 ∷ 7 ∷ 8 ∷ 10 ∷ []) ∷ (0 ∷ 1 ∷ 2 ∷ 3 ∷ 4 ∷ 6 ∷ 7 ∷ 8 ∷ 9 ∷ 10 ∷ 12 ∷ []) ∷ []
+
+queues-by-minus : QueuesByMinus
+unfolding definitions
+queues-by-minus = refl
+
+-- R72 to R75, 3 by 1 by 1: at node 2, the last, a packet that has arrived; one for node 0 that says so too
+abbrev three : Shape
+three = shapeOf (sized 3 1 1 2 1 1)
+
+abbrev pub LastNodeChecked : Type 0
+LastNodeChecked = map (λ p. networkRefusal (holding (empty three) 2 0 (p ∷ []))) (here 2 ∷ here 0 ∷ []) ≡ 0 ∷ 3 ∷ []
+
+last-node-checked : LastNodeChecked
+unfolding definitions
+last-node-checked = refl
+
 -- R86: the packet for its own node in queue 0 of that node
 abbrev pub OwnNodeHeld : Type 0
 OwnNodeHeld = networkRefusal (only two 0 seven) ≡ 0
@@ -465,6 +503,29 @@ RingOfAColumn = networkRefusal (full-at 0 2) ∷ networkRefusal (full-at 0 1) �
 ring-of-a-column : RingOfAColumn
 unfolding definitions
 ring-of-a-column = refl
+
+-- R81, the ring x+ of three nodes, E 2: full at nodes 0 and 1, at 1 and 2, at 0 and 2, and at all three
+abbrev full-in-three : List ℕ → List ℕ
+full-in-three [] = empty three
+full-in-three (n ∷ ns) = holding (full-in-three ns) n 7 (here n ∷ here n ∷ [])
+
+abbrev pub RingOfThree : Type 0
+RingOfThree = map (λ ns. networkRefusal (full-in-three ns)) ((0 ∷ 1 ∷ []) ∷ (1 ∷ 2 ∷ []) ∷ (0 ∷ 2 ∷ []) ∷ (0 ∷ 1 ∷ 2 ∷ []) ∷ []) ≡ 0 ∷ 0 ∷ 0 ∷ 3 ∷ []
+
+ring-of-three : RingOfThree
+unfolding definitions
+ring-of-three = refl
+
+-- 2 by 2 by 1: the ring x+ of the last row, nodes 2 and 3, full; and one slot of it free
+abbrev last-row : ℕ → List ℕ
+last-row b = holding (holding (empty (shapeOf (sized 2 2 1 2 1 1))) 2 7 (here 2 ∷ here 2 ∷ [])) 3 7 (replicate b (here 3))
+
+abbrev pub RingOfTheLastRow : Type 0
+RingOfTheLastRow = networkRefusal (last-row 2) ∷ networkRefusal (last-row 1) ∷ [] ≡ 3 ∷ 0 ∷ []
+
+ring-of-the-last-row : RingOfTheLastRow
+unfolding definitions
+ring-of-the-last-row = refl
 
 -- R82: accepted 2^32 − 1 passes, 2^32 does not
 abbrev pub MostAccepted : Type 0
@@ -1068,6 +1129,14 @@ first-by-route : FirstByRoute
 unfolding definitions
 first-by-route = (refl, refl)
 
+-- of three nodes the last one alone holds a packet
+abbrev pub FirstAtTheLastNode : Type 0
+FirstAtTheLastNode = firstAnswer (holding (empty three) 2 0 (here 2 ∷ [])) ≡ Found.Move 2 0 0
+
+first-at-the-last-node : FirstAtTheLastNode
+unfolding definitions
+first-at-the-last-node = refl
+
 -- nothing held: none, and that is no refusal
 abbrev pub FirstNone : Type 0
 FirstNone = firstAnswer (empty two) ≡ Found.Nothing
@@ -1138,6 +1207,14 @@ words-at-full : WordsAtFull
 unfolding definitions
 words-at-full = refl
 
+-- R128, R132: two ledger words, and both are written when it is full
+abbrev pub LedgerAtFull : Type 0
+LedgerAtFull = drainLedger crowded 9 (90 ∷ 91 ∷ []) ≡ arrived 1 ∷ nine-arrived ∷ []
+
+ledger-at-full : LedgerAtFull
+unfolding definitions
+ledger-at-full = refl
+
 -- R134: one word written, and two that stay
 abbrev pub DrainLedger : Type 0
 DrainLedger = drainLedger crowded 2 (90 ∷ 91 ∷ 92 ∷ []) ≡ arrived 1 ∷ 91 ∷ 92 ∷ []
@@ -1145,6 +1222,19 @@ DrainLedger = drainLedger crowded 2 (90 ∷ 91 ∷ 92 ∷ []) ≡ arrived 1 ∷ 
 drain-ledger : DrainLedger
 unfolding definitions
 drain-ledger = refl
+
+-- R127, R225: First's moves, said of the moves themselves: the first two lead to the words after two of them; a list that begins with the delivery of tag 2 is none
+abbrev queueOf : List NamedMove → ℕ
+queueOf [] = 0
+queueOf (m ∷ ms) = m .queue
+
+abbrev pub ByFirstsMoves : Type 0
+ByFirstsMoves = ByFirst crowded (moveOf 1 1 0 ∷ moveOf 0 0 1 ∷ []) after-two
+    × (ByFirst crowded (moveOf 1 2 0 ∷ []) (moveWords crowded 1 2 0) → ⊥)
+
+by-firsts-moves : ByFirstsMoves
+unfolding definitions foundMove ByFirst
+by-firsts-moves = ((refl, (refl, refl)), λ e. let z : _≡_ {A = ℕ} 1 2 = ap queueOf (e .0) in omega arith)
 
 -- A run of calls -----------------------------------------------------------------------------------------------------------------------------
 
@@ -1275,6 +1365,8 @@ pub record KeptRows : Type 0 where
   pub words-after-hops : WordsAfterHops
   pub rest-after-calls : RestAfterCalls
   pub neighbours : Neighbours
+  pub own-neighbour : OwnNeighbour
+  pub nodes-of : NodesOf
   pub targets : Targets
   pub fields-read : FieldsRead
   pub label-read : LabelRead
@@ -1294,11 +1386,15 @@ pub record KeptRows : Type 0 where
   pub queues-by-sign : QueuesBySign
   pub queues-by-distance : QueuesByDistance
   pub queues-by-lower-offsets : QueuesByLowerOffsets
+  pub queues-by-minus : QueuesByMinus
+  pub last-node-checked : LastNodeChecked
   pub own-node-held : OwnNodeHeld
   pub spare-bit-set : SpareBitSet
   pub full-ring : FullRing
   pub full-ring-of-z : FullRingOfZ
   pub ring-of-a-column : RingOfAColumn
+  pub ring-of-three : RingOfThree
+  pub ring-of-the-last-row : RingOfTheLastRow
   pub most-accepted : MostAccepted
   pub delivered-and-held : DeliveredAndHeld
   pub work-of-words : WorkOfWords
@@ -1363,6 +1459,7 @@ pub record KeptRows : Type 0 where
   pub first-by-node : FirstByNode
   pub first-by-queue : FirstByQueue
   pub first-by-route : FirstByRoute
+  pub first-at-the-last-node : FirstAtTheLastNode
   pub first-none : FirstNone
   pub drain-words : DrainWords
   pub drain-emptied : DrainEmptied
@@ -1370,7 +1467,9 @@ pub record KeptRows : Type 0 where
   pub drain-spent : DrainSpent
   pub drain-full : DrainFull
   pub words-at-full : WordsAtFull
+  pub ledger-at-full : LedgerAtFull
   pub drain-ledger : DrainLedger
+  pub by-firsts-moves : ByFirstsMoves
   pub permitted-moves : PermittedMoves
   pub run-moves : RunMoves
   pub run-told : RunTold
@@ -1400,6 +1499,8 @@ keptRows =
       words-after-hops = words-after-hops;
       rest-after-calls = rest-after-calls;
       neighbours = neighbours;
+      own-neighbour = own-neighbour;
+      nodes-of = nodes-of;
       targets = targets;
       fields-read = fields-read;
       label-read = label-read;
@@ -1419,11 +1520,15 @@ keptRows =
       queues-by-sign = queues-by-sign;
       queues-by-distance = queues-by-distance;
       queues-by-lower-offsets = queues-by-lower-offsets;
+      queues-by-minus = queues-by-minus;
+      last-node-checked = last-node-checked;
       own-node-held = own-node-held;
       spare-bit-set = spare-bit-set;
       full-ring = full-ring;
       full-ring-of-z = full-ring-of-z;
       ring-of-a-column = ring-of-a-column;
+      ring-of-three = ring-of-three;
+      ring-of-the-last-row = ring-of-the-last-row;
       most-accepted = most-accepted;
       delivered-and-held = delivered-and-held;
       work-of-words = work-of-words;
@@ -1488,6 +1593,7 @@ keptRows =
       first-by-node = first-by-node;
       first-by-queue = first-by-queue;
       first-by-route = first-by-route;
+      first-at-the-last-node = first-at-the-last-node;
       first-none = first-none;
       drain-words = drain-words;
       drain-emptied = drain-emptied;
@@ -1495,7 +1601,9 @@ keptRows =
       drain-spent = drain-spent;
       drain-full = drain-full;
       words-at-full = words-at-full;
+      ledger-at-full = ledger-at-full;
       drain-ledger = drain-ledger;
+      by-firsts-moves = by-firsts-moves;
       permitted-moves = permitted-moves;
       run-moves = run-moves;
       run-told = run-told;
