@@ -1,8 +1,8 @@
 -- Kept rows: what the definitions give for small networks, with every number worked out by hand from docs/RULES.md. A definition that is wrong contradicts
 -- one of them, whatever the laws and the code beside it say. A must-fail edit of a definition names the row that it breaks; so each row is a law of its
--- own, `keptRows` has them all, and `keptCases` (Cases.antt) takes it. Words are counted from 0, as in R42.
--- Order: the words; places and the packet word; the ranges of the sizes; the check; the order of refusals; what refused calls leave; what is read of an answer;
--- routes; flow; first in, first out; Credit; First; Drain; a run of calls; all of them. Assumes nothing.
+-- own, `keptRows` has them all, and `keptCases` (Cases.antt) takes it. Words are counted from 0, as in R42. Order: the words; places and the packet word;
+-- the ranges of the sizes; the check; the order of refusals; what refused calls leave; what is read of an answer; routes; flow; first in, first out;
+-- Credit; First; Drain; a run of calls; all of them. Assumes nothing.
 use mathlib.Core.Path.{_≡_, refl, ap}
 use mathlib.Core.Bool.{true, false}
 use mathlib.Core.List.{List, [], _∷_, _++_, map}
@@ -1150,8 +1150,8 @@ first-none = refl
 -- First's moves in the crowded network: delivery from queue 1 of node 1, tag 1; the hop to output 1 that this has made free; delivery of tag 9, from queue 1; then
 -- of tags 2, 3 and 4, from queues 2, 7 and 8. Six moves, five deliveries
 
--- every word after two of them: accepted 5, delivered 1, moves made 2; node 0 is empty; node 1 has its 2 words of queue 0, one packet in each of the queues 1, 2, 7
--- and 8, and 8 and 12 words of the queues between and behind
+-- every word after two of them: accepted 5, delivered 1, moves made 2; node 0 is empty; node 1 has its 2 words of queue 0, one packet in each of the
+-- queues 1, 2, 7 and 8, and 8 and 12 words of the queues between and behind
 abbrev after-two : List ℕ
 after-two =
     2 ∷ 1 ∷ 1 ∷ 2 ∷ 1 ∷ 1 ∷ 5 ∷ 1 ∷ 2
@@ -1223,7 +1223,8 @@ drain-ledger : DrainLedger
 unfolding definitions
 drain-ledger = refl
 
--- R127, R225: First's moves, said of the moves themselves: the first two lead to the words after two of them; a list that begins with the delivery of tag 2 is none
+-- R127, R225: First's moves, said of the moves themselves: the first two lead to the words after two of them; a list that begins with the delivery of tag
+-- 2 is none
 abbrev queueOf : List NamedMove → ℕ
 queueOf [] = 0
 queueOf (m ∷ ms) = m .queue
@@ -1238,9 +1239,9 @@ by-firsts-moves = ((refl, (refl, refl)), λ e. let z : _≡_ {A = ℕ} 1 2 = ap 
 
 -- A run of calls -----------------------------------------------------------------------------------------------------------------------------
 
--- the crowded network with one packet more that has arrived, tag 7, in queue 8 of node 0. Three calls: a Move that is refused by 12; the delivery of tag 1 at node 1;
--- a Drain with a budget of 3 and three ledger words. Its moves are the hop to output 1, which has become free, the delivery of tag 7 at node 0 and that of tag 9,
--- which the hop brought there, at node 1
+-- the crowded network with one packet more that has arrived, tag 7, in queue 8 of node 0. Three calls: a Move that is refused by 12; the delivery of tag 1
+-- at node 1; a Drain with a budget of 3 and three ledger words. Its moves are the hop to output 1, which has become free, the delivery of tag 7 at node 0
+-- and that of tag 9, which the hop brought there, at node 1
 abbrev crowded-more : List ℕ
 crowded-more = holding crowded 0 8 (seven ∷ [])
 
@@ -1295,7 +1296,8 @@ run-ledgers : RunLedgers
 unfolding running
 run-ledgers = (refl, refl, refl)
 
--- R215, R226, R234, R235: every word afterwards: accepted 6, delivered 3, moves made 4; node 0 is empty; node 1 has one packet in each of the queues 2, 7 and 8
+-- R215, R226, R234, R235: every word afterwards: accepted 6, delivered 3, moves made 4; node 0 is empty; node 1 has one packet in each of the queues 2, 7
+-- and 8
 abbrev pub RunWords : Type 0
 RunWords = ran .words
     ≡ 2 ∷ 1 ∷ 1 ∷ 2 ∷ 1 ∷ 1 ∷ 6 ∷ 3 ∷ 4
@@ -1313,8 +1315,8 @@ run-work : RunWork
 unfolding running
 run-work = refl
 
--- R228, R232: how many packets are held with a label, where 1 + 0 + 1 + 2 have arrived at node 0 and 2 + 1 + 0 + 4 at node 1 (`lopsided`); one with a hop left counts
--- for its label, and for no other; and how many of those handed out have it
+-- R228, R232: how many packets are held with a label, where 1 + 0 + 1 + 2 have arrived at node 0 and 2 + 1 + 0 + 4 at node 1 (`lopsided`); one with a hop
+-- left counts for its label, and for no other; and how many of those handed out have it
 abbrev pub LabelsCounted : Type 0
 LabelsCounted = (map (λ l. heldWith l small lopsided) (here 0 ∷ here 1 ∷ arrived 1 ∷ []) ≡ 4 ∷ 7 ∷ 0 ∷ [])
     × (map (λ l. heldWith l two crowded) (nine-arrived ∷ nine ∷ []) ≡ 1 ∷ 0 ∷ [])
@@ -1326,15 +1328,16 @@ labels-counted = (refl, refl, refl)
 
 -- R230, R231: handed out at node 1 and at node 0, for node 1; and at node 1 with a hop left
 abbrev pub AtDestination : Type 0
-AtDestination = map atDestination (record { node = 1; packet = nine-arrived } ∷ record { node = 0; packet = nine-arrived } ∷ record { node = 1; packet = nine } ∷ [])
+AtDestination = map atDestination
+    (record { node = 1; packet = nine-arrived } ∷ record { node = 0; packet = nine-arrived } ∷ record { node = 1; packet = nine } ∷ [])
     ≡ true ∷ false ∷ false ∷ []
 
 at-destination : AtDestination
 unfolding definitions atDestination
 at-destination = refl
 
--- R304, 4 by 1 by 1: two packets for node 2 with one label, at node 0 with dx = 2 and at node 3 with dx = −1: their hops left in x+, x−, y+, y−, z+, z−; and those of a
--- label that no packet has
+-- R304, 4 by 1 by 1: two packets for node 2 with one label, at node 0 with dx = 2 and at node 3 with dx = −1: their hops left in x+, x−, y+, y−, z+, z−;
+-- and those of a label that no packet has
 abbrev from-both-sides : List ℕ
 from-both-sides =
     holding (only (shapeOf (sized 4 1 1 2 1 1)) 0 (packet 2 (pos 2) (pos 0) (pos 0))) 3 0 (packet 2 (negsuc 0) (pos 0) (pos 0) ∷ [])

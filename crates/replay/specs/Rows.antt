@@ -1,5 +1,5 @@
--- Kept rows: whole sheets and the bytes of their dumps, worked out by hand from docs/RULES.md and computed from the definitions. A must-fail edit of a definition
--- names the row that it breaks. Order: what the rows are computed with; a dump; its start; the next dump. Assumes nothing.
+-- Kept rows: whole sheets and the bytes of their dumps, worked out by hand from docs/RULES.md and computed from the definitions. A must-fail edit of a
+-- definition names the row that it breaks. Order: what the rows are computed with; a dump; its start; the next dump. Assumes nothing.
 use mathlib.Core.Path.{_≡_, refl}
 use mathlib.Core.List.{List, []}
 use Prim.Native.Nat.{ℕ}
@@ -19,13 +19,13 @@ computed : Unit {0}
 unfolding definitions drainedMoves drainedDelivered withoutCr lastLine linesFrom lines upTo laterFields isDigit valueFrom value noLeadingZero isNumber commandWith wellFormed commandOf numeralWithin numeral perform fillsTo fills variableLine variableLines stampLine valueLine valueLines tells changesTo changes stepBytes carriedOut changed beginsDump movesAsked oneWord movedOn makesMove roomLeft stepBehind commandBytes moveBytes movesBytes dumpAll sheetDump
 computed = tt
 
--- 2 by 1 by 1, J 1: a T; an O that is taken, one that is refused by 7, and a line that is none; a D. The header has 21 + 27 bytes before the variables; of these 10
--- lines have 24 bytes, 10 have 25 and 6 have 26; then 14 + 21, 3 for the stamp, 10, the values, 10 lines of 5 bytes and 16 of 6, and 5: 893 bytes
+-- 2 by 1 by 1, J 1: a T; an O that is taken, one that is refused by 7, and a line that is none; a D. The header has 21 + 27 bytes before the variables; of
+-- these 10 lines have 24 bytes, 10 have 25 and 6 have 26; then 14 + 21, 3 for the stamp, 10, the values, 10 lines of 5 bytes and 16 of 6, and 5: 893 bytes
 abbrev sheet : List ℕ
 sheet = text "T,2,1,1,2,1,1\nO,0,1,7\nO,0,1,8\nx\nD,9\n"
 
--- R423: behind the header a step for the O that is taken, at which queue 0 of node 0 holds one packet; and one for each of the two moves of the D: the hop to queue 1 of
--- node 1, which is variable 14, and the delivery
+-- R423: behind the header a step for the O that is taken, at which queue 0 of node 0 holds one packet; and one for each of the two moves of the D: the hop
+-- to queue 1 of node 1, which is variable 14, and the delivery
 pub steps-of-a-sheet : drop 893 (sheetDump sheet) ≡ text "#0\nb1 0\n#1\nb0 0\nb1 14\n#2\nb0 14\n"
 unfolding computed
 steps-of-a-sheet = refl

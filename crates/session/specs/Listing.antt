@@ -1,5 +1,5 @@
--- Whole sheets, input and output, computed from the definitions: the worked example (R257); every letter that is printed; a packet moved by hand; the last network
--- that the store has words for, with one that needs a word more (R251); and a D that fills its ledger (R246). Assumes nothing.
+-- Whole sheets, input and output, computed from the definitions: the worked example (R257); every letter that is printed; a packet moved by hand; the last
+-- network that the store has words for, with one that needs a word more (R251); and a D that fills its ledger (R246). Assumes nothing.
 use mathlib.Core.Path.{_≡_, refl}
 use mathlib.Core.List.{List, [], _∷_}
 use Prim.Native.Nat.{ℕ, _+_, _*_, _^_}
@@ -42,8 +42,8 @@ pub moved-by-hand : sheetOutput (text "T,2,1,1,2,1,1\nO,0,1,9\nM,0,0,7\nM,1,7,0\
 unfolding computed
 moved-by-hand = refl
 
--- R246: 2 by 1 by 1 and 8 slots everywhere. 65 packets that have arrived, tag 7: at node 0 eight in each of the queues 0, 1, 2, 7 and 8, at node 1 eight in each of the
--- queues 0, 1 and 2 and one in queue 7
+-- R246: 2 by 1 by 1 and 8 slots everywhere. 65 packets that have arrived, tag 7: at node 0 eight in each of the queues 0, 1, 2, 7 and 8, at node 1 eight
+-- in each of the queues 0, 1 and 2 and one in queue 7
 abbrev eight : ℕ → List ℕ
 eight n = replicate 8 (7 * 2 ^ 32 + n * 2 ^ 16)
 

@@ -1,6 +1,6 @@
--- Kept rows of the sheet's text: the lines of R257 and many others, as they are cut, read and printed, worked out by hand from docs/RULES.md and computed from the
--- definitions. A must-fail edit of a definition names the row that it breaks; so each row is a law of its own, and `examples` has them all. Order: lines;
--- commands; what is printed; all of them. Assumes nothing.
+-- Kept rows of the sheet's text: the lines of R257 and many others, as they are cut, read and printed, worked out by hand from docs/RULES.md and computed
+-- from the definitions. A must-fail edit of a definition names the row that it breaks; so each row is a law of its own, and `examples` has them all.
+-- Order: lines; commands; what is printed; all of them. Assumes nothing.
 use mathlib.Core.Path.{_≡_, refl}
 use mathlib.Core.List.{[], _∷_, _++_, map}
 use Prim.Native.Nat.{_+_, _*_, _^_}
