@@ -93,43 +93,53 @@ against-parity =
 abbrev longAlong : ℕ → ℕ → ℕ → Shape
 longAlong long others i = shapeOf (sized (cond (eqb i 0) long others) (cond (eqb i 1) long others) (cond (eqb i 2) long others) 2 1 1)
 
--- K5 to K7, K9, K10: 4 along the dimension of direction d, 2 along the others; the neighbour of node 0 in direction d, which lies round the edge for the
--- minus directions
+-- K5 to K7: 4 along the dimension of direction d, 2 along the others; the node so many steps from node 0 in direction d, round the edge with the first step
+-- for the minus directions
 abbrev four-along : ℕ → Shape
 four-along d = longAlong 4 2 (dimensionOf d)
 
-unfoldable pub next : ℕ → ℕ
-next d = neighbour (four-along d) d 0
+unfoldable pub onRing : ℕ → ℕ → ℕ
+onRing d zero = 0
+onRing d (suc steps) = neighbour (four-along d) d (onRing d steps)
 
--- a packet at node 0 with one hop left, in direction d
-unfoldable pub oneHop : ℕ → ℕ
-oneHop d = straight (next d) (dimensionOf d) (oneWay d)
+-- a packet at that node with one hop left, in direction d
+unfoldable pub oneHop : ℕ → ℕ → ℕ
+oneHop d steps = straight (onRing d (suc steps)) (dimensionOf d) (oneWay d)
 
--- outside that packet's ring: every other queue of node 0 in which the check lets it stand. Its sign keeps it from the adaptive and escape queues
+-- outside that packet's ring: every other queue of its node in which the check lets it stand. Its sign keeps it from the adaptive and escape queues
 -- of the opposite direction, and a hop left along one dimension from the escape queues of the later ones; so into an x ring there is no turn from an
 -- escape queue
 unfoldable pub outside : ℕ → List ℕ
-outside d = chosen (λ q. packetFits (four-along d) 0 q (oneHop d) && not (eqb q (escapeQueue d))) (inOrder 0 queues)
+outside d = chosen (λ q. packetFits (four-along d) 0 q (oneHop d 0) && not (eqb q (escapeQueue d))) (inOrder 0 queues)
 
 -- where it may come from: its own ring first
 unfoldable pub sources : ℕ → List ℕ
 sources d = escapeQueue d ∷ outside d
 
--- the packet alone in each of these queues of node 0
-unfoldable pub inEach : List ℕ → ℕ → List ℕ → List ℕ
-inEach w p [] = w
-inEach w p (q ∷ qs) = holding (inEach w p qs) 0 q (p ∷ [])
+-- the packet alone in each of these queues of node n
+unfoldable pub inEach : List ℕ → ℕ → ℕ → List ℕ → List ℕ
+inEach w n p [] = w
+inEach w n p (q ∷ qs) = holding (inEach w n p qs) n q (p ∷ [])
 
--- the packet in each of its sources, and in the escape queue that it heads for as many that have arrived as are given
-unfoldable pub crossing : ℕ → ℕ → List ℕ
-crossing d count = holding (inEach (empty (four-along d)) (oneHop d) (sources d)) (next d) (escapeQueue d) (replicate count (here (next d)))
+-- at one node the packet in each of its sources, and behind it in the ring's own queue as many that have arrived as are given
+unfoldable pub inSources : List ℕ → ℕ → ℕ → ℕ → List ℕ
+inSources w d steps behind =
+    holding (inEach w (onRing d steps) (oneHop d steps) (outside d)) (onRing d steps) (escapeQueue d) (oneHop d steps ∷ replicate behind (here (onRing d steps)))
 
--- that network passes the check, and these are the refusals of the packet's moves into that escape queue: from the ring's own queue, and from each
--- one outside
+-- so at three nodes of the ring one after the other: in the escape queue ahead of node 0 stands one packet, two stand ahead of the second node and none ahead
+-- of the third. The check is computed once for the three cases of a direction
+unfoldable pub crossing : ℕ → List ℕ
+crossing d = inSources (inSources (inSources (empty (four-along d)) d 2 1) d 1 0) d 0 0
+
+-- the refusals of that node's packets on their way into the escape queue ahead: from the ring's own queue, and from each one outside
 abbrev Entries : ℕ → ℕ → ℕ → ℕ → Type 0
-Entries d count own others =
-    (networkRefusal (crossing d count) ≡ 0)
-    × (map (λ q. moveRefusal (crossing d count) 0 q (escapeQueue d)) (sources d) ≡ own ∷ replicate (length (outside d)) others)
+Entries d steps own others =
+    map (λ q. moveRefusal (crossing d) (onRing d steps) q (escapeQueue d)) (sources d) ≡ own ∷ replicate (length (outside d)) others
+
+-- K9, K10: 4 by 1 by 1, and by hand a packet in the injection queue of node 0 with one hop left in x+, and one in the escape queue x+ of node 1 that has
+-- arrived
+abbrev before-and-after : List ℕ
+before-and-after = holding (only (longAlong 4 1 0) injectionQueue (packet 1 (pos 1) (pos 0) (pos 0))) 1 7 (here 1 ∷ [])
 
 -- 2 by 1 by 2, and 1 by 2 by 2: rings of x and z alone, and of y and z
 abbrev along-x-and-z : Shape
@@ -178,7 +188,7 @@ alone = only one-node injectionQueue (here 0)
 
 -- 2 by 2 by 2, and by hand such a packet in each queue of node 0
 abbrev in-every-queue : List ℕ
-in-every-queue = inEach (empty two-cubed) (here 0) (inOrder 0 queues)
+in-every-queue = inEach (empty two-cubed) 0 (here 0) (inOrder 0 queues)
 
 -- three sizes that all differ
 abbrev two-three-five : Shape
@@ -360,7 +370,8 @@ pub record KeptCases : Type 0 where
       × (sources 4 ≡ 11 ∷ 0 ∷ 1 ∷ 2 ∷ 3 ∷ 4 ∷ 5 ∷ 7 ∷ 8 ∷ 9 ∷ 10 ∷ [])
       × (sources 5 ≡ 12 ∷ 0 ∷ 1 ∷ 2 ∷ 3 ∷ 4 ∷ 6 ∷ 7 ∷ 8 ∷ 9 ∷ 10 ∷ [])
   -- in each direction, one packet ahead: the ring's own queue may go on, every other one lacks the bubble
-  pub k5 : (d : ℕ) → d < directions → Entries d 1 0 12
+  pub k5-passes : (d : ℕ) → d < directions → networkRefusal (crossing d) ≡ 0
+  pub k5 : (d : ℕ) → d < directions → Entries d 0 0 12
   pub k5-every : (w : List ℕ) (n q d : ℕ) → Entering w n q d → ahead w n d ≡ 1
       → moveRefusal w n q (escapeQueue d) ≡ cond (eqb q (escapeQueue d)) 0 12
   -- a turn from an x ring into a z ring enters that ring: one packet ahead, none, two
@@ -369,24 +380,24 @@ pub record KeptCases : Type 0 where
       × (moveRefusal (turning 0) 0 7 11 ≡ 0)
       × (moveRefusal (turning 2) 0 7 11 ≡ 11)
   -- two ahead: no slot, wherever the packet stands
-  pub k6 : (d : ℕ) → d < directions → Entries d 2 11 11
+  pub k6 : (d : ℕ) → d < directions → Entries d 1 11 11
   pub k6-every : (w : List ℕ) (n q d : ℕ) → Entering w n q d → ahead w n d ≡ 2 → moveRefusal w n q (escapeQueue d) ≡ 11
   -- none ahead: permitted, wherever it stands
-  pub k7 : (d : ℕ) → d < directions → Entries d 0 0 0
+  pub k7 : (d : ℕ) → d < directions → Entries d 2 0 0
   pub k7-every : (w : List ℕ) (n q d : ℕ) → Entering w n q d → ahead w n d ≡ 0 → moveRefusal w n q (escapeQueue d) ≡ 0
   -- one of these sizes, E 1 or along any one dimension 0 or 17, is enough, whatever the others are and the words hold: for Make in a store of any length,
   -- for Check in one that has a header
   pub k8 : (s : Sizes) (w : List ℕ) → (s .escape ≡ 1) ⊎ NoRing s
       → (makeRefusal (shapeOf s) w ≡ 2) × (headerWords ≤ length w → shape w ≡ shapeOf s → networkRefusal w ≡ 2)
   -- a packet with a hop left in x+ is not delivered, and one that has arrived does not go on in the ring
-  pub k9 : (moveRefusal (crossing 0 1) 0 0 0 ≡ 10) × (moveRefusal (crossing 0 1) 1 7 7 ≡ 10)
+  pub k9 : (networkRefusal before-and-after ≡ 0) × (moveRefusal before-and-after 0 0 0 ≡ 10) × (moveRefusal before-and-after 1 7 7 ≡ 10)
   pub k9-every : (w : List ℕ) (n q : ℕ) → Standing w n q
       → ((i : ℕ) → i < dimensions → distance i (headOf w n q) ≢ 0 → moveRefusal w n q 0 ≡ 10)
       × (((i : ℕ) → i < dimensions → distance i (headOf w n q) ≡ 0) → (d : ℕ) → d < directions → moveRefusal w n q (escapeQueue d) ≡ 10)
   -- no move is made without a budget, and nothing held goes before nothing left to spend
   pub k10 : (room : ℕ)
       → (drainAnswer (empty four-by-three) 0 room ≡ Drained.Stopped 0 0 Stop.Emptied)
-      × (drainAnswer (crossing 0 0) 0 room ≡ Drained.Stopped 0 0 Stop.Spent)
+      × (drainAnswer before-and-after 0 room ≡ Drained.Stopped 0 0 Stop.Spent)
   pub k10-every : (w : List ℕ) (room : ℕ) → networkRefusal w ≡ 0
       → drainAnswer w 0 room ≡ Drained.Stopped 0 0 (cond (eqb (packetsHeld (shape w) w) 0) Stop.Emptied Stop.Spent)
   -- in each direction, a ring of four slots: full it is refused, with one slot free it passes; a hop left in a queue of a ring of two nodes is refused
@@ -517,10 +528,10 @@ all-by-rules w n q o [] e = refl
 all-by-rules w n q o (x ∷ xs) e =
     ap₂ (λ (r : ℕ) (rs : List ℕ). r ∷ rs) (by-rules w n (q x) (o x) (moveRules (shape w) w n (q x) (o x)) e refl) (all-by-rules w n q o xs e)
 
-entries : (count own others d : ℕ) → networkRefusal (crossing d count) ≡ 0
-    → map (λ q. moveRules (shape (crossing d count)) (crossing d count) 0 q (escapeQueue d)) (sources d) ≡ own ∷ replicate (length (outside d)) others
-    → Entries d count own others
-entries count own others d e r = (e, all-by-rules (crossing d count) 0 (λ q. q) (λ q. escapeQueue d) (sources d) e ∙ r)
+entries : (steps own others d : ℕ) → networkRefusal (crossing d) ≡ 0
+    → map (λ q. moveRules (shape (crossing d)) (crossing d) (onRing d steps) q (escapeQueue d)) (sources d) ≡ own ∷ replicate (length (outside d)) others
+    → Entries d steps own others
+entries steps own others d e r = all-by-rules (crossing d) (onRing d steps) (λ q. q) (λ q. escapeQueue d) (sources d) e ∙ r
 
 -- K3: every output of an injection queue
 outputs : (w : List ℕ) (n : ℕ) (refusals : List ℕ) → networkRefusal w ≡ 0
@@ -803,27 +814,34 @@ delivered-here w n q s z =
 
 -- what the rows are computed with, to be unfolded by one name
 computed : Unit {0}
-unfolding definitions next oneHop outside sources inEach crossing blocked
+unfolding definitions onRing oneHop outside sources inEach inSources crossing blocked
 computed = tt
 
 -- K5 to K7, direction by direction
-one-ahead-each : EachBelow (λ d. Entries d 1 0 12) directions
+each-passes : EachBelow (λ d. networkRefusal (crossing d) ≡ 0) directions
+unfolding computed
+each-passes = ((((((tt, refl), refl), refl), refl), refl), refl)
+
+crossing-passes : (d : ℕ) → d < directions → networkRefusal (crossing d) ≡ 0
+crossing-passes = each-at _ directions each-passes
+
+one-ahead-each : EachBelow (λ d. Entries d 0 0 12) directions
 unfolding computed
 one-ahead-each =
-    let entry = entries 1 0 12 in
-    ((((((tt, entry 0 refl refl), entry 1 refl refl), entry 2 refl refl), entry 3 refl refl), entry 4 refl refl), entry 5 refl refl)
+    let entry : (d : ℕ) → d < directions → _ → Entries d 0 0 12 = λ d h. entries 0 0 12 d (crossing-passes d h) in
+    ((((((tt, entry 0 (omega arith) refl), entry 1 (omega arith) refl), entry 2 (omega arith) refl), entry 3 (omega arith) refl), entry 4 (omega arith) refl), entry 5 (omega arith) refl)
 
-two-ahead-each : EachBelow (λ d. Entries d 2 11 11) directions
+two-ahead-each : EachBelow (λ d. Entries d 1 11 11) directions
 unfolding computed
 two-ahead-each =
-    let entry = entries 2 11 11 in
-    ((((((tt, entry 0 refl refl), entry 1 refl refl), entry 2 refl refl), entry 3 refl refl), entry 4 refl refl), entry 5 refl refl)
+    let entry : (d : ℕ) → d < directions → _ → Entries d 1 11 11 = λ d h. entries 1 11 11 d (crossing-passes d h) in
+    ((((((tt, entry 0 (omega arith) refl), entry 1 (omega arith) refl), entry 2 (omega arith) refl), entry 3 (omega arith) refl), entry 4 (omega arith) refl), entry 5 (omega arith) refl)
 
-none-ahead-each : EachBelow (λ d. Entries d 0 0 0) directions
+none-ahead-each : EachBelow (λ d. Entries d 2 0 0) directions
 unfolding computed
 none-ahead-each =
-    let entry = entries 0 0 0 in
-    ((((((tt, entry 0 refl refl), entry 1 refl refl), entry 2 refl refl), entry 3 refl refl), entry 4 refl refl), entry 5 refl refl)
+    let entry : (d : ℕ) → d < directions → _ → Entries d 2 0 0 = λ d h. entries 2 0 0 d (crossing-passes d h) in
+    ((((((tt, entry 0 (omega arith) refl), entry 1 (omega arith) refl), entry 2 (omega arith) refl), entry 3 (omega arith) refl), entry 4 (omega arith) refl), entry 5 (omega arith) refl)
 
 -- parts of rows that a must-fail edit breaks alone. K3, held: a hop along y, in an odd column
 on-its-way : held four-by-two (moveWords against-parity 5 0 3) 1 3 ≡ packet 3 (pos 2) (pos 0) (pos 0) ∷ []
@@ -873,6 +891,7 @@ keptCases =
       k3-fits-every = λ w n q i h p r hn hi e. halfway-fits (shape w) n q i h p (tor w r) hn hi e (short w r i hi);
       k4 = (refl, refl);
       k5-sources = (refl, refl, refl, refl, refl, refl);
+      k5-passes = crossing-passes;
       k5 = each-at _ directions one-ahead-each;
       k5-every = one-ahead;
       k5-turn-into-z = (refl, by-rules (turning 1) 0 7 11 12 refl refl, by-rules (turning 0) 0 7 11 0 refl refl, by-rules (turning 2) 0 7 11 11 refl refl);
@@ -881,13 +900,13 @@ keptCases =
       k7 = each-at _ directions none-ahead-each;
       k7-every = none-ahead;
       k8 = λ s w z. wrong-size (shapeOf s) w (out-of-range s z);
-      k9 = (by-rules (crossing 0 1) 0 0 0 10 one-passes refl, by-rules (crossing 0 1) 1 7 7 10 one-passes refl);
+      k9 = (refl, by-rules before-and-after 0 0 0 10 refl refl, by-rules before-and-after 1 7 7 10 refl refl);
       k9-every =
           λ w n q s. (
             λ i h far. no-route w n q 0 s (omega arith) (not-delivered q (headOf w n q) i h far),
             λ done d h. no-route w n q (escapeQueue d) s (omega arith) (not-onward q (headOf w n q) (escapeQueue d) done (λ z. omega arith)),
           );
-      k10 = λ room. (without-budget (empty four-by-three) room refl, without-budget (crossing 0 0) room none-passes);
+      k10 = λ room. (without-budget (empty four-by-three) room refl, without-budget before-and-after room refl);
       k10-every = without-budget;
       k11 = each-at _ directions ((((((tt, (refl, refl, refl)), (refl, refl, refl)), (refl, refl, refl)), (refl, refl, refl)), (refl, refl, refl)), (refl, refl, refl));
       k11-every = λ w d r. (full-ring w d r, all-else-right w d r);
@@ -935,12 +954,6 @@ keptCases =
         → map (λ o. moveRules (shape (only two-cubed injectionQueue p)) (only two-cubed injectionQueue p) 0 injectionQueue o) (inOrder 0 queues) ≡ refusals
         → leaving p ≡ refusals
     leaves p e r = outputs (only two-cubed injectionQueue p) 0 _ e r
-
-    one-passes : networkRefusal (crossing 0 1) ≡ 0
-    one-passes = each-at (λ d. Entries d 1 0 12) directions one-ahead-each 0 (omega arith) .0
-
-    none-passes : networkRefusal (crossing 0 0) ≡ 0
-    none-passes = each-at (λ d. Entries d 0 0 0) directions none-ahead-each 0 (omega arith) .0
 
     one-word : (budget l : ℕ) (ledger : List ℕ) → drainLedger alone (suc budget) (l ∷ ledger) ≡ here 0 ∷ ledger
     one-word zero l ledger = refl
