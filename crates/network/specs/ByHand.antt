@@ -1,11 +1,11 @@
 -- Networks written down by hand, for the kept cases (Cases.antt) and the kept rows (Rows.antt): packets; an empty network; packets put into a queue; and one name
 -- for all definitions with which a row is computed. Assumes nothing.
 use mathlib.Core.Bool.{Bool, cond}
-use mathlib.Core.List.{List, [], _∷_}
+use mathlib.Core.List.{List, [], _∷_, _++_}
 use Prim.Native.Nat.{ℕ, _+_}
 use lib.Dec.{eqb}
 use lib.IntN.{ℤ, pos}
-use lib.ListN.{length, getD, set, replicate}
+use lib.ListN.{length, getD, take, drop, replicate}
 use Rattle.base.specs.Tests.{allBelow, someBelow, allOf, elem, EachBelow}
 use Rattle.base.specs.Sums.{sumBelow, sumOf}
 use Rattle.base.specs.Digits.{product, digit, putDigit, rotate}
@@ -35,7 +35,7 @@ empty S = makeWords S (replicate (need S) 0)
 
 -- the words with these packets in a queue and as many packets more accepted
 abbrev pub holding : List ℕ → ℕ → ℕ → List ℕ → List ℕ
-holding w n q ps = set (putQueue (shape w) w n q ps) acceptedAt (accepted w + length ps)
+holding w n q ps = take acceptedAt w ++ ((accepted w + length ps) ∷ drop (acceptedAt + 1) (putQueue (shape w) w n q ps))
 
 -- an empty network but for this packet in queue q of node 0
 abbrev pub only : Shape → ℕ → ℕ → List ℕ

@@ -843,7 +843,12 @@ none-ahead-each =
     let entry : (d : ℕ) → d < directions → _ → Entries d 2 0 0 = λ d h. entries 2 0 0 d (crossing-passes d h) in
     ((((((tt, entry 0 (omega arith) refl), entry 1 (omega arith) refl), entry 2 (omega arith) refl), entry 3 (omega arith) refl), entry 4 (omega arith) refl), entry 5 (omega arith) refl)
 
--- parts of rows that a must-fail edit breaks alone. K3, held: a hop along y, in an odd column
+-- rows, and parts of rows, that a must-fail edit breaks alone. K3: from an odd row, of a node with an even number
+odd-row : Offered six-by-two 6 0 7 30064772064
+unfolding computed
+odd-row = (refl, refl)
+
+-- K3, held: a hop along y, in an odd column
 on-its-way : held four-by-two (moveWords against-parity 5 0 3) 1 3 ≡ packet 3 (pos 2) (pos 0) (pos 0) ∷ []
 unfolding computed
 on-its-way = refl
@@ -877,7 +882,7 @@ keptCases =
       k2-largest = (refl, (λ w e. rw e), (λ w e. rw e), λ w e. too-short largest w refl (omega arith) (let l : need largest ≡ 479241 = refl in omega arith));
       k3 = (refl, refl);
       k3-odd-column = (refl, refl);
-      k3-odd-row = (refl, refl);
+      k3-odd-row = odd-row;
       k3-parities-differ = ((refl, refl), (refl, refl));
       k3-parity-of-z = ((refl, refl), (refl, refl));
       k3-every =
