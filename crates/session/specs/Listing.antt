@@ -1,11 +1,12 @@
 -- Whole sheets, input and output, computed from the definitions: the worked example (R257); every letter that is printed; a packet moved by hand; the last
--- network that the store has words for, with one that needs a word more (R251); and a D that fills its ledger (R246). Assumes nothing.
+-- network that the store has words for, with one that needs a word more (R251). Then single commands, which the edits of the others leave as they are; and a D
+-- that fills its ledger (R246). Assumes nothing.
 use mathlib.Core.Path.{_≡_, refl}
 use mathlib.Core.List.{List, [], _∷_}
 use Prim.Native.Nat.{ℕ, _+_, _*_, _^_}
-use lib.ListN.{drop, replicate}
+use lib.ListN.{take, drop, replicate}
 use Rattle.network.specs.Sizes.{shapeOf, sized}
-use Rattle.network.specs.Calls.{drainedDelivered}
+use Rattle.network.specs.Calls.{offerWords, drainedDelivered}
 use Rattle.network.specs.ByHand.{empty, holding, definitions}
 use Rattle.sheet.specs.declared.Command.{Command}
 use Rattle.sheet.specs.Text.{text}
@@ -41,6 +42,33 @@ last-that-fits = refl
 pub moved-by-hand : sheetOutput (text "T,2,1,1,2,1,1\nO,0,1,9\nM,0,0,7\nM,1,7,0\n") ≡ text "T,0\r\nO,0\r\nM,0\r\nP,9,1\r\nM,0\r\n"
 unfolding computed
 moved-by-hand = refl
+
+-- two nodes, and the same with a packet for node 1 in queue 0 of node 0
+abbrev two-nodes : List ℕ
+two-nodes = empty (shapeOf (sized 2 1 1 2 1 1))
+
+abbrev one-waiting : List ℕ
+one-waiting = offerWords two-nodes 0 1 9
+
+-- R244, R253: an O prints its letter
+pub offer-printed : perform (Command.Offer 0 1 9) two-nodes .output ≡ text "O,0\r\n"
+unfolding computed
+offer-printed = refl
+
+-- R244: behind the nine words of the header stand the number held and the packet: tag 9, destination 1, one hop along x
+pub packet-offered : take 2 (drop 9 (perform (Command.Offer 0 1 9) two-nodes .store)) ≡ 1 ∷ (9 * 2 ^ 32 + 1 * 2 ^ 16 + 1 * 2 ^ 10) ∷ []
+unfolding computed
+packet-offered = refl
+
+-- R245: from queue 0 to queue 7; no packet waits in queue 7
+pub move-printed : perform (Command.Move 0 0 7) one-waiting .output ≡ text "M,0\r\n"
+unfolding computed
+move-printed = refl
+
+-- R248
+pub bad-printed : perform Command.Bad one-waiting .output ≡ text "?,13\r\n"
+unfolding computed
+bad-printed = refl
 
 -- R246: 2 by 1 by 1 and 8 slots everywhere. 65 packets that have arrived, tag 7: at node 0 eight in each of the queues 0, 1, 2, 7 and 8, at node 1 eight
 -- in each of the queues 0, 1 and 2 and one in queue 7

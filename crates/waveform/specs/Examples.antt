@@ -1,12 +1,14 @@
 -- Texts that the definitions give, written out line by line by hand from docs/WAVEFORM.md and docs/RULES.md, and computed: nothing else in this crate says which
--- bytes a dump has. A must-fail edit of a definition names the row that it breaks; so each row is a law of its own. Order: single lines; the dump of one
--- node; the dump that docs/WAVEFORM.md shows, written and read; what the writer refuses and leaves; what the reader takes, refuses and leaves. Assumes nothing.
+-- bytes a dump has. A must-fail edit of a definition names the row that it breaks; so each row is a law of its own, and small: the other edits of its file leave
+-- it as it is. Order: single lines; what a step tells; the dump of one node; the dump that docs/WAVEFORM.md shows, written and read; what the
+-- writer refuses and leaves; what the reader takes, refuses and leaves. Assumes nothing.
 use mathlib.Core.Path.{_≡_, refl}
 use mathlib.Core.Bool.{true, false}
 use mathlib.Core.List.{List, [], _∷_, _++_, map}
 use Prim.Native.Nat.{ℕ}
+use Prim.Native.Char.{code}
 use Prim.Native.String.{String}
-use lib.ListN.{set, replicate}
+use lib.ListN.{getD, take, drop, set, replicate}
 use Rattle.network.specs.Sizes.{Shape, shapeOf, sized}
 use Rattle.network.specs.Calls.{offerWords, moveWords}
 use Rattle.network.specs.ByHand.{here, empty, holding, definitions}
@@ -60,6 +62,15 @@ variable-lines : map variableLine (30 ∷ 13 ∷ 53247 ∷ [])
 unfolding dumped
 variable-lines = refl
 
+-- of such a line the bits alone, and the name alone
+variable-bits : map (λ i. take 12 (variableLine i)) (0 ∷ 30 ∷ 53247 ∷ []) ≡ replicate 3 (text "$var wire 8 ")
+unfolding dumped
+variable-bits = refl
+
+variable-names : map (λ i. drop 15 (variableLine i)) (30 ∷ 13 ∷ 57 ∷ []) ≡ text "n2q4 $end\n" ∷ text "n1q0 $end\n" ∷ text "n4q5 $end\n" ∷ []
+unfolding dumped
+variable-names = refl
+
 -- R404, R410: the first time and the last
 stamp-lines : map stampLine (0 ∷ 10 ∷ 18446744073709551615 ∷ []) ≡ text "#0\n" ∷ text "#10\n" ∷ text "#18446744073709551615\n" ∷ []
 unfolding dumped
@@ -73,6 +84,35 @@ value-lines : map valueLine (told 0 0 ∷ told 30 3 ∷ told 12 10 ∷ told 5324
     ≡ text "b0 0\n" ∷ text "b11 30\n" ∷ text "b1010 12\n" ∷ text "b11111111 53247\n" ∷ []
 unfolding dumped
 value-lines = refl
+
+-- R402: the lines that every header has, and its time stamp; there are no variables here
+header-lines : stepBytes true 12 [] []
+    ≡ linesOf ("$timescale 1 ns $end" ∷ "$scope module network $end" ∷ "$upscope $end" ∷ "$enddefinitions $end" ∷ [])
+    ++ (stampLine 12 ++ linesOf ("$dumpvars" ∷ "$end" ∷ []))
+unfolding dumped
+header-lines = refl
+
+-- What a step tells -----------------------------------------------------------------------------------------------------------------------
+
+-- R407: a header every variable, also where the list has its fill
+header-tells : changes true (2 ∷ 0 ∷ 3 ∷ []) (2 ∷ 0 ∷ 3 ∷ []) ≡ told 0 2 ∷ told 1 0 ∷ told 2 3 ∷ []
+unfolding dumped
+header-tells = refl
+
+-- R408: a later step, by rising variables, the fills that are other than those of the list
+changed-told : changes false (2 ∷ 0 ∷ 3 ∷ []) (1 ∷ 4 ∷ 5 ∷ []) ≡ told 0 2 ∷ told 1 0 ∷ told 2 3 ∷ []
+unfolding dumped
+changed-told = refl
+
+-- and none that are the same
+unchanged-untold : changes false (2 ∷ 0 ∷ 3 ∷ []) (2 ∷ 0 ∷ 3 ∷ []) ≡ []
+unfolding dumped
+unchanged-untold = refl
+
+-- R409: a step is written then too
+unchanged-step : stepBytes false 7 (2 ∷ 0 ∷ 3 ∷ []) (2 ∷ 0 ∷ 3 ∷ []) ≡ text "#7\n"
+unfolding dumped
+unchanged-step = refl
 
 -- The dump of one node --------------------------------------------------------------------------------------------------------------------
 
@@ -110,6 +150,11 @@ later-of-one : (writtenStep false two-waiting (5 ∷ replicate 12 0) ≡ linesOf
     × (writtenStep false two-waiting (2 ∷ replicate 12 0) ≡ linesOf ("#15" ∷ []))
 unfolding dumped
 later-of-one = (refl, refl)
+
+-- R404: the stamps of both are the moves made; every fill is another than the list's
+stamps-of-one : map (λ w. take 4 (writtenStep false w (replicate 13 9))) (five-waiting ∷ two-waiting ∷ []) ≡ text "#12\n" ∷ text "#15\n" ∷ []
+unfolding dumped
+stamps-of-one = refl
 
 -- The dump of docs/WAVEFORM.md --------------------------------------------------------------------------------------------------------------
 
@@ -173,12 +218,15 @@ unfolding dumped
 later-of-two = refl
 
 -- R411 to R413: the three calls, with a list of another dump and pages that are as long as the steps: 893, 8 and 14 bytes
-abbrev calls : List Call
-calls =
-    record { words = made; page = replicate 893 7 }
-    ∷ record { words = offered; page = replicate 8 7 }
-    ∷ record { words = moved; page = replicate 14 7 }
+abbrev calls-on : ℕ → ℕ → ℕ → List Call
+calls-on a b c =
+    record { words = made; page = replicate a 7 }
+    ∷ record { words = offered; page = replicate b 7 }
+    ∷ record { words = moved; page = replicate c 7 }
     ∷ []
+
+abbrev calls : List Call
+calls = calls-on 893 8 14
 
 calls-written : WrittenAll pair true (replicate 26 9) calls
 unfolding dumped WrittenAll
@@ -190,6 +238,18 @@ dump-of-two = header-of-two-is ∷ linesOf ("#0" ∷ "b1 0" ∷ []) ∷ linesOf 
 steps-of-two : stepsOf true (replicate 26 9) calls ≡ dump-of-two
 unfolding dumped stepsOf
 steps-of-two = refl
+
+-- R413, R421: pages of 120 + 48 × 26 bytes are enough for each of them; "$" begins a header, and "#" a later step
+abbrev calls-on-long : List Call
+calls-on-long = calls-on 1368 1368 1368
+
+long-written : WrittenAll pair true (replicate 26 9) calls-on-long
+unfolding dumped WrittenAll
+long-written = (refl, refl, (refl, refl, (refl, refl, tt)))
+
+kinds-of-two : map (λ step. getD step 0 0) (stepsOf true (replicate 26 9) calls-on-long) ≡ code "$" ∷ code "#" ∷ code "#" ∷ []
+unfolding dumped stepsOf
+kinds-of-two = refl
 
 -- R415, R416, R421: read with a list that is two bytes longer
 read-of-two : readAll (replicate 28 9) dump-of-two
@@ -211,6 +271,11 @@ too-short : refused five-waiting 13 490 ∷ refused five-waiting 13 489 ∷ refu
 unfolding dumped
 too-short = refl
 
+-- no byte of page; no byte of list
+no-room : refused five-waiting 13 0 ∷ refused five-waiting 0 744 ∷ [] ≡ 15 ∷ 15 ∷ []
+unfolding dumped
+no-room = refl
+
 -- R413: a page that is long enough for any step: of one node, 120 + 48 × 13 bytes; of the most nodes, 120 + 48 × 53248
 page-rooms : map pageRoom (13 ∷ 53248 ∷ []) ≡ 744 ∷ 2556024 ∷ []
 page-rooms = refl
@@ -226,6 +291,11 @@ behind-kept : (writePage true five-waiting (replicate 15 9) (replicate 492 7) �
 unfolding dumped
 behind-kept = (refl, refl)
 
+-- R411, R412: after a header and after a later step a list that is no longer than the fills has the fills
+lists-written : map (λ first. writeList first five-waiting (replicate 13 9) (replicate 744 7)) (true ∷ false ∷ []) ≡ replicate 2 (5 ∷ replicate 12 0)
+unfolding dumped
+lists-written = refl
+
 -- R414: refused by 15, and by 3
 refused-kept : (writePage true five-waiting (replicate 13 9) (replicate 489 7) ≡ replicate 489 7)
     × (writeList true five-waiting (replicate 13 9) (replicate 489 7) ≡ replicate 13 9)
@@ -236,14 +306,21 @@ refused-kept = (refl, refl, refl, refl)
 
 -- What the reader takes, refuses and leaves -------------------------------------------------------------------------------------------------
 
--- R415: a header and its variables; a later step; one that tells nothing, to a list that has nothing
-steps-taken : readAnswer header-of-one-is (replicate 13 9)
-    ∷ readAnswer (text "#1\nb0 0\nb1 14\n") (replicate 26 9)
-    ∷ readAnswer (text "#7\n") []
-    ∷ []
-    ≡ StepRead.Header 12 13 ∷ StepRead.Later 1 2 ∷ StepRead.Later 7 0 ∷ []
+-- R415: a header and its variables
+header-taken : readAnswer header-of-one-is (replicate 13 9) ≡ StepRead.Header 12 13
 unfolding dumped
-steps-taken = refl
+header-taken = refl
+
+-- a later step; one that tells nothing, to a list that has nothing
+later-taken : readAnswer (text "#1\nb0 0\nb1 14\n") (replicate 26 9) ∷ readAnswer (text "#7\n") [] ∷ []
+    ≡ StepRead.Later 1 2 ∷ StepRead.Later 7 0 ∷ []
+unfolding dumped
+later-taken = refl
+
+-- the number of an answer
+numbers-told : map readNumber (StepRead.Refused 13 ∷ StepRead.Refused 15 ∷ StepRead.Header 12 13 ∷ StepRead.Later 1 2 ∷ []) ≡ 13 ∷ 15 ∷ 0 ∷ 0 ∷ []
+unfolding dumped
+numbers-told = refl
 
 -- R402, R403, R417: the header of one node with 9 bits in place of 8 in its first variable; with a byte behind it
 headers-refused : map (λ bs. readNumber (readAnswer bs (replicate 13 0))) (set header-of-one-is 58 57 ∷ (header-of-one-is ++ (lf ∷ [])) ∷ []) ≡ 13 ∷ 13 ∷ []
@@ -261,15 +338,20 @@ part-of-a-node : readNumber
 unfolding dumped
 part-of-a-node = refl
 
+-- and the bytes that a header of one fill would have
+one-variable : readStep (stepBytes true 0 (0 ∷ []) []) .good ≡ false
+unfolding dumped
+one-variable = refl
+
 -- R403 to R405: the last time, fill and variable that are taken; below, the first that are not
 largest-taken : map (λ s. readStep (text s) .good) ("#18446744073709551615\n" ∷ "#1\nb11111111 0\n" ∷ "#1\nb1 53247\n" ∷ [])
     ≡ true ∷ true ∷ true ∷ []
 unfolding dumped
 largest-taken = refl
 
--- the number that is told of bytes, with a list of thirteen
+-- what bytes are refused by, with a list of thirteen
 abbrev judged : List String → List ℕ
-judged ss = map (λ s. readNumber (readAnswer (text s) (replicate 13 0))) ss
+judged ss = map (λ s. readRefusal (text s) (replicate 13 0)) ss
 
 time-too-large : judged ("#18446744073709551616\n" ∷ []) ≡ 13 ∷ []
 unfolding dumped
@@ -302,14 +384,22 @@ not-rising = refl
 
 -- R418: the step tells variable 14, and so needs a list of 15; what is no step is 13 before that
 lists-needed : (map (λ n. readNumber (readAnswer (text "#1\nb0 0\nb1 14\n") (replicate n 9))) (15 ∷ 14 ∷ 0 ∷ []) ≡ 0 ∷ 15 ∷ 15 ∷ [])
-    × (readNumber (readAnswer header-of-one-is (replicate 12 9)) ≡ 15)
     × (readNumber (readAnswer (text "#1\nb0 0\nb1 14") []) ≡ 13)
 unfolding dumped
-lists-needed = (refl, refl, refl)
+lists-needed = (refl, refl)
 
--- R416, R420: what a step leaves in a list, taken and refused
-lists-left : (readList (text "#1\nb10 1\nb1 3\n") (9 ∷ 8 ∷ 7 ∷ 6 ∷ 5 ∷ []) ≡ 9 ∷ 2 ∷ 7 ∷ 1 ∷ 5 ∷ [])
-    × (readList (text "#1\nb10 1\nb1 3\n") (9 ∷ 8 ∷ 7 ∷ []) ≡ 9 ∷ 8 ∷ 7 ∷ [])
+-- the header of one node needs a list of 13, which `header-taken` has
+header-needs : readNumber (readAnswer header-of-one-is (replicate 12 9)) ≡ 15
+unfolding dumped
+header-needs = refl
+
+-- R416: what a step leaves in a list that is long enough
+lists-left : readList (text "#1\nb10 1\nb1 3\n") (9 ∷ 8 ∷ 7 ∷ 6 ∷ 5 ∷ []) ≡ 9 ∷ 2 ∷ 7 ∷ 1 ∷ 5 ∷ []
+unfolding dumped
+lists-left = refl
+
+-- R420: refused by 15, and by 13
+lists-kept : (readList (text "#1\nb10 1\nb1 3\n") (9 ∷ 8 ∷ []) ≡ 9 ∷ 8 ∷ [])
     × (readList (text "#1\nb10 1\nb1 3") (9 ∷ 8 ∷ 7 ∷ 6 ∷ 5 ∷ []) ≡ 9 ∷ 8 ∷ 7 ∷ 6 ∷ 5 ∷ [])
 unfolding dumped
-lists-left = (refl, refl, refl)
+lists-kept = (refl, refl)
