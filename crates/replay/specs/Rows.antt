@@ -1,11 +1,13 @@
 -- Kept rows: whole sheets and the bytes of their dumps, worked out by hand from docs/RULES.md and computed from the definitions. A must-fail edit of a
--- definition names the row that it breaks. Order: what the rows are computed with; a dump; its start; the next dump. Assumes nothing.
+-- definition names the row that it breaks. Order: what the rows are computed with; a dump; its start; the next dump; single lines. Assumes nothing.
 use mathlib.Core.Path.{_≡_, refl}
 use mathlib.Core.List.{List, []}
 use Prim.Native.Nat.{ℕ}
 use lib.ListN.{take, drop}
-use Rattle.network.specs.Calls.{drainedMoves, drainedDelivered}
-use Rattle.network.specs.ByHand.{definitions}
+use Rattle.network.specs.Sizes.{shapeOf, sized}
+use Rattle.network.specs.Calls.{offerWords, drainedMoves, drainedDelivered}
+use Rattle.network.specs.ByHand.{empty, definitions}
+use Rattle.sheet.specs.declared.Command.{Command}
 use Rattle.sheet.specs.Text.{text}
 use Rattle.sheet.specs.Lines.{withoutCr, lastLine, linesFrom, lines}
 use Rattle.sheet.specs.Commands.{upTo, laterFields, isDigit, valueFrom, value, noLeadingZero, isNumber, commandWith, wellFormed, commandOf}
@@ -42,3 +44,15 @@ two-dumps = text "T,2,1,1,2,1,1\nT,2,1,1,1,1,1\nD,5\nT,2,1,1,2,1,1\n"
 pub next-dump : (take 21 (drop 893 (sheetDump two-dumps)) ≡ text "$timescale 1 ns $end\n") × (drop 1786 (sheetDump two-dumps) ≡ [])
 unfolding computed
 next-dump = (refl, refl)
+
+-- R423: where a packet waits in the one slot of queue 0, an O is refused by 7, a T with E 1 by 2, and neither writes anything
+abbrev one-waiting : List ℕ
+one-waiting = offerWords (empty (shapeOf (sized 2 1 1 2 1 1))) 0 1 7
+
+pub offer-refused : commandBytes (Command.Offer 0 1 8) one-waiting ≡ []
+unfolding computed
+offer-refused = refl
+
+pub make-refused : commandBytes (Command.Make 2 1 1 1 1 1) one-waiting ≡ []
+unfolding computed
+make-refused = refl

@@ -58,13 +58,20 @@ few c = by (c .before .before .before)
     by : (c : tie.After-carry-out-arg) → length (now (entry (c .before .before .before .before) .args .store)) ≤ storeWords
     by c = search needs
 
+-- on the page, by the list of fills
+shows : (c : tie.After-carry-out)
+    → let a = entry (next-at c) in
+    shown (c .carry-out .result) (c .carry-out .last .1 .1 .0) (c .carry-out .last .1 .1 .1 .0)
+    ≡ commandShown (given-at c .next .given .0 .0) (now (a .args .store)) (now (a .args .fills)) (now (a .args .page))
+shows c = c .carry-out .ensures .1 .0
+
 returns : tie.Need-returns
 returns c =
     let out = out-at c in
     let next = next-at out in
     let a = entry next in
     let does = out .carry-out .ensures in
-    told _ _ _ _ _ _ _ _ _ _ _ _ _ _ (a .pre .0) (a .pre .1) (few out) (next-given _ _ (next .next-command .ensures) (given-at out .next .given .1)) (does .0) (does .1 .0)
+    told _ _ _ _ _ _ _ _ _ _ _ _ _ _ (a .pre .0) (a .pre .1) (few out) (next-given _ _ (next .next-command .ensures) (given-at out .next .given .1)) (does .0) (shows out)
     (c .moves-asked .ensures) (search needs) (does .1 .1)
 
 returns-2 : tie.Need-returns-2
