@@ -50,7 +50,7 @@ int main(void)
     printf("header: %llu, %llu bytes\n", (unsigned long long)refusal, (unsigned long long)out[0]);
     read_back((size_t)out[0]);
 
-    bench_offer(words, len, 0, 1, 7);
+    bench_offer(words, len, 0, 1, 7, 8);
     step();
     bench_move(words, len, 0, 0, 1, moved);
     step();

@@ -9,9 +9,13 @@
  * but what the call lends and up to BENCH_STACK bytes of stack. Use the words as
  * memory to work in, not as a format to store or send (R40 to R49).
  *
- * Sizes: X, Y and Z 1 to 16; slots of an escape queue E 2 to 8, of an adaptive
- * queue A 1 to 8, of an injection queue J 1 to 8 (R21 to R24). A network of two
- * dimensions has Z = 1.
+ * Sizes: X, Y and Z 1 to 16; E 2 to 8, A and J 1 to 8 (R21 to R24). A network of
+ * two dimensions has Z = 1.
+ *
+ * A packet has 1 to 8 chunks (R26). An escape queue has E slots and an injection
+ * queue J: there a packet takes one, whatever its chunks are. An adaptive queue
+ * has 8 * A chunks, of which a packet takes its own (R27, R28): it holds A packets
+ * of eight chunks, or up to 8 * A of fewer.
  *
  * Nodes are (z * Y + y) * X + x. The queues of a node are numbered: 0 takes new
  * packets in, 1 to 6 are the adaptive queues of the directions x+, x-, y+, y-,
@@ -52,9 +56,10 @@
  *     uint64_t out[BENCH_DRAIN_OUT] = {0};
  *     size_t len = sizeof words / sizeof words[0];
  *     bench_make(words, len, 4, 1, 1, 2, 1, 1);
- *     bench_offer(words, len, 0, 2, 7);
+ *     bench_offer(words, len, 0, 2, 7, 8);
  *     bench_drain(words, len, 10, ledger, 8, out);
- *     // out: 3 moves, 1 delivered, BENCH_EMPTIED; BENCH_TAG(ledger[0]) is 7
+ *     // out: 3 moves, 1 delivered, BENCH_EMPTIED
+ *     // BENCH_TAG(ledger[0]) is 7, BENCH_CHUNKS(ledger[0]) is 8
  */
 #ifndef BENCH_H
 #define BENCH_H
@@ -72,11 +77,11 @@ extern "C" {
  * each change after which a program written for the older one could be wrong.
  * Header and archive must be of one commit: the archive does not carry it.
  */
-#define BENCH_VERSION 4
+#define BENCH_VERSION 5
 
 /* The bytes of stack that a call uses at most, on the largest network too. It is
  * measured and not proved: tests/c-example holds the archive to it. */
-#define BENCH_STACK (72 * 1024)
+#define BENCH_STACK (96 * 1024)
 
 /* A cast, in the form of either language: for the macros below. */
 #ifdef __cplusplus
@@ -88,7 +93,7 @@ extern "C" {
 /* The words that a network of these sizes needs. */
 #define BENCH_WORDS(x, y, z, e, a, j) \
     (9 + BENCH_CAST(size_t, x) * BENCH_CAST(size_t, y) * BENCH_CAST(size_t, z) * \
-             (13 + BENCH_CAST(size_t, j) + 6 * BENCH_CAST(size_t, a) + \
+             (13 + BENCH_CAST(size_t, j) + 48 * BENCH_CAST(size_t, a) + \
               6 * BENCH_CAST(size_t, e)))
 
 /* The bytes of a list of fills of such a network, one for each queue, and of a
@@ -106,12 +111,14 @@ extern "C" {
 #define BENCH_WRITE_OUT 1
 #define BENCH_READ_OUT 3
 
-/* The parts of a packet word (R60 to R63): the caller's tag, the destination,
- * and the hops left in x, y and z, below 0 where they go to x-, y- or z-. Bit 15
- * of the word is 0 in a network (R69, R87). */
+/* The parts of a packet word (R60 to R63): the caller's tag, the chunks, 1 to 8,
+ * the destination, and the hops left in x, y and z, below 0 where they go to x-,
+ * y- or z-. Bits 15 and 31 of the word are 0 in a network (R69, R87, R88). */
 #define BENCH_TAG(word) BENCH_CAST(uint32_t, BENCH_CAST(uint64_t, word) >> 32)
+#define BENCH_CHUNKS(word) \
+    (BENCH_CAST(uint32_t, BENCH_CAST(uint64_t, word) >> 28 & 7) + 1)
 #define BENCH_DESTINATION(word) \
-    BENCH_CAST(uint32_t, BENCH_CAST(uint64_t, word) >> 16 & 0xffff)
+    BENCH_CAST(uint32_t, BENCH_CAST(uint64_t, word) >> 16 & 0xfff)
 #define BENCH_DX(word) \
     (BENCH_CAST(int, (BENCH_CAST(uint64_t, word) >> 10 & 0x1f) ^ 0x10) - 0x10)
 #define BENCH_DY(word) \
@@ -122,7 +129,8 @@ extern "C" {
 /* The refusals (R161 to R175). */
 enum {
     BENCH_SHORT_STORE = 1,    /* less than 9 words, or less than the sizes ask for */
-    BENCH_WRONG_SIZE = 2,     /* X, Y, Z, E, A or J out of range */
+    BENCH_WRONG_SIZE = 2,     /* X, Y, Z, E, A or J out of range; in bench_offer,
+                                 after 4, also chunks that are not 1 to 8 */
     BENCH_NO_NETWORK = 3,     /* the check of the words fails otherwise */
     BENCH_NO_SUCH_NODE = 4,   /* node or destination not below X * Y * Z */
     BENCH_NO_SUCH_QUEUE = 5,  /* above 12 */
@@ -131,7 +139,8 @@ enum {
     BENCH_COUNT_SPENT = 8,    /* 2^32 - 1 packets were accepted */
     BENCH_NOBODY_THERE = 9,   /* the queue is empty */
     BENCH_NOT_ITS_WAY = 10,   /* the head has no route by that output */
-    BENCH_NO_SLOT = 11,       /* the target has no free slot */
+    BENCH_NO_SLOT = 11,       /* the target has no free slot; an adaptive one, fewer
+                                 free chunks than the packet has */
     BENCH_NO_BUBBLE = 12,     /* two free slots are needed, one is there */
     BENCH_BAD_TEXT = 13,      /* bench_read_step: the bytes are no step */
     BENCH_TO_ONESELF = 14,    /* the destination is the node that offers */
@@ -154,7 +163,7 @@ uint64_t bench_make(uint64_t *words, size_t len, uint64_t x, uint64_t y, uint64_
                     uint64_t e, uint64_t a, uint64_t j);
 
 /*
- * Whether the words are a network (R70 to R87). Refused, tested in this order
+ * Whether the words are a network (R70 to R89). Refused, tested in this order
  * (R181): less than 9 words (1); a size out of range (2); a store shorter than
  * the sizes ask for (1); anything else that is not as in a network (3). Every
  * call below that is lent words begins with these four tests, so it is safe to
@@ -163,24 +172,26 @@ uint64_t bench_make(uint64_t *words, size_t len, uint64_t x, uint64_t y, uint64_
 uint64_t bench_check(const uint64_t *words, size_t len);
 
 /*
- * Puts a packet behind the others in queue 0 of the node (R100 to R102). It
- * will take the shorter way in each dimension (R67). Where both ways are as long
- * as each other, this node's coordinate in that dimension decides: plus if it is
- * even, minus if it is odd (R68). A packet that is held already keeps its way.
- * Refused further, tested in this order (R188): node or destination is no node
- * (4); they are the same node (14); 2^32 - 1 packets were accepted (8); queue 0
- * is full (7). Words that already hold a packet for the very node where it
+ * Puts a packet of so many chunks behind the others in queue 0 of the node (R100
+ * to R102). It will take the shorter way in each dimension (R67). Where both ways
+ * are as long as each other, this node's coordinate in that dimension decides:
+ * plus if it is even, minus if it is odd (R68). A packet that is held already
+ * keeps its way. `chunks` may be any number. Refused further, tested in this order
+ * (R189): node or destination is no node (4); the chunks are not 1 to 8 (2); node
+ * and destination are the same node (14); 2^32 - 1 packets were accepted (8);
+ * queue 0 is full (7). Words that already hold a packet for the very node where it
  * stands are a network as before, and it is delivered (R86).
  */
 uint64_t bench_offer(uint64_t *words, size_t len, uint64_t node, uint64_t destination,
-                     uint32_t tag);
+                     uint32_t tag, uint64_t chunks);
 
 /*
  * Moves the head of a queue to an output (R105 to R112). Refused further, tested
  * in this order (R184): no such node (4); no such queue (5); no such output (6);
  * the queue is empty (9); the output is no route of its head (10); the target
- * has no free slot (11); the head would enter an escape ring, which takes two
- * free slots in the target, and one is free (12).
+ * has no free slot or, for outputs 1 to 6, fewer free chunks than the head has
+ * (11); the head would enter an escape ring, which takes two free slots in the
+ * target, and one is free (12).
  * out[0]: packets handed out, 1 for a delivery (output 0) and else 0.
  * out[1]: the packet word that was handed out, or 0.
  */
@@ -188,10 +199,11 @@ uint64_t bench_move(uint64_t *words, size_t len, uint64_t node, uint64_t queue,
                     uint64_t output, uint64_t out[2]);
 
 /*
- * The free slots of the queue that an output from 1 to 12 leads to (R115, R116).
- * Refused further, tested in this order (R185): no such node (4); output 0 or
- * above 12 (6).
- * out[0]: the number of free slots.
+ * What is free of the queue that an output from 1 to 12 leads to (R115, R116):
+ * chunks for the outputs 1 to 6, which are adaptive queues, and slots for the
+ * outputs 7 to 12, which are escape queues. Refused further, tested in this order
+ * (R185): no such node (4); output 0 or above 12 (6).
+ * out[0]: the number of free chunks, or of free slots.
  */
 uint64_t bench_credit(const uint64_t *words, size_t len, uint64_t node, uint64_t output,
                       uint64_t out[1]);

@@ -18,11 +18,11 @@ pub trait Bench {
     /// The sizes are X, Y, Z, E, A, J.
     fn make(&self, words: &mut [u64], sizes: [u64; 6]) -> u64;
     fn check(&self, words: &[u64]) -> u64;
-    fn offer(&self, words: &mut [u64], node: u64, destination: u64, tag: u32) -> u64;
+    fn offer(&self, words: &mut [u64], node: u64, destination: u64, tag: u32, chunks: u64) -> u64;
     /// Packets handed out (0 or 1), the packet word.
     fn move_packet(&self, words: &mut [u64], node: u64, queue: u64, output: u64)
         -> (u64, [u64; 2]);
-    /// Free slots.
+    /// Free chunks of an adaptive queue, free slots of an escape queue.
     fn credit(&self, words: &[u64], node: u64, output: u64) -> (u64, [u64; 1]);
     /// Index of the first held word, number held.
     fn look(&self, words: &[u64], node: u64, queue: u64) -> (u64, [u64; 2]);
@@ -66,6 +66,7 @@ pub enum Call {
         node: u64,
         destination: u64,
         tag: u32,
+        chunks: u64,
     },
     Move {
         node: u64,
@@ -112,7 +113,8 @@ pub fn perform(bench: &dyn Bench, call: Call, words: &mut [u64], ledger: &mut [u
             node,
             destination,
             tag,
-        } => only(bench.offer(words, node, destination, tag)),
+            chunks,
+        } => only(bench.offer(words, node, destination, tag, chunks)),
         Call::Move {
             node,
             queue,
@@ -213,8 +215,8 @@ impl Bench for Model {
         told(model::check(words), |_| []).0
     }
 
-    fn offer(&self, words: &mut [u64], node: u64, destination: u64, tag: u32) -> u64 {
-        told(model::offer(words, node, destination, tag), |_| []).0
+    fn offer(&self, words: &mut [u64], node: u64, destination: u64, tag: u32, chunks: u64) -> u64 {
+        told(model::offer(words, node, destination, tag, chunks), |_| []).0
     }
 
     fn move_packet(
@@ -297,8 +299,8 @@ impl Bench for Plain {
         plain::check(words)
     }
 
-    fn offer(&self, words: &mut [u64], node: u64, destination: u64, tag: u32) -> u64 {
-        plain::offer(words, node, destination, tag)
+    fn offer(&self, words: &mut [u64], node: u64, destination: u64, tag: u32, chunks: u64) -> u64 {
+        plain::offer(words, node, destination, tag, chunks)
     }
 
     fn move_packet(

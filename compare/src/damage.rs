@@ -1,10 +1,11 @@
 //! Faults in the words of a network: one word replaced by something else, or
 //! one clause of the check broken while the others still hold.
 
-use crate::generate::{along, end_node, held_and_work, packet_word, ring, way};
-use crate::generate::{Offsets, Shape, ACCEPTED, BIT_15, DELIVERED, DIMENSIONS, FIRST_ESCAPE};
-use crate::generate::{HEADER, MOST_ACCEPTED, MOST_WORK, MOVES, OFFSET_SHIFTS, OFFSET_VALUES};
-use crate::generate::{OFFSETS, QUEUES};
+use crate::generate::{along, chunks_of, end_node, held_and_work, load_of, packet_word};
+use crate::generate::{put_newest, ring, way, Offsets, Shape, ACCEPTED, BIT_15, BIT_31};
+use crate::generate::{CHUNKS_SHIFT, DELIVERED, DESTINATION_SHIFT, DIMENSIONS, FIRST_ESCAPE};
+use crate::generate::{HEADER, MOST_ACCEPTED, MOST_CHUNKS, MOST_WORK, MOVES, OFFSETS};
+use crate::generate::{OFFSET_SHIFTS, OFFSET_VALUES, QUEUES};
 use crate::random::Random;
 
 /// One word gets another value. It may still be a network afterwards.
@@ -18,7 +19,7 @@ pub fn one_word(random: &mut Random, shape: &Shape, words: &mut [u64]) {
         _ => random.below(shape.need() as u64) as usize,
     };
     let old = words[index];
-    words[index] = match random.below(11) {
+    words[index] = match random.below(13) {
         0 => old.wrapping_add(1),
         1 => old.wrapping_sub(1),
         2 => 0,
@@ -32,6 +33,8 @@ pub fn one_word(random: &mut Random, shape: &Shape, words: &mut [u64]) {
         }
         8 => (old & !OFFSETS) | random.below(OFFSETS + 1),
         9 => old ^ BIT_15,
+        10 => old ^ BIT_31,
+        11 => (old & !(7 << CHUNKS_SHIFT)) | random.below(MOST_CHUNKS) << CHUNKS_SHIFT,
         _ => old ^ (1 << random.below(64)),
     };
 }
@@ -43,12 +46,12 @@ pub struct Fault {
 }
 
 /// Faults after which the words are never a network, whatever they were.
-pub const FAULTS: [Fault; 13] = [
+pub const FAULTS: [Fault; 15] = [
     Fault {
         name: "a queue claims more than its capacity",
         apply: |random, shape, words| {
             let (node, queue) = any_queue(random, shape);
-            let most = shape.slots(queue) as u64;
+            let most = shape.capacity(queue) as u64;
             let beyond = [most + 1, 1 << 32, 1 << 63, u64::MAX];
             words[shape.count_word(node, queue)] = random.pick(&beyond);
             true
@@ -60,12 +63,12 @@ pub const FAULTS: [Fault; 13] = [
             let (node, queue) = any_queue(random, shape);
             let at = shape.count_word(node, queue);
             let held = words[at] as usize;
-            let unused = shape.slots(queue) - held;
+            let unused = shape.capacity(queue) - held;
             if unused == 0 {
                 return false;
             }
             let slot = held + 1 + random.below(unused as u64) as usize;
-            words[at + slot] = random.pick(&[1, 1 << 16, 1 << 32, 1 << 63]);
+            words[at + slot] = random.pick(&[1, 1 << 16, 1 << 28, 1 << 32, 1 << 63]);
             true
         },
     },
@@ -75,8 +78,7 @@ pub const FAULTS: [Fault; 13] = [
             let Some((_, _, at)) = any_packet(random, shape, words) else {
                 return false;
             };
-            let other = (words[at] >> 16 & 0xffff) ^ (1 << random.below(16));
-            words[at] = (words[at] & !0xffff_0000) | (other << 16);
+            words[at] ^= 1 << (DESTINATION_SHIFT as u64 + random.below(12));
             true
         },
     },
@@ -89,6 +91,20 @@ pub const FAULTS: [Fault; 13] = [
             words[at] |= BIT_15;
             true
         },
+    },
+    Fault {
+        name: "bit 31 set",
+        apply: |random, shape, words| {
+            let Some((_, _, at)) = any_packet(random, shape, words) else {
+                return false;
+            };
+            words[at] |= BIT_31;
+            true
+        },
+    },
+    Fault {
+        name: "a load above the capacity, by packets that have room",
+        apply: overload_a_queue,
     },
     Fault {
         name: "an offset beyond half the size, with its destination",
@@ -243,8 +259,8 @@ fn put_offsets(
         match any_packet(random, shape, words) {
             None => return false,
             Some((node, queue, at)) if wanted(queue) => {
-                let tag = words[at] >> 32;
-                words[at] = packet_word(tag, end_node(shape, node, offsets), offsets);
+                let (tag, chunks) = (words[at] >> 32, chunks_of(words[at]));
+                words[at] = packet_word(tag, chunks, end_node(shape, node, offsets), offsets);
                 words[MOVES] = 0;
                 if words[ACCEPTED] <= MOST_ACCEPTED - 100 {
                     words[ACCEPTED] += 100;
@@ -266,14 +282,56 @@ fn fill_a_ring(random: &mut Random, shape: &Shape, words: &mut [u64]) -> bool {
     }
     for node in ring(shape, queue, random.below(shape.nodes())) {
         let at = shape.count_word(node, queue);
-        for slot in words[at] as usize + 1..=shape.slots(queue) {
-            words[at + slot] = packet_word(0, node, [0; DIMENSIONS]);
+        while words[at] < shape.capacity(queue) as u64 {
+            let chunks = random.between(1, MOST_CHUNKS);
+            put_newest(words, shape, node, queue, arrived(node, chunks));
         }
-        words[at] = shape.slots(queue) as u64;
     }
+    count_anew(shape, words);
+    true
+}
+
+/// Brings the load of an adaptive queue above its capacity, mostly by one chunk,
+/// while it still holds no more packets than it has words for.
+fn overload_a_queue(random: &mut Random, shape: &Shape, words: &mut [u64]) -> bool {
+    let queue = random.between(1, FIRST_ESCAPE as u64 - 1) as usize;
+    if shape.sides[way(queue).0] < 2 {
+        return false;
+    }
+    let (node, capacity) = (random.below(shape.nodes()), shape.capacity(queue) as u64);
+    let at = shape.count_word(node, queue);
+    let load = |words: &[u64]| -> u64 {
+        let held = &words[at + 1..][..words[at] as usize];
+        held.iter().map(|word| load_of(queue, *word)).sum()
+    };
+    // Packets that have come to their destination, until less than eight chunks
+    // are left; they leave a word for one more.
+    while load(words) + MOST_CHUNKS <= capacity {
+        let chunks = random.between(2, MOST_CHUNKS);
+        put_newest(words, shape, node, queue, arrived(node, chunks));
+    }
+    let over = capacity - load(words) + 1;
+    if words[at] < capacity {
+        let chunks = random.pick(&[over, over, MOST_CHUNKS]);
+        put_newest(words, shape, node, queue, arrived(node, chunks));
+    } else {
+        // As many packets as words, so each has one chunk: one gets more.
+        let one = at + 1 + random.below(capacity) as usize;
+        words[one] += random.between(1, MOST_CHUNKS - 1) << CHUNKS_SHIFT;
+    }
+    count_anew(shape, words);
+    true
+}
+
+/// A packet at its destination.
+fn arrived(node: u64, chunks: u64) -> u64 {
+    packet_word(0, chunks, node, [0; DIMENSIONS])
+}
+
+/// Accepted is what is held, nothing was delivered, and no move was made.
+fn count_anew(shape: &Shape, words: &mut [u64]) {
     let (held, _) = held_and_work(shape, words);
     words[ACCEPTED] = held;
     words[DELIVERED] = 0;
     words[MOVES] = 0;
-    true
 }

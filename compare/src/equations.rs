@@ -18,7 +18,7 @@ pub fn label(word: u64) -> u64 {
 }
 
 fn destination(word: u64) -> u64 {
-    word / (1 << 16) % (1 << 16)
+    word / (1 << 16) % (1 << 12)
 }
 
 /// The hops in the lowest five bits.
@@ -34,7 +34,7 @@ fn hops(bits: u64) -> u64 {
 impl Survey {
     pub fn of(words: &[u64]) -> Survey {
         let capacities = {
-            let (e, a, j) = (words[3], words[4], words[5]);
+            let (e, a, j) = (words[3], 8 * words[4], words[5]);
             [j, a, a, a, a, a, a, e, e, e, e, e, e]
         };
         let mut labels = Vec::new();
@@ -141,9 +141,9 @@ mod tests {
     /// network that has delivered it.
     fn before_and_after() -> (Vec<u64>, Vec<u64>, u64) {
         let word = 7 << 32;
-        let mut before = vec![0; 41];
+        let mut before = vec![0; 83];
         before[..11].copy_from_slice(&[1, 1, 1, 2, 1, 1, 1, 0, 0, 1, word]);
-        let mut after = vec![0; 41];
+        let mut after = vec![0; 83];
         after[..9].copy_from_slice(&[1, 1, 1, 2, 1, 1, 1, 1, 1]);
         (before, after, word)
     }

@@ -14,7 +14,14 @@ extern "C" {
         j: u64,
     ) -> u64;
     fn bench_check(words: *const u64, len: usize) -> u64;
-    fn bench_offer(words: *mut u64, len: usize, node: u64, destination: u64, tag: u32) -> u64;
+    fn bench_offer(
+        words: *mut u64,
+        len: usize,
+        node: u64,
+        destination: u64,
+        tag: u32,
+        chunks: u64,
+    ) -> u64;
     fn bench_move(
         words: *mut u64,
         len: usize,
@@ -94,8 +101,9 @@ impl Bench for Library {
         unsafe { bench_check(words.as_ptr(), words.len()) }
     }
 
-    fn offer(&self, words: &mut [u64], node: u64, destination: u64, tag: u32) -> u64 {
-        unsafe { bench_offer(words.as_mut_ptr(), words.len(), node, destination, tag) }
+    fn offer(&self, words: &mut [u64], node: u64, destination: u64, tag: u32, chunks: u64) -> u64 {
+        let (start, len) = (words.as_mut_ptr(), words.len());
+        unsafe { bench_offer(start, len, node, destination, tag, chunks) }
     }
 
     fn move_packet(

@@ -19,6 +19,8 @@ pub const FIRST_ESCAPE: usize = 7;
 pub const MOST_ACCEPTED: u64 = u32::MAX as u64;
 /// The moves made and the work left are at most this for each packet accepted.
 pub const MOST_WORK: u64 = 25;
+/// The chunks of the largest packet.
+pub const MOST_CHUNKS: u64 = 8;
 
 /// Hops in each dimension, above 0 for plus.
 pub type Offsets = [i64; DIMENSIONS];
@@ -110,16 +112,18 @@ impl Shape {
         self.nodes() as usize * QUEUES
     }
 
-    pub fn slots(&self, queue: usize) -> usize {
+    /// The most load of a queue, and its words for packets: slots, and chunks in
+    /// an adaptive queue.
+    pub fn capacity(&self, queue: usize) -> usize {
         match queue {
             0 => self.j as usize,
-            1..FIRST_ESCAPE => self.a as usize,
+            1..FIRST_ESCAPE => (MOST_CHUNKS * self.a) as usize,
             _ => self.e as usize,
         }
     }
 
     pub fn node_words(&self) -> usize {
-        (13 + self.j + 6 * self.a + 6 * self.e) as usize
+        (13 + self.j + 48 * self.a + 6 * self.e) as usize
     }
 
     pub fn need(&self) -> usize {
@@ -128,7 +132,7 @@ impl Shape {
 
     /// The index of the word with the number held by a queue.
     pub fn count_word(&self, node: u64, queue: usize) -> usize {
-        let before: usize = (0..queue).map(|q| 1 + self.slots(q)).sum();
+        let before: usize = (0..queue).map(|q| 1 + self.capacity(q)).sum();
         HEADER + node as usize * self.node_words() + before
     }
 
@@ -158,7 +162,7 @@ pub fn along(dimension: usize, hops: i64) -> Offsets {
     offsets
 }
 
-/// How many packets the queues of a network get.
+/// How full the queues of a network get.
 #[derive(Clone, Copy, Debug, PartialEq, Eq)]
 pub enum Fill {
     Empty,
@@ -180,15 +184,64 @@ pub const FILLS: [Fill; 5] = [
 ];
 
 impl Fill {
-    fn packets(self, random: &mut Random, slots: usize) -> usize {
+    /// The load that a queue gets, if its packets come to that, or a little more.
+    fn load(self, random: &mut Random, capacity: usize) -> usize {
         match self {
             Fill::Empty => 0,
             Fill::Rare => random.chance(1, 200) as usize,
             Fill::Sparse => random.chance(1, 4) as usize,
-            Fill::Half => slots / 2,
-            Fill::Mixed => random.below(slots as u64 + 1) as usize,
-            Fill::Full => slots,
+            Fill::Half => capacity / 2,
+            Fill::Mixed => random.below(capacity as u64 + 1) as usize,
+            Fill::Full => capacity,
         }
+    }
+}
+
+/// Which chunk numbers the packets of a network have.
+#[derive(Clone, Copy, Debug, PartialEq, Eq)]
+pub enum Chunks {
+    /// The same for all of them.
+    Equal(u64),
+    /// 1, 3, 5 or 7: a queue that is full of such packets has often a chunk or
+    /// some left.
+    Odd,
+    /// Any; where a queue is to be full, the last packet has what is left of it.
+    Mixed,
+}
+
+impl Chunks {
+    pub fn random(random: &mut Random) -> Chunks {
+        match random.below(6) {
+            0 => Chunks::Equal(1),
+            1 => Chunks::Equal(MOST_CHUNKS),
+            2 => Chunks::Equal(random.between(2, MOST_CHUNKS - 1)),
+            3 => Chunks::Odd,
+            _ => Chunks::Mixed,
+        }
+    }
+
+    /// The chunks of a packet for a queue that has so many left, if one of these
+    /// fits there.
+    fn of_packet(self, random: &mut Random, left: u64) -> Option<u64> {
+        let chunks = match self {
+            Chunks::Equal(chunks) => chunks,
+            Chunks::Odd => random.pick(&[1, 3, 5, 7]),
+            Chunks::Mixed => random.between(1, MOST_CHUNKS).min(left),
+        };
+        (chunks <= left).then_some(chunks)
+    }
+}
+
+/// The chunks of a packet word.
+pub fn chunks_of(word: u64) -> u64 {
+    (word >> CHUNKS_SHIFT & 7) + 1
+}
+
+/// What a packet takes of a queue.
+pub fn load_of(queue: usize, word: u64) -> u64 {
+    match queue {
+        1..FIRST_ESCAPE => chunks_of(word),
+        _ => 1,
     }
 }
 
@@ -214,18 +267,24 @@ pub fn offset_range(shape: &Shape, queue: usize, dimension: usize) -> Option<(i6
     Some((-half, half))
 }
 
-/// The bits of the offsets in a packet word; the bit above them is always 0.
+/// The bits of the offsets in a packet word. The bit above them is always 0, and
+/// so is the one below the tag.
 pub const OFFSETS: u64 = (1 << 15) - 1;
 pub const BIT_15: u64 = 1 << 15;
+pub const BIT_31: u64 = 1 << 31;
+/// Where the twelve bits of the destination begin, and the three of the chunks
+/// minus one.
+pub const DESTINATION_SHIFT: u32 = 16;
+pub const CHUNKS_SHIFT: u32 = 28;
 /// Where the five bits of each offset begin.
 pub const OFFSET_SHIFTS: [u32; DIMENSIONS] = [10, 5, 0];
 /// What five bits can say.
 pub const OFFSET_VALUES: std::ops::RangeInclusive<i64> = -16..=15;
 
 /// A packet word from its parts; the offsets are cut to five bits.
-pub const fn packet_word(tag: u64, destination: u64, [dx, dy, dz]: Offsets) -> u64 {
+pub const fn packet_word(tag: u64, chunks: u64, destination: u64, [dx, dy, dz]: Offsets) -> u64 {
     let offsets = (dx as u64 & 31) << 10 | (dy as u64 & 31) << 5 | (dz as u64 & 31);
-    (tag << 32) | (destination << 16) | offsets
+    (tag << 32) | (chunks - 1) << CHUNKS_SHIFT | destination << DESTINATION_SHIFT | offsets
 }
 
 /// The node moved by offsets round the torus.
@@ -238,8 +297,8 @@ pub fn end_node(shape: &Shape, node: u64, offsets: Offsets) -> u64 {
     shape.node_at(place)
 }
 
-/// A random lawful packet for a queue, if there is any.
-fn packet(random: &mut Random, shape: &Shape, node: u64, queue: usize) -> Option<u64> {
+/// A random lawful packet of so many chunks for a queue, if there is any.
+fn packet(random: &mut Random, shape: &Shape, node: u64, queue: usize, chunks: u64) -> Option<u64> {
     let mut offsets = [0; DIMENSIONS];
     for (dimension, offset) in offsets.iter_mut().enumerate() {
         let (low, high) = offset_range(shape, queue, dimension)?;
@@ -255,7 +314,15 @@ fn packet(random: &mut Random, shape: &Shape, node: u64, queue: usize) -> Option
         _ => random.number() >> 32,
     };
     let destination = end_node(shape, node, offsets);
-    Some(packet_word(tag, destination, offsets))
+    Some(packet_word(tag, chunks, destination, offsets))
+}
+
+/// Puts a packet behind the others of a queue.
+pub fn put_newest(words: &mut [u64], shape: &Shape, node: u64, queue: usize, packet: u64) {
+    let at = shape.count_word(node, queue);
+    words[at] += 1;
+    let held = words[at] as usize;
+    words[at + held] = packet;
 }
 
 /// The nodes of the ring through a node along the dimension of a queue.
@@ -274,24 +341,24 @@ fn take_newest(words: &mut [u64], shape: &Shape, node: u64, queue: usize) {
     words[at] -= 1;
 }
 
-/// Random words, exactly as many as needed, that pass the check.
+/// Random words, exactly as many as needed, that pass the check; their packets
+/// have chunk numbers of any kind.
 pub fn network(random: &mut Random, shape: &Shape, fill: Fill) -> Vec<u64> {
+    let chunks = Chunks::random(random);
+    network_of(random, shape, fill, chunks)
+}
+
+/// The same with chunk numbers of one kind.
+pub fn network_of(random: &mut Random, shape: &Shape, fill: Fill, chunks: Chunks) -> Vec<u64> {
     let mut words = vec![0; shape.need()];
     words[..6].copy_from_slice(&shape.sizes());
     for node in 0..shape.nodes() {
         for queue in 0..QUEUES {
-            let at = shape.count_word(node, queue);
-            for _ in 0..fill.packets(random, shape.slots(queue)) {
-                if let Some(word) = packet(random, shape, node, queue) {
-                    words[at] += 1;
-                    let held = words[at] as usize;
-                    words[at + held] = word;
-                }
-            }
+            fill_queue(random, shape, &mut words, (node, queue), fill, chunks);
         }
     }
     let full = |words: &[u64], node: u64, queue: usize| {
-        words[shape.count_word(node, queue)] == shape.slots(queue) as u64
+        words[shape.count_word(node, queue)] == shape.capacity(queue) as u64
     };
     for queue in FIRST_ESCAPE..QUEUES {
         for node in 0..shape.nodes() {
@@ -307,6 +374,37 @@ pub fn network(random: &mut Random, shape: &Shape, fill: Fill) -> Vec<u64> {
     }
     set_counters(random, shape, &mut words);
     words
+}
+
+/// Puts packets into a queue until it has the load that it is to get, or the
+/// next one does not fit.
+fn fill_queue(
+    random: &mut Random,
+    shape: &Shape,
+    words: &mut [u64],
+    (node, queue): (u64, usize),
+    fill: Fill,
+    chunks: Chunks,
+) {
+    let capacity = shape.capacity(queue) as u64;
+    let wanted = fill.load(random, capacity as usize) as u64;
+    let adaptive = (1..FIRST_ESCAPE).contains(&queue);
+    let mut load = 0;
+    while load < wanted {
+        let left = if adaptive {
+            capacity - load
+        } else {
+            MOST_CHUNKS
+        };
+        let Some(chunks) = chunks.of_packet(random, left) else {
+            return;
+        };
+        let Some(packet) = packet(random, shape, node, queue, chunks) else {
+            return;
+        };
+        put_newest(words, shape, node, queue, packet);
+        load += load_of(queue, packet);
+    }
 }
 
 /// The number of packets held, and the work left.
@@ -370,6 +468,15 @@ fn argument(random: &mut Random, limit: u64) -> u64 {
         hostile(random, limit)
     } else {
         random.below(limit.max(1))
+    }
+}
+
+/// Mostly 1 to 8, now and then a hostile number.
+fn chunk_number(random: &mut Random) -> u64 {
+    if random.chance(1, 8) {
+        hostile(random, MOST_CHUNKS + 1)
+    } else {
+        random.between(1, MOST_CHUNKS)
     }
 }
 
@@ -439,6 +546,7 @@ pub fn any_call(random: &mut Random, words: &[u64]) -> Call {
             node: argument(random, nodes),
             destination: argument(random, nodes),
             tag: tag(random),
+            chunks: chunk_number(random),
         },
         _ => any_move(random, nodes, words),
     }

@@ -338,7 +338,7 @@ impl Lab {
 /// The words that a network with this header needs.
 fn need(words: &[u64]) -> usize {
     let &[x, y, z, e, a, j] = words.first_chunk().expect("a header");
-    HEADER + (x * y * z * (13 + j + 6 * a + 6 * e)) as usize
+    HEADER + (x * y * z * (13 + j + 48 * a + 6 * e)) as usize
 }
 
 /// The first difference between the model's outcome and another one.

@@ -7,7 +7,7 @@ pub mod network;
 pub mod wave;
 pub mod words;
 
-use network::{Kind, Network, Output, Step, QUEUES};
+use network::{Kind, Network, Output, Step, MOST_CHUNKS, QUEUES};
 use words::{decode, encode, packet_to_word, Sizes};
 
 /// The refusals with their numbers (R161 to R175). 13 is what the program gives
@@ -99,21 +99,30 @@ pub fn check(words: &[u64]) -> Result<(), Refusal> {
     decode(words).map(|_| ())
 }
 
-/// Offer: the check's, then 4, 14, 8, 7.
-pub fn offer(words: &mut [u64], node: u64, destination: u64, tag: u32) -> Result<(), Refusal> {
+/// Offer: the check's, then 4, 2, 14, 8, 7.
+pub fn offer(
+    words: &mut [u64],
+    node: u64,
+    destination: u64,
+    tag: u32,
+    chunks: u64,
+) -> Result<(), Refusal> {
     let mut network = decode(words)?;
     let node = known_node(&network, node)?;
     let destination = known_node(&network, destination)?;
+    if !(1..=MOST_CHUNKS as u64).contains(&chunks) {
+        return Err(Refusal::WrongSize);
+    }
     if destination == node {
         return Err(Refusal::ToOneself);
     }
     if network.accepted == u32::MAX as u64 {
         return Err(Refusal::CountSpent);
     }
-    if network.free_slots(node, Kind::Injection) == 0 {
+    if network.free(node, Kind::Injection) == 0 {
         return Err(Refusal::InjectionFull);
     }
-    network.inject(node, destination, tag);
+    network.inject(node, destination, tag, chunks as usize);
     encode(&network, words);
     Ok(())
 }
@@ -138,16 +147,19 @@ pub fn move_packet(
     Ok(handed_out.map(|packet| packet_to_word(&packet)))
 }
 
-/// Credit: the check's, then 4, 6.
+/// Credit: the check's, then 4, 6. It is told in chunks for an adaptive output
+/// and in slots for an escape output.
 pub fn credit(words: &[u64], node: u64, output: u64) -> Result<u64, Refusal> {
     let network = decode(words)?;
     let node = known_node(&network, node)?;
     let output = Output::of(known_output(output)?);
     // Output 0 has no target, and so no credit.
-    match network.target(node, output) {
-        None => Err(Refusal::NoSuchOutput),
-        Some((neighbour, kind)) => Ok(network.free_slots(neighbour, kind) as u64),
-    }
+    let (neighbour, kind) = network.target(node, output).ok_or(Refusal::NoSuchOutput)?;
+    let free = network.free(neighbour, kind);
+    Ok(match kind {
+        Kind::Adaptive(_) => free,
+        _ => free / MOST_CHUNKS,
+    } as u64)
 }
 
 /// Look, as the place of the held words, and its companion: the check's,

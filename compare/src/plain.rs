@@ -28,6 +28,7 @@ const FIRST_ESCAPE: usize = 1 + DIRECTIONS;
 const MAX_SIDE: usize = 16;
 const MAX_NODES: usize = MAX_SIDE * MAX_SIDE * MAX_SIDE;
 const MAX_WORK: u64 = 25;
+const MAX_CHUNKS: u64 = 8;
 
 const SHORT_STORE: u64 = 1;
 const WRONG_SIZE: u64 = 2;
@@ -58,7 +59,8 @@ struct Layout {
     step: [usize; DIMENSIONS],
     /// Words of one node.
     stride: usize,
-    /// Slots of each queue.
+    /// The most load of each queue, and its words for packets: chunks of an
+    /// adaptive queue, slots of the others.
     cap: [usize; QUEUES],
     /// Where each queue's count word stands in its node's words.
     start: [usize; QUEUES],
@@ -75,7 +77,7 @@ impl Layout {
         }
         let mut cap = [e as usize; QUEUES];
         cap[0] = j as usize;
-        cap[1..FIRST_ESCAPE].fill(a as usize);
+        cap[1..FIRST_ESCAPE].fill((MAX_CHUNKS * a) as usize);
         let mut start = [0; QUEUES];
         let mut stride = 0;
         for queue in 0..QUEUES {
@@ -131,9 +133,11 @@ impl Layout {
 
 /// Where the five bits of each offset begin in a packet word.
 const SHIFT: [u32; DIMENSIONS] = [10, 5, 0];
-/// The bits of all three, and the bit above them that is 0 in every packet.
+/// The bits of all three, and the two bits that are 0 in every packet.
 const OFFSETS: u64 = 0x7fff;
-const UNUSED_BIT: u64 = 0x8000;
+const UNUSED_BITS: u64 = 0x8000_8000;
+/// Where the chunks begin, less one of them.
+const CHUNKS_SHIFT: u32 = 28;
 
 fn offset(word: u64, dimension: usize) -> i8 {
     // The five bits to the top of a byte, and back with their sign.
@@ -144,8 +148,32 @@ fn offsets(word: u64) -> [i8; DIMENSIONS] {
     array::from_fn(|dimension| offset(word, dimension))
 }
 
-fn destination(word: u64) -> u16 {
-    (word >> 16) as u16
+/// The chunks of a packet but one.
+fn chunks_but_one(word: u64) -> u64 {
+    word >> CHUNKS_SHIFT & 7
+}
+
+/// What a packet takes of a queue.
+fn load_in(queue: usize, word: u64) -> usize {
+    if is_adaptive(queue) {
+        1 + chunks_but_one(word) as usize
+    } else {
+        1
+    }
+}
+
+fn is_adaptive(queue: usize) -> bool {
+    (1..FIRST_ESCAPE).contains(&queue)
+}
+
+/// What the packets of a queue take of it; `words` begins with its count word.
+fn load(queue: usize, words: &[u64]) -> usize {
+    let count = words[0] as usize;
+    if !is_adaptive(queue) {
+        return count;
+    }
+    let more: u64 = words[1..=count].iter().map(|w| chunks_but_one(*w)).sum();
+    count + more as usize
 }
 
 /// Stands in a list of routes where a dimension has no hops left.
@@ -180,19 +208,14 @@ fn routes(queue: usize, word: u64) -> [usize; DIMENSIONS + 1] {
     }
 }
 
-/// The flow rule for a target with so many free slots: 0, 11 or 12.
-fn flow(queue: usize, output: usize, free: usize) -> u64 {
-    let needed = if output >= FIRST_ESCAPE && output != queue {
-        2
-    } else {
-        1
-    };
-    if free >= needed {
-        0
-    } else if free == 0 {
+/// The flow rule for a head and a target of which so much is free: 0, 11 or 12.
+fn flow(queue: usize, output: usize, head: u64, free: usize) -> u64 {
+    if free < load_in(output, head) {
         NO_SLOT
-    } else {
+    } else if free == 1 && output >= FIRST_ESCAPE && output != queue {
         NO_BUBBLE
+    } else {
+        0
     }
 }
 
@@ -258,7 +281,7 @@ pub fn check(words: &[u64]) -> u64 {
     open(words).err().unwrap_or(0)
 }
 
-pub fn offer(words: &mut [u64], node: u64, destination: u64, tag: u32) -> u64 {
+pub fn offer(words: &mut [u64], node: u64, destination: u64, tag: u32, chunks: u64) -> u64 {
     let layout = match open(words) {
         Err(refusal) => return refusal,
         Ok((layout, _)) => layout,
@@ -266,6 +289,9 @@ pub fn offer(words: &mut [u64], node: u64, destination: u64, tag: u32) -> u64 {
     let nodes = layout.nodes() as u64;
     if node >= nodes || destination >= nodes {
         return NO_SUCH_NODE;
+    }
+    if chunks.wrapping_sub(1) >= MAX_CHUNKS {
+        return WRONG_SIZE;
     }
     if node == destination {
         return TO_ONESELF;
@@ -277,7 +303,7 @@ pub fn offer(words: &mut [u64], node: u64, destination: u64, tag: u32) -> u64 {
     if words[at] == layout.cap[0] as u64 {
         return INJECTION_FULL;
     }
-    let mut word = (tag as u64) << 32 | destination << 16;
+    let mut word = (tag as u64) << 32 | (chunks - 1) << CHUNKS_SHIFT | destination << 16;
     for (d, shift) in SHIFT.into_iter().enumerate() {
         let from = layout.coordinate(node as usize, d);
         let to = layout.coordinate(destination as usize, d);
@@ -327,14 +353,16 @@ fn try_move(words: &mut [u64], node: u64, queue: u64, output: u64) -> Result<[u6
     if words[source] == 0 {
         return Err(NOBODY_THERE);
     }
-    if !routes(queue, words[source + 1]).contains(&output) {
+    let head = words[source + 1];
+    if !routes(queue, head).contains(&output) {
         return Err(NOT_ITS_WAY);
     }
     if output == 0 {
         return Ok([1, carry_out(words, source, 0, 0)]);
     }
     let target = layout.at(layout.beyond(node, output), output);
-    match flow(queue, output, layout.cap[output] - words[target] as usize) {
+    let free = layout.cap[output] - load(output, &words[target..]);
+    match flow(queue, output, head, free) {
         0 => {
             carry_out(words, source, output, target);
             Ok([0, 0])
@@ -343,7 +371,7 @@ fn try_move(words: &mut [u64], node: u64, queue: u64, output: u64) -> Result<[u6
     }
 }
 
-/// The refusal, then the free slots of the target.
+/// The refusal, then what is free of the target: chunks or slots.
 pub fn credit(words: &[u64], node: u64, output: u64) -> (u64, [u64; 1]) {
     match open(words) {
         Err(refusal) => (refusal, [0]),
@@ -351,9 +379,9 @@ pub fn credit(words: &[u64], node: u64, output: u64) -> (u64, [u64; 1]) {
         Ok(_) if output == 0 || output >= QUEUES as u64 => (NO_SUCH_OUTPUT, [0]),
         Ok((layout, _)) => {
             let output = output as usize;
-            let neighbour = layout.beyond(node as usize, output);
-            let held = words[layout.at(neighbour, output)];
-            (0, [layout.cap[output] as u64 - held])
+            let target = layout.at(layout.beyond(node as usize, output), output);
+            let free = layout.cap[output] - load(output, &words[target..]);
+            (0, [free as u64])
         }
     }
 }

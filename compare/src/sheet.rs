@@ -23,6 +23,7 @@ pub enum Line {
         node: u32,
         destination: u32,
         tag: u32,
+        chunks: u32,
     },
     Move {
         node: u32,
@@ -82,10 +83,11 @@ pub fn parse(line: &[u8]) -> Option<Line> {
         (b"T", numbers) => Some(Line::Make {
             sizes: numbers.try_into().ok()?,
         }),
-        (b"O", &[node, destination, tag]) => Some(Line::Offer {
+        (b"O", &[node, destination, tag, chunks]) => Some(Line::Offer {
             node,
             destination,
             tag,
+            chunks,
         }),
         (b"M", &[node, queue, output]) => Some(Line::Move {
             node,
@@ -114,7 +116,7 @@ impl Program {
     }
 
     fn print_delivery(&mut self, word: u64) {
-        let (tag, destination) = (word >> 32, word >> 16 & 0xffff);
+        let (tag, destination) = (word >> 32, word >> 16 & 0xfff);
         self.print(format!("P,{tag},{destination}"));
     }
 
@@ -129,8 +131,10 @@ impl Program {
                 node,
                 destination,
                 tag,
+                chunks,
             }) => {
-                let result = model::offer(&mut self.store, node.into(), destination.into(), tag);
+                let (node, destination) = (node.into(), destination.into());
+                let result = model::offer(&mut self.store, node, destination, tag, chunks.into());
                 self.print_refusal('O', &result);
             }
             Some(Line::Move {

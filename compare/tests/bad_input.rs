@@ -10,23 +10,25 @@
 mod wave;
 
 use compare::bench::{all, perform, Answer, Bench, Call, Model};
-use compare::generate::{packet_word, Offsets, ACCEPTED, BIT_15, DELIVERED, DIMENSIONS, MOVES};
+use compare::generate::{packet_word, Offsets, ACCEPTED, BIT_15, BIT_31, DELIVERED};
+use compare::generate::{DIMENSIONS, MOVES};
 
 const MAX: u64 = u64::MAX;
 /// As 0, if a number is cut to 32 bits.
 const CUT: u64 = 1 << 32;
 
-/// Four nodes with E 2, A 1, J 1 need 9 + 4 * 32 words (R47).
-const NEED: usize = 137;
+/// Four nodes with E 2, A 1, J 1 need 9 + 4 * 74 words (R47).
+const NEED: usize = 305;
 /// Lent are four more, which no call may change (R48).
-const LENT: usize = 141;
+const LENT: usize = 309;
 const BEHIND: u64 = 0x5555_aaaa_5555_aaaa;
 /// What stands in a ledger before the call; a call is lent the first of these.
 const LEDGER: [u64; 8] = [11, 22, 33, 44, 55, 66, 77, 88];
 
-/// A packet with tag 7 (R60).
+/// A packet with tag 7 and eight chunks (R60): one of them fills an adaptive
+/// queue.
 const fn packet(destination: u64, offsets: Offsets) -> u64 {
-    packet_word(7, destination, offsets)
+    packet_word(7, 8, destination, offsets)
 }
 
 /// One that stands at its destination.
@@ -34,16 +36,21 @@ const fn arrived(node: u64) -> u64 {
     packet(node, [0, 0, 0])
 }
 
+/// The same of so many chunks.
+const fn small(chunks: u64, node: u64) -> u64 {
+    packet_word(7, chunks, node, [0, 0, 0])
+}
+
 /// The word with the number held by a queue (R43, R44).
 const fn at(node: usize, queue: usize) -> usize {
-    9 + 32 * node + [0, 2, 4, 6, 8, 10, 12, 14, 17, 20, 23, 26, 29][queue]
+    9 + 74 * node + [0, 2, 11, 20, 29, 38, 47, 56, 59, 62, 65, 68, 71][queue]
 }
 
 /// The number held by queue 0 of node 0, and its one packet.
 const COUNT: usize = at(0, 0);
 const HEAD: usize = at(0, 0) + 1;
 
-/// A store of 141 words: a network of four nodes, and what is different.
+/// A store of 309 words: a network of four nodes, and what is different.
 #[derive(Clone, Copy)]
 struct Store {
     sides: [u64; DIMENSIONS],
@@ -113,10 +120,15 @@ const fn make(x: u64, y: u64, z: u64, [e, a, j]: [u64; 3]) -> Call {
 }
 
 const fn offer(node: u64, destination: u64) -> Call {
+    offer_of(8, node, destination)
+}
+
+const fn offer_of(chunks: u64, node: u64, destination: u64) -> Call {
     Call::Offer {
         node,
         destination,
         tag: 7,
+        chunks,
     }
 }
 
@@ -142,11 +154,12 @@ const fn drain(budget: u32, ledger: usize) -> Call {
 
 /// Every call that tests the words first (R181): with arguments that are good
 /// on the row, and with others that a later test would refuse.
-const ON_WORDS: [Call; 17] = [
+const ON_WORDS: [Call; 18] = [
     Call::Check,
     offer(1, 2),
     offer(0, 0),
     offer(MAX, MAX),
+    offer_of(0, 1, 2),
     go(0, 0, 1),
     go(0, 0, 0),
     go(1, 0, 0),
@@ -227,13 +240,13 @@ fn short_stores() {
             refused("R161: less than nine words", &row, len, call, 1);
             refused("R181: 1 before 2", &ones, len, call, 1);
         }
-        for len in [9, 10, 136] {
+        for len in [9, 10, 304] {
             refused("R161: less than the sizes ask for", &row, len, call, 1);
             refused("R181: 1 before 3", &broken, len, call, 1);
             refused("R181: 2 before the second 1", &ones, len, call, 2);
         }
     }
-    for len in [NEED, 138, LENT] {
+    for len in [NEED, 306, LENT] {
         passes("R161: enough words", &row, len);
     }
 }
@@ -241,20 +254,20 @@ fn short_stores() {
 /// R161 for Make: what the sizes ask for (R47), and a store that is shorter.
 #[rustfmt::skip]
 const SHORT_FOR_MAKE: [(&str, usize, Call); 14] = [
-    ("137 words needed",           0, make(4, 1, 1, [2, 1, 1])),
-    ("137 words needed",           1, make(4, 1, 1, [2, 1, 1])),
-    ("137 words needed",           8, make(4, 1, 1, [2, 1, 1])),
-    ("137 words needed",           9, make(4, 1, 1, [2, 1, 1])),
-    ("137 words needed",         136, make(4, 1, 1, [2, 1, 1])),
-    ("141 words needed, J 2",    140, make(4, 1, 1, [2, 1, 2])),
-    ("145 words needed, J 3",    141, make(4, 1, 1, [2, 1, 3])),
-    ("161 words needed, A 2",    141, make(4, 1, 1, [2, 2, 1])),
-    ("161 words needed, E 3",    141, make(4, 1, 1, [3, 1, 1])),
-    ("169 words needed, X 5",    141, make(5, 1, 1, [2, 1, 1])),
-    ("169 words needed, Y 5",    141, make(1, 5, 1, [2, 1, 1])),
-    ("169 words needed, Z 5",    141, make(1, 1, 5, [2, 1, 1])),
-    ("29961 words needed (K2)",  141, make(16, 16, 1, [8, 8, 8])),
-    ("479241 words needed",      141, make(16, 16, 16, [8, 8, 8])),
+    ("305 words needed",           0, make(4, 1, 1, [2, 1, 1])),
+    ("305 words needed",           1, make(4, 1, 1, [2, 1, 1])),
+    ("305 words needed",           8, make(4, 1, 1, [2, 1, 1])),
+    ("305 words needed",           9, make(4, 1, 1, [2, 1, 1])),
+    ("305 words needed",         304, make(4, 1, 1, [2, 1, 1])),
+    ("309 words needed, J 2",    308, make(4, 1, 1, [2, 1, 2])),
+    ("313 words needed, J 3",    309, make(4, 1, 1, [2, 1, 3])),
+    ("497 words needed, A 2",    309, make(4, 1, 1, [2, 2, 1])),
+    ("329 words needed, E 3",    309, make(4, 1, 1, [3, 1, 1])),
+    ("379 words needed, X 5",    309, make(5, 1, 1, [2, 1, 1])),
+    ("379 words needed, Y 5",    309, make(1, 5, 1, [2, 1, 1])),
+    ("379 words needed, Z 5",    309, make(1, 1, 5, [2, 1, 1])),
+    ("115977 words needed (K2)", 309, make(16, 16, 1, [8, 8, 8])),
+    ("1855497 words needed",     309, make(16, 16, 16, [8, 8, 8])),
 ];
 
 #[test]
@@ -284,7 +297,7 @@ fn wrong_sizes() {
         for value in values {
             let mut sizes = [4, 1, 1, 2, 1, 1];
             sizes[size] = *value;
-            for len in [0, 8, 9, 136, LENT] {
+            for len in [0, 8, 9, 304, LENT] {
                 refused(what, &ROW.words(), len, Call::Make { sizes }, 2);
             }
             let mut words = ROW.words();
@@ -305,24 +318,32 @@ fn wrong_sizes() {
 const SPENT: Store = ROW.but(&[(ACCEPTED, CUT - 1), (DELIVERED, CUT - 2)]);
 /// The packet of queue 0 is at its destination.
 const ARRIVED: Store = ROW.but(&[(HEAD, arrived(0))]);
-/// Of node 1, which is the next one from node 0 in direction x+, queue 1 holds
-/// A packets; queue 7 holds one; queue 7 holds E.
+/// Of node 1, which is the next one from node 0 in direction x+, queue 1 is full
+/// of one packet; of eight; one chunk of it is taken; queue 7 holds one; queue 7
+/// holds E.
 const ADAPTIVE_FULL: Store = ROW.with(&[(1, 1, arrived(1))]);
-const ESCAPE_ONE: Store = ROW.with(&[(1, 7, arrived(1))]);
-const ESCAPE_FULL: Store = ROW.with(&[(1, 7, arrived(1)), (1, 7, arrived(1))]);
+const ADAPTIVE_EIGHT: Store = ROW.with(&[(1, 1, small(1, 1)); 8]);
+const ADAPTIVE_ONE: Store = ROW.with(&[(1, 1, small(1, 1))]);
+const ESCAPE_ONE: Store = ROW.with(&[(1, 7, small(1, 1))]);
+const ESCAPE_FULL: Store = ROW.with(&[(1, 7, small(1, 1)), (1, 7, small(1, 1))]);
+/// Queue 1 is full, and the head has one chunk; seven chunks of it are taken, and
+/// the head has one, or two.
+const FULL_FOR_ONE: Store = ADAPTIVE_FULL.but(&[(HEAD, packet_word(7, 1, 1, [1, 0, 0]))]);
+const SEVEN: Store = ROW.with(&[(1, 1, small(7, 1))]);
+const SEVEN_AND_ONE: Store = SEVEN.but(&[(HEAD, packet_word(7, 1, 1, [1, 0, 0]))]);
+const SEVEN_FOR_TWO: Store = SEVEN.but(&[(HEAD, packet_word(7, 2, 1, [1, 0, 0]))]);
 /// The same, with one more packet at node 0 that is to go on to node 1, in
 /// queue 1 or in queue 7.
 const ON: u64 = packet(1, [1, 0, 0]);
 const FROM_ADAPTIVE_ONE: Store = ROW.with(&[(0, 1, ON), (1, 7, arrived(1))]);
-const FROM_ESCAPE_ONE: Store = ROW.with(&[(0, 7, ON), (1, 7, arrived(1))]);
-const FROM_ESCAPE_FULL: Store = ROW.with(&[(0, 7, ON), (1, 7, arrived(1)), (1, 7, arrived(1))]);
-/// Of node 3, the next one in direction x-, queue 2 holds A packets; queue 8
-/// holds one.
+const FROM_ESCAPE_ONE: Store = ROW.with(&[(0, 7, ON), (1, 7, small(1, 1))]);
+const FROM_ESCAPE_FULL: Store = ROW.with(&[(0, 7, ON), (1, 7, small(1, 1)), (1, 7, small(1, 1))]);
+/// Of node 3, the next one in direction x-, queue 2 is full; queue 8 holds one.
 const OTHER_WAY_FULL: Store = ROW.with(&[(3, 2, arrived(3))]);
 const OTHER_WAY_ONE: Store = ROW.with(&[(3, 8, arrived(3))]);
 /// Along z: of node 1, the next one in direction z+, queue 11 holds one packet;
-/// it holds E, with a packet in queue 11 of node 0 that is to go on; queue 5
-/// holds A.
+/// it holds E, with a packet in queue 11 of node 0 that is to go on; queue 5 is
+/// full.
 const DEEP_ONE: Store = SHAFT.with(&[(1, 11, arrived(1))]);
 const FROM_DEEP_FULL: Store = SHAFT.with(&[
     (0, 11, packet(1, [0, 0, 1])),
@@ -347,21 +368,32 @@ const ARGUMENTS: &[(&str, Store, Call, u64)] = &[
     ("R164: both",                              ROW,               offer(MAX, MAX),     4),
     ("R167: J packets in queue 0",              ROW,               offer(0, 1),         7),
     ("R168: accepted is 2^32 - 1",              SPENT,             offer(1, 2),         8),
+    ("R162: no chunks",                         ROW,               offer_of(0, 1, 2),   2),
+    ("R162: nine chunks",                       ROW,               offer_of(9, 1, 2),   2),
+    ("R162: cut to 3 bits it is one",           ROW,               offer_of(17, 1, 2),  2),
+    ("R162: cut to 32 bits it is one",          ROW,               offer_of(CUT + 1, 1, 2), 2),
+    ("R162: the most chunks",                   ROW,               offer_of(MAX, 1, 2), 2),
     ("R174: to oneself",                        ROW,               offer(1, 1),        14),
     ("R174: the last node to itself",           ROW,               offer(3, 3),        14),
-    ("R188: 4 before 14, beyond the last",      ROW,               offer(4, 4),         4),
-    ("R188: 4 before 14, cut to 32 bits",       ROW,               offer(CUT, CUT),     4),
-    ("R188: the node alone is cut to 32 bits",  ROW,               offer(CUT + 1, 1),   4),
-    ("R188: only the destination is",           ROW,               offer(1, CUT + 1),   4),
-    ("R188: 4 before 14 and 8",                 SPENT,             offer(4, 4),         4),
-    ("R188: 4 before 7",                        ROW,               offer(0, 4),         4),
-    ("R188: 4 before 8, the node",              SPENT,             offer(4, 0),         4),
-    ("R188: 4 before 8, the destination",       SPENT,             offer(1, 4),         4),
-    ("R188: 4 before 8 and 7",                  SPENT,             offer(0, 4),         4),
-    ("R188: 14 before 8",                       SPENT,             offer(1, 1),        14),
-    ("R188: 14 before 7",                       ROW,               offer(0, 0),        14),
-    ("R188: 14 before 8 and 7",                 SPENT,             offer(0, 0),        14),
-    ("R188: 8 before 7",                        SPENT,             offer(0, 1),         8),
+    ("R189: 4 before 14, beyond the last",      ROW,               offer(4, 4),         4),
+    ("R189: 4 before 14, cut to 32 bits",       ROW,               offer(CUT, CUT),     4),
+    ("R189: the node alone is cut to 32 bits",  ROW,               offer(CUT + 1, 1),   4),
+    ("R189: only the destination is",           ROW,               offer(1, CUT + 1),   4),
+    ("R189: 4 before 14 and 8",                 SPENT,             offer(4, 4),         4),
+    ("R189: 4 before 7",                        ROW,               offer(0, 4),         4),
+    ("R189: 4 before 8, the node",              SPENT,             offer(4, 0),         4),
+    ("R189: 4 before 8, the destination",       SPENT,             offer(1, 4),         4),
+    ("R189: 4 before 8 and 7",                  SPENT,             offer(0, 4),         4),
+    ("R189: 4 before 2, the node",              ROW,               offer_of(9, 4, 0),   4),
+    ("R189: 4 before 2, the destination",       ROW,               offer_of(0, 1, 4),   4),
+    ("R189: 2 before 14",                       ROW,               offer_of(9, 1, 1),   2),
+    ("R189: 2 before 8",                        SPENT,             offer_of(0, 1, 2),   2),
+    ("R189: 2 before 7",                        ROW,               offer_of(9, 0, 1),   2),
+    ("R189: 2 before 14, 8 and 7",              SPENT,             offer_of(MAX, 0, 0), 2),
+    ("R189: 14 before 8",                       SPENT,             offer(1, 1),        14),
+    ("R189: 14 before 7",                       ROW,               offer(0, 0),        14),
+    ("R189: 14 before 8 and 7",                 SPENT,             offer(0, 0),        14),
+    ("R189: 8 before 7",                        SPENT,             offer(0, 1),         8),
 
     ("R164: a node beyond the last",            ROW,               go(4, 0, 1),         4),
     ("R164: cut to 32 bits it is node 0",       ROW,               go(CUT, 0, 1),       4),
@@ -394,6 +426,10 @@ const ARGUMENTS: &[(&str, Store, Call, u64)] = &[
     ("R141, R170: arrived, not on (K9)",        ARRIVED,           go(0, 0, 7),        10),
     ("R141, R170: arrived, not on",             ARRIVED,           go(0, 0, 1),        10),
     ("R150, R171: adaptive target full",        ADAPTIVE_FULL,     go(0, 0, 1),        11),
+    ("R150, R171: the same, by eight packets",  ADAPTIVE_EIGHT,    go(0, 0, 1),        11),
+    ("R150, R171: the same, a head of one",     FULL_FOR_ONE,      go(0, 0, 1),        11),
+    ("R150, R171: seven chunks free for eight", ADAPTIVE_ONE,      go(0, 0, 1),        11),
+    ("R150, R171: one chunk free for two",      SEVEN_FOR_TWO,     go(0, 0, 1),        11),
     ("R150, R171: the same along z",            DEEP_FULL,         go(0, 0, 5),        11),
     ("R152, R171: escape target full",          ESCAPE_FULL,       go(0, 0, 7),        11),
     ("R151, R171: full within the ring",        FROM_ESCAPE_FULL,  go(0, 7, 7),        11),
@@ -440,8 +476,8 @@ fn arguments() {
         refused(what, &words, LENT, *call, *number);
         refused(what, &words, NEED, *call, *number);
     }
-    // Each number of a call from 4 on has a row.
-    for wanted in (4..=12).chain([14]) {
+    // Each number of a call from 4 on has a row, and so has that of the chunks.
+    for wanted in (4..=12).chain([2, 14]) {
         assert!(ARGUMENTS.iter().any(|row| row.3 == wanted), "{wanted}");
     }
 }
@@ -451,7 +487,12 @@ fn arguments() {
 #[rustfmt::skip]
 const BROKEN: &[(&str, Store)] = &[
     ("R72: two packets in queue 0, J 1",     ROW.but(&[(ACCEPTED, 2), (COUNT, 2)])),
-    ("R72: two packets in queue 1, A 1",     ROW.but(&[(ACCEPTED, 3), (at(0, 1), 2)])),
+    ("R72: nine packets in queue 1, A 1",    ROW.but(&[(ACCEPTED, 10), (at(0, 1), 9)])),
+    ("R89: one of eight chunks and one",     ROW.with(&[(0, 1, arrived(0)), (0, 1, small(1, 0))])),
+    ("R89: four chunks and five",            ROW.with(&[(0, 1, small(4, 0)), (0, 1, small(5, 0))])),
+    ("R89: seven of one chunk and a two",    ROW.with(&SEVEN_AND_TWO)),
+    ("R89: eight of eight chunks",           ROW.with(&[(3, 2, arrived(3)); 8])),
+    ("R89: the same along z",                SHAFT.with(&[(0, 6, small(6, 0)), (0, 6, small(3, 0))])),
     ("R72: three packets in queue 7, E 2",   ROW.but(&[(ACCEPTED, 4), (at(0, 7), 3)])),
     ("R72: cut to 32 bits it is one",        ROW.but(&[(COUNT, CUT + 1)])),
     ("R72: 2^64 - 1 packets",                ROW.but(&[(COUNT, MAX)])),
@@ -460,6 +501,9 @@ const BROKEN: &[(&str, Store)] = &[
     ("R73: behind no packet, queue 1",       ROW.but(&[(at(0, 1) + 1, 1)])),
     ("R73: behind no packet, a high bit",    ROW.but(&[(at(0, 7) + 2, 1 << 63)])),
     ("R73: behind no packet, bit 15",        ROW.but(&[(at(0, 7) + 2, BIT_15)])),
+    ("R73: behind no packet, bit 31",        ROW.but(&[(at(0, 7) + 2, BIT_31)])),
+    ("R73: behind no packet, queue 1's end", ROW.but(&[(at(0, 1) + 8, 1)])),
+    ("R73: behind eight chunks in queue 1",  ROW.with(&[(0, 1, arrived(0))]).but(&[(at(0, 1) + 2, 1)])),
     ("R73: behind no packet, the last word", ROW.but(&[(NEED - 1, 1)])),
     ("R73: behind a packet",                 ROW.with(&[(0, 7, arrived(0))]).but(&[(at(0, 7) + 2, 1)])),
     ("R73: a packet that is not counted",    ROW.but(&[(ACCEPTED, 0), (COUNT, 0)])),
@@ -467,8 +511,13 @@ const BROKEN: &[(&str, Store)] = &[
     ("R87: bit 15 set, at its destination",  ROW.but(&[(HEAD, arrived(0) | BIT_15)])),
     ("R87: bit 15 set, in an escape queue",  ROW.with(&[(0, 7, ON | BIT_15)])),
     ("R87: bit 15 set, to the last node",    ROW.but(&[(HEAD, packet(3, [-1, 0, 0]) | BIT_15)])),
+    ("R88: bit 31 set, one hop left",        ROW.but(&[(HEAD, ON | BIT_31)])),
+    ("R88: bit 31 set, of one chunk",        ROW.but(&[(HEAD, small(1, 0) | BIT_31)])),
+    ("R88: bit 31 set, in an escape queue",  ROW.with(&[(0, 7, ON | BIT_31)])),
+    ("R88: bit 31 set, in an adaptive one",  ROW.with(&[(0, 1, small(1, 0) | BIT_31)])),
+    ("R87, R88: bits 15 and 31 set",         ROW.but(&[(HEAD, ON | BIT_15 | BIT_31)])),
     ("R74: destination 5, which is 1 + X",   ROW.but(&[(HEAD, packet(5, [1, 0, 0]))])),
-    ("R74: destination 65535",               ROW.but(&[(HEAD, packet(65535, [1, 0, 0]))])),
+    ("R74: destination 4095",                ROW.but(&[(HEAD, packet(4095, [1, 0, 0]))])),
     ("R75: one hop to node 2",               ROW.but(&[(HEAD, packet(2, [1, 0, 0]))])),
     ("R75: one hop to its own node",         ROW.but(&[(HEAD, packet(0, [1, 0, 0]))])),
     ("R75: no hop to node 1",                ROW.but(&[(HEAD, packet(1, [0, 0, 0]))])),
@@ -548,6 +597,13 @@ const BROKEN: &[(&str, Store)] = &[
     ("R85: right if cut to 32 bits (D1)",    ROW.but(&[(MOVES, CUT)])),
 ];
 
+/// Eight packets with nine chunks.
+const SEVEN_AND_TWO: [(usize, usize, u64); 8] = {
+    let mut held = [(0, 1, small(1, 0)); 8];
+    held[7].2 = small(2, 0);
+    held
+};
+
 /// Packets that fill an escape queue at two nodes.
 const fn ring(queue: usize, one: usize, other: usize) -> [(usize, usize, u64); 4] {
     let (here, there) = (arrived(one as u64), arrived(other as u64));
@@ -583,9 +639,12 @@ const GOOD: &[(&str, Store)] = &[
     ("the square",                           SQUARE),
     ("the front",                            FRONT),
     ("the side",                             SIDE),
-    ("R72: a packet in queue 1, A 1",        ROW.with(&[(0, 1, arrived(0))])),
+    ("R89: one of eight chunks, A 1",        ROW.with(&[(0, 1, arrived(0))])),
+    ("R89: two of four chunks, A 1",         ROW.with(&[(0, 1, small(4, 0)), (0, 1, small(4, 0))])),
+    ("R72, R89: eight of one chunk, A 1",    ADAPTIVE_EIGHT),
+    ("R27: a slot each in queue 7, E 2",     ROW.with(&[(0, 7, arrived(0)), (0, 7, small(1, 0))])),
     ("R72: two packets in queue 7, E 2",     ROW.with(&[(0, 7, arrived(0)), (0, 7, arrived(0))])),
-    ("R87: all bits around bit 15",          FRONT.but(&[(HEAD, packet_word(CUT - 1, 3, [-1, 0, -1]))])),
+    ("R87: all bits around bit 15",          FRONT.but(&[(HEAD, packet_word(CUT - 1, 8, 3, [-1, 0, -1]))])),
     ("R76: dx 2, half of X",                 ROW.but(&[(HEAD, packet(2, [2, 0, 0]))])),
     ("R76: dx -2, half of X",                ROW.but(&[(HEAD, packet(2, [-2, 0, 0]))])),
     ("R76: dz 2, half of Z",                 SHAFT.but(&[(HEAD, packet(2, [0, 0, 2]))])),
@@ -634,26 +693,36 @@ fn not_refused() {
     let empty = ROW.but(&[(ACCEPTED, 0), (COUNT, 0), (HEAD, 0)]).words();
     let mut rubbish = vec![MAX; NEED];
     rubbish.resize(LENT, BEHIND);
-    let (for_137, for_141) = (make(4, 1, 1, [2, 1, 1]), make(4, 1, 1, [2, 1, 2]));
+    let (for_305, for_309) = (make(4, 1, 1, [2, 1, 1]), make(4, 1, 1, [2, 1, 2]));
     done(
         "R91, R92",
         &rubbish,
         LENT,
-        for_137,
+        for_305,
         [0; 4],
         (&empty, LEDGER),
     );
     done("R101", &empty, LENT, offer(0, 1), [0; 4], (&row, LEDGER));
 
-    // J 2 needs all of the 141 words.
+    // J 2 needs all of the 309 words.
     let mut larger = vec![0; LENT];
     larger[..6].copy_from_slice(&[4, 1, 1, 2, 1, 2]);
-    done("R47", &row, LENT, for_141, [0; 4], (&larger, LEDGER));
+    done("R47", &row, LENT, for_309, [0; 4], (&larger, LEDGER));
 
     // One slot is enough within the ring, where any other head needs two.
     let before = FROM_ESCAPE_ONE.words();
-    let after = ESCAPE_FULL.but(&[(MOVES, 1)]).words();
+    const CAME_BY_ESCAPE: Store = ROW.with(&[(1, 7, small(1, 1)), (1, 7, arrived(1))]);
+    let after = CAME_BY_ESCAPE.but(&[(MOVES, 1)]).words();
     done("R151", &before, LENT, go(0, 7, 7), [0; 4], (&after, LEDGER));
+
+    // One chunk is enough for a packet of one.
+    let before = SEVEN_AND_ONE.words();
+    let out = [1, 0, 0, 0];
+    done("R116", &before, LENT, credit(0, 1), out, (&before, LEDGER));
+    const CAME: Store = ROW.with(&[(1, 1, small(7, 1)), (1, 1, small(1, 1))]);
+    let after = CAME.but(&[(ACCEPTED, 2), (MOVES, 1), (COUNT, 0), (HEAD, 0)]);
+    let after = after.words();
+    done("R150", &before, LENT, go(0, 0, 1), [0; 4], (&after, LEDGER));
 
     // A packet for its own node is handed out.
     let (before, mut book) = (ARRIVED.words(), LEDGER);

@@ -3,6 +3,8 @@
 //! are fixed; the counts are printed; every refusal that a call can give must be
 //! seen.
 
+#[path = "compare/chunks.rs"]
+mod chunks;
 #[path = "compare/drains.rs"]
 mod drains;
 #[path = "compare/kept.rs"]
@@ -15,8 +17,9 @@ mod wave;
 use compare::bench::Call;
 use compare::damage::{one_word, Fault, FAULTS};
 use compare::generate::{any_call, any_drain, any_move, any_sizes, end_node, hostile};
-use compare::generate::{network, packet_word, Fill, Shape, BIT_15, FILLS, OFFSETS, SIDES};
-use compare::generate::{ACCEPTED, DELIVERED, DIMENSIONS, HEADER, MOVES, QUEUES};
+use compare::generate::{network, packet_word, Fill, Shape, ACCEPTED, BIT_15, BIT_31};
+use compare::generate::{DELIVERED, DIMENSIONS, FILLS, HEADER, MOST_CHUNKS, MOVES, OFFSETS};
+use compare::generate::{QUEUES, SIDES};
 use compare::lab::{Lab, REFUSALS};
 use compare::random::Random;
 use std::time::Instant;
@@ -28,8 +31,9 @@ fn main() {
     let start = Instant::now();
     let mut lab = Lab::new();
     println!("compared: {}", lab.names().join("; "));
-    let parts: [Part; 23] = [
+    let parts: [Part; 25] = [
         ("kept cases and listing", kept::all),
+        ("chunks", chunks::all),
         ("the table of routes", routes::every_case),
         ("stores of 0 to 8 words", tiny_stores),
         ("stores too short and too long", short_and_long),
@@ -45,6 +49,7 @@ fn main() {
         ("drains of the largest", drains::largest),
         ("the largest emptied", drains::largest_emptied),
         ("a dump spelt out", wave::spelt_out),
+        ("a queue of 64", wave::sixty_four),
         ("dumps written and read", wave::dumps),
         ("the largest dump", wave::largest_dump),
         ("dumps of bad words", wave::bad_words),
@@ -92,6 +97,7 @@ fn each_call(nodes: u64) -> [Call; 8] {
             node: 0,
             destination: node,
             tag: 9,
+            chunks: 3,
         },
         Call::Move {
             node: 0,
@@ -164,7 +170,7 @@ fn short_and_long(lab: &mut Lab) {
 
 fn every_number(lab: &mut Lab) {
     let mut random = Random::new(3);
-    for round in 0..60 {
+    for round in 0..45 {
         lab.place = format!("every number, round {round}");
         let shape = Shape {
             e: random.between(2, 3),
@@ -173,7 +179,7 @@ fn every_number(lab: &mut Lab) {
             ..Shape::in_round(round, &mut random, 3)
         };
         // More nodes would take long, and show no more.
-        if shape.nodes() > 24 {
+        if shape.nodes() > 18 {
             continue;
         }
         let fill = random.pick(&[Fill::Mixed, Fill::Half, Fill::Full, Fill::Mixed]);
@@ -198,11 +204,11 @@ fn every_number(lab: &mut Lab) {
                 }
             }
             for destination in 0..=shape.nodes() {
-                let tag = random.number() as u32;
                 let call = Call::Offer {
                     node,
                     destination,
-                    tag,
+                    tag: random.number() as u32,
+                    chunks: random.below(10),
                 };
                 lab.try_out(&words, call);
             }
@@ -210,8 +216,8 @@ fn every_number(lab: &mut Lab) {
     }
 }
 
-/// One packet with every offset, at its right destination, with bit 15 and
-/// without it.
+/// One packet with every offset, at its right destination, with bit 15 or bit 31
+/// and without them.
 fn every_offset(lab: &mut Lab) {
     let mut random = Random::new(4);
     for sides in SIDES {
@@ -228,17 +234,22 @@ fn every_offset(lab: &mut Lab) {
             for bits in 0..=OFFSETS | BIT_15 {
                 let offsets = [bits >> 10, bits >> 5, bits].map(|b| (b & 31) as i64);
                 let offsets = offsets.map(|b| if b < 16 { b } else { b - 32 });
-                // Every one where the two others are small, with bit 15 those where
-                // all are, and some besides.
+                // Every one where the two others are small, with a spare bit those
+                // where all are, and some besides.
                 let large = offsets.iter().filter(|offset| offset.abs() > 1).count();
                 let most = if bits & BIT_15 == 0 { 1 } else { 0 };
-                if large > most && bits % 67 != 0 {
+                if large > most && bits % 257 != 0 {
                     continue;
                 }
                 let end = end_node(&shape, node, offsets);
-                words[at + 1] = packet_word(77, end, offsets) | bits & BIT_15;
+                let spare = match bits & BIT_15 {
+                    0 => 0,
+                    _ => random.pick(&[BIT_15, BIT_31]),
+                };
+                let chunks = random.between(1, MOST_CHUNKS);
+                words[at + 1] = packet_word(77, chunks, end, offsets) | spare;
                 let refusal = lab.call(&mut words, Call::Check).refusal;
-                assert!(bits & BIT_15 == 0 || refusal == 3, "{}: bit 15", lab.place);
+                assert!(spare == 0 || refusal == 3, "{}: {spare:x}", lab.place);
             }
         }
     }
@@ -262,7 +273,7 @@ fn random_run(lab: &mut Lab, random: &mut Random, words: &mut Vec<u64>, calls: u
 
 fn never_reached(lab: &mut Lab) {
     let mut random = Random::new(5);
-    for round in 0..3000 {
+    for round in 0..1500 {
         lab.place = format!("never reached, round {round}");
         let most = match round {
             999 => 16,
@@ -316,8 +327,10 @@ fn largest(lab: &mut Lab) {
         let shape = Shape::of(sides, [2, 1, 1]);
         let fill = random.pick(&[Fill::Rare, Fill::Sparse, Fill::Mixed]);
         let mut words = network(&mut random, &shape, fill);
-        lab.passes_and_can_move(&words);
-        for _ in 0..4 {
+        if random.chance(1, 3) {
+            lab.passes_and_can_move(&words);
+        }
+        for _ in 0..2 {
             let call = match any_call(&mut random, &words) {
                 // Drains have a part of their own.
                 Call::Drain { .. } => any_move(&mut random, shape.nodes(), &words),
@@ -368,10 +381,10 @@ fn broken_clauses(lab: &mut Lab) {
 
 fn lists_of_calls(lab: &mut Lab) {
     let mut random = Random::new(8);
-    for round in 0..4000 {
+    for round in 0..2500 {
         lab.place = format!("list of calls, round {round}");
         let most = random.pick(&[1, 2, 3, 4]);
-        let len = random.pick(&[0, 5, 41, 100, 393, 1000, 2000, 3000]);
+        let len = random.pick(&[0, 5, 83, 200, 897, 2500, 5000, 8000]);
         let mut words: Vec<u64> = (0..len).map(|_| random.number()).collect();
         for _ in 0..random.below(80) {
             let in_vain = words.iter().take(DIMENSIONS).any(|side| *side > 16);

@@ -3,20 +3,27 @@
 //! the library is not linked (see build.rs), the model stands in its place.
 
 use compare::bench::{perform, write, Bench, Call, Plain, WaveStep, WaveWriter};
-use compare::generate::{network, Fill, Shape};
-use compare::generate::{ACCEPTED, DELIVERED, DIMENSIONS, MOVES, QUEUES};
+use compare::generate::{network_of, Chunks, Fill, Shape};
+use compare::generate::{ACCEPTED, DELIVERED, DIMENSIONS, MOST_CHUNKS, MOVES, QUEUES};
 use compare::random::Random;
 use std::hint::black_box;
 use std::time::{Duration, Instant};
 
 /// X, Y and Z of the networks. What a move costs may not grow from the first to
-/// the third; the fourth is as large as the largest of two dimensions was.
-const NETWORKS: [[u64; DIMENSIONS]; 4] = [[4, 4, 4], [8, 8, 8], [16, 16, 16], FLAT];
-const FLAT: [u64; DIMENSIONS] = [16, 16, 1];
+/// the third; the fourth is flat.
+const NETWORKS: [[u64; DIMENSIONS]; 4] = [[4, 4, 4], MIDDLE, [16, 16, 16], [16, 16, 1]];
+const MIDDLE: [u64; DIMENSIONS] = [8, 8, 8];
+/// How full they are, of packets of mixed chunks.
 const FILLS: [(&str, Fill); 3] = [
     ("empty", Fill::Empty),
     ("half full", Fill::Half),
     ("full", Fill::Full),
+];
+/// In one network drained moves are held against each other for packets of these
+/// chunks: 64 and 8 of them fill an adaptive queue.
+const EQUAL: [(&str, Chunks); 2] = [
+    ("full of 1", Chunks::Equal(1)),
+    ("full of 8", Chunks::Equal(MOST_CHUNKS)),
 ];
 const CALLS: [&str; 5] = ["Check", "Move", "Offer", "First", "Drain"];
 /// The steps of the waveform, and how many fills have changed since the one
@@ -28,8 +35,8 @@ const STEPS: [(&str, WaveStep, Changed); 4] = [
     ("all changed", WaveStep::Changes, Changed::All),
 ];
 /// Room for every step: the largest has two lines for each of 53,248 queues,
-/// with at most 32 and 12 bytes.
-const PAGE: usize = 120 + 44 * 4096 * QUEUES;
+/// with at most 32 and 15 bytes.
+const PAGE: usize = 120 + 47 * 4096 * QUEUES;
 
 /// A move changes two fills, unless it delivers.
 #[derive(Clone, Copy)]
@@ -59,9 +66,9 @@ struct Case {
 }
 
 impl Case {
-    fn new(sides: [u64; DIMENSIONS], (name, fill): (&'static str, Fill)) -> Case {
+    fn new(sides: [u64; DIMENSIONS], name: &'static str, fill: Fill, chunks: Chunks) -> Case {
         let shape = Shape::of(sides, [8, 8, 8]);
-        let mut words = network(&mut Random::new(sides[0]), &shape, fill);
+        let mut words = network_of(&mut Random::new(sides[0]), &shape, fill, chunks);
         // Counters that never get in the way.
         words[ACCEPTED] -= words[DELIVERED];
         words[DELIVERED] = 0;
@@ -75,10 +82,13 @@ impl Case {
 
     /// Every network with every fill.
     fn all() -> Vec<Case> {
-        let sides = NETWORKS.into_iter();
-        sides
-            .flat_map(|sides| FILLS.map(|fill| Case::new(sides, fill)))
-            .collect()
+        let mixed = |sides| FILLS.map(|(name, fill)| Case::new(sides, name, fill, Chunks::Mixed));
+        NETWORKS.into_iter().flat_map(mixed).collect()
+    }
+
+    /// Full networks of packets that have the same chunks.
+    fn equal() -> [Case; 2] {
+        EQUAL.map(|(name, chunks)| Case::new(MIDDLE, name, Fill::Full, chunks))
     }
 
     /// The sides as a table shows them.
@@ -104,6 +114,7 @@ impl Case {
                 node: 0,
                 destination: self.shape.nodes() / 2 + 1,
                 tag: 7,
+                chunks: 5,
             },
             "First" => Call::First,
             _ => Call::Drain {
@@ -209,7 +220,7 @@ fn shown(time: Duration) -> String {
 
 /// A part of a time that may be less than a nanosecond.
 fn shown_part(time: Duration, parts: u64) -> String {
-    format!("{:.1} ns", time.as_secs_f64() * 1e9 / parts as f64)
+    format!("{:.3} ns", time.as_secs_f64() * 1e9 / parts as f64)
 }
 
 fn ratio(a: Duration, b: Duration) -> f64 {
@@ -230,22 +241,22 @@ fn main() {
     let plain = Plain { simple: false };
     let simple = Plain { simple: true };
     let other = other();
-    let cases = Case::all();
-    let flat = calls(&[&plain, &other], &cases);
-    times_a_node(&[&plain, &other], &flat);
-    drained_moves(&[&plain, &simple, &other], &cases);
+    let (cases, equal) = (Case::all(), Case::equal());
+    let empty = calls(&[&plain, &other], &cases);
+    times_a_word(&[&plain, &other], &empty);
+    drained_moves(&[&plain, &simple, &other], &cases, &equal);
     steps(&[&plain, &other], &cases);
 }
 
-/// The calls. Gives the times on the flat network of those that do not go from
-/// move to move, each with what was called and with how full it was.
-fn calls(benches: &[&dyn Bench], cases: &[Case]) -> Vec<(String, Vec<Duration>)> {
+/// The calls. Gives the times of Check on the empty networks.
+fn calls<'a>(benches: &[&dyn Bench], cases: &'a [Case]) -> Vec<(&'a Case, Vec<Duration>)> {
     let name = benches[1].name();
-    println!("Medians of calls on networks with 8 slots in every queue. The ratio is");
-    println!("{name} to plain. A number in brackets is the refusal that was the answer.\n");
+    println!("Medians of calls on networks with 8 slots in every queue and packets of 1 to 8");
+    println!("chunks. The ratio is {name} to plain. A number in brackets is the refusal that");
+    println!("was the answer.\n");
     println!("| Call | Nodes | Fill | plain | {name} | ratio | samples |");
     println!("|---|---|---|---|---|---|---|");
-    let mut flat = Vec::new();
+    let mut empty = Vec::new();
     for call_name in CALLS {
         for case in cases {
             if call_name == "Drain" && !case.is_emptied_by(benches[1]) {
@@ -266,36 +277,28 @@ fn calls(benches: &[&dyn Bench], cases: &[Case]) -> Vec<(String, Vec<Duration>)>
                 ratio(b, a),
                 measured.samples
             );
-            if case.shape.sides == FLAT && call_name != "Drain" {
-                let what = format!("{call_name}{refused} | {}", case.fill);
-                flat.push((what, measured.times));
+            if case.fill == "empty" && call_name == "Check" {
+                empty.push((case, measured.times));
             }
         }
     }
-    flat
+    empty
 }
 
-/// The times on the flat network, node by node, to be held against those of
-/// two dimensions.
-fn times_a_node(benches: &[&dyn Bench], flat: &[(String, Vec<Duration>)]) {
+/// The times of Check on empty networks, word by word: these depend least on how
+/// many words a queue has.
+fn times_a_word(benches: &[&dyn Bench], empty: &[(&Case, Vec<Duration>)]) {
     let [plain, other] = [benches[0], benches[1]].map(|bench| bench.name());
-    let [x, y, z] = FLAT;
-    let nodes = x * y * z;
-    println!("\nThe calls on {x} × {y} × {z} again: the time for one of its {nodes} nodes, and");
-    println!("for one of the {QUEUES} queues of a node. A network of {x} × {y} in two dimensions");
-    println!("had as many nodes, with 9 queues each.\n");
-    println!(
-        "| Call | Fill | {plain}, a node | {other}, a node | {plain}, a queue | {other}, a queue |"
-    );
-    println!("|---|---|---|---|---|---|");
-    for (what, times) in flat {
-        let queues = nodes * QUEUES as u64;
+    println!("\nCheck of an empty network again: the time for one of its words.\n");
+    println!("| Nodes | Words | {plain}, a word | {other}, a word |");
+    println!("|---|---|---|---|");
+    for (case, times) in empty {
+        let words = case.words.len() as u64;
         println!(
-            "| {what} | {} | {} | {} | {} |",
-            shown_part(times[0], nodes),
-            shown_part(times[1], nodes),
-            shown_part(times[0], queues),
-            shown_part(times[1], queues),
+            "| {} | {words} | {} | {} |",
+            case.nodes(),
+            shown_part(times[0], words),
+            shown_part(times[1], words),
         );
     }
 }
@@ -360,10 +363,13 @@ impl Emptying<'_> {
     }
 }
 
-/// Every full network with every implementation that empties it.
-fn emptyings<'a>(benches: &[&'a dyn Bench], cases: &'a [Case]) -> Vec<Emptying<'a>> {
+/// Every network with every implementation that empties it.
+fn emptyings<'a>(
+    benches: &[&'a dyn Bench],
+    cases: impl Iterator<Item = &'a Case>,
+) -> Vec<Emptying<'a>> {
     let mut list = Vec::new();
-    for case in cases.iter().filter(|case| case.fill == "full") {
+    for case in cases {
         let (mut store, mut ledger) = (case.words.clone(), case.words.clone());
         let (_, [moves, ..]) = benches[0].drain(&mut store, u32::MAX, &mut ledger);
         let able = benches.iter().filter(|bench| case.is_emptied_by(**bench));
@@ -376,30 +382,38 @@ fn emptyings<'a>(benches: &[&'a dyn Bench], cases: &'a [Case]) -> Vec<Emptying<'
     list
 }
 
-/// The cost of one drained move in small and large networks, all full. They are
-/// all measured in turns, so that networks too can be compared.
-fn drained_moves(benches: &[&dyn Bench], cases: &[Case]) {
-    println!("\nOne move of a drain that empties a full network, all of them in turns. Wanted");
-    println!("is at most 2 in the last column but one, for 16 × 16 × 16. A drain that");
-    println!("searches from node 0 before every move is left out of networks with more than");
-    println!("{MOST_TO_SEARCH} nodes.\n");
-    println!("| Drain | Nodes | Moves | Whole drain | One move | to plain | to its own 4 × 4 × 4 | samples |");
-    println!("|---|---|---|---|---|---|---|---|");
-    let list = emptyings(benches, cases);
+/// The cost of one drained move in small and large networks, all full, and in one
+/// that is full of small packets beside the same full of large ones. They are all
+/// measured in turns, so that networks too can be compared.
+fn drained_moves<'a>(benches: &[&'a dyn Bench], cases: &'a [Case], equal: &'a [Case]) {
+    println!("\nOne move of a drain that empties a full network, all of them in turns. Wanted is");
+    println!("at most 2 in the column `to its own 4 × 4 × 4` for 16 × 16 × 16, and at most 2 in");
+    println!("the next, which holds 8 × 8 × 8 full of packets of 1 chunk against the same full");
+    println!("of packets of 8. A drain that searches from node 0 before every move is left out");
+    println!("of networks with more than {MOST_TO_SEARCH} nodes.\n");
+    println!("| Drain | Nodes | Fill | Moves | Whole drain | One move | to plain | to its own 4 × 4 × 4 | to its own full of 8 | samples |");
+    println!("|---|---|---|---|---|---|---|---|---|---|");
+    let full = cases.iter().filter(|case| case.fill == "full");
+    let list = emptyings(benches, full.chain(equal));
     let Measured { times, samples, .. } = in_turns(list.len(), |index| (list[index].sample(), 0));
     let one_move = |index: usize| times[index] / list[index].moves as u32;
     for (index, Emptying { bench, case, moves }) in list.iter().enumerate() {
+        let to = |wanted: &dyn Fn(&Emptying) -> bool| {
+            let other = list.iter().position(wanted);
+            other.map(|other| ratio(one_move(index), one_move(other)))
+        };
         // Plain is the first in each network, and each is first in the smallest.
-        let in_plain = list.iter().position(|e| e.case.nodes() == case.nodes());
-        let in_smallest = list.iter().position(|e| e.bench.name() == bench.name());
-        let [to_plain, to_smallest] = [in_plain, in_smallest].map(|first| {
-            let first = first.expect("it is in the list itself");
-            ratio(one_move(index), one_move(first))
-        });
+        let own = |e: &Emptying| e.bench.name() == bench.name();
+        let to_plain = to(&|e| e.case.nodes() == case.nodes() && e.case.fill == case.fill);
+        let to_smallest = to(&own);
+        let to_large = to(&|e| own(e) && case.fill != "full" && e.case.fill == "full of 8");
+        let [to_plain, to_smallest, to_large] = [to_plain, to_smallest, to_large]
+            .map(|ratio| ratio.map_or("-".into(), |ratio| format!("{ratio:.2}")));
         println!(
-            "| {} | {} | {moves} | {} | {} | {to_plain:.2} | {to_smallest:.2} | {samples} |",
+            "| {} | {} | {} | {moves} | {} | {} | {to_plain} | {to_smallest} | {to_large} | {samples} |",
             bench.name(),
             case.nodes(),
+            case.fill,
             shown(times[index]),
             shown(one_move(index)),
         );

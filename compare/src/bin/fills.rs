@@ -45,9 +45,15 @@ impl Replay {
                 node,
                 destination,
                 tag,
+                chunks,
             } => {
                 let (node, destination) = (node.into(), destination.into());
-                if self.bench.offer(&mut self.store, node, destination, tag) == 0 {
+                let store = &mut self.store;
+                if self
+                    .bench
+                    .offer(store, node, destination, tag, chunks.into())
+                    == 0
+                {
                     self.tell();
                 }
             }

@@ -11,6 +11,8 @@ use std::iter;
 #[derive(Clone, Debug, PartialEq, Eq)]
 pub struct Packet {
     pub tag: u32,
+    /// 1 to 8.
+    pub chunks: usize,
     pub destination: usize,
     pub offsets: [i32; DIMENSIONS],
 }
@@ -77,6 +79,15 @@ impl Kind {
             Kind::Adaptive(direction) | Kind::Escape(direction) => Some(direction),
         }
     }
+
+    /// The chunks that a packet takes of a queue of this kind: in an adaptive queue
+    /// its own, in every other it counts as if it had all eight.
+    fn chunks_of(self, packet: &Packet) -> usize {
+        match self {
+            Kind::Adaptive(_) => packet.chunks,
+            Kind::Injection | Kind::Escape(_) => MOST_CHUNKS,
+        }
+    }
 }
 
 /// Where a head may go: out of the network, or to a neighbour's queue.
@@ -122,7 +133,11 @@ pub fn routes(kind: Kind, head: &Packet) -> impl Iterator<Item = Output> + '_ {
     adaptive.chain(iter::once(escape.map_or(Output::Delivery, Output::Escape)))
 }
 
-/// Slots of each kind of queue, the same at every node.
+/// The chunks of the largest packet, which are those of a slot too: a slot has
+/// room for any packet.
+pub const MOST_CHUNKS: usize = 8;
+
+/// Slots of each kind of queue, E, A and J, the same at every node.
 #[derive(Clone, Copy, Debug, PartialEq, Eq)]
 pub struct Capacities {
     pub escape: usize,
@@ -131,11 +146,26 @@ pub struct Capacities {
 }
 
 impl Capacities {
-    pub fn of(&self, kind: Kind) -> usize {
+    fn slots(&self, kind: Kind) -> usize {
         match kind {
             Kind::Injection => self.injection,
             Kind::Adaptive(_) => self.adaptive,
             Kind::Escape(_) => self.escape,
+        }
+    }
+
+    /// The chunks that a queue has room for. Every queue is counted in chunks
+    /// here, so that there is one rule of flow.
+    pub fn chunks(&self, kind: Kind) -> usize {
+        MOST_CHUNKS * self.slots(kind)
+    }
+
+    /// The words of a queue for packets: as many as the most packets that it can
+    /// hold, which in an adaptive queue are packets of one chunk.
+    pub fn words(&self, kind: Kind) -> usize {
+        match kind {
+            Kind::Adaptive(_) => self.chunks(kind),
+            _ => self.slots(kind),
         }
     }
 }
@@ -199,8 +229,16 @@ impl Network {
         })
     }
 
-    pub fn free_slots(&self, node: usize, kind: Kind) -> usize {
-        self.capacities.of(kind) - self.nodes[node].queues[kind.number()].len()
+    /// The chunks of a queue that its packets take.
+    pub fn taken(&self, node: usize, kind: Kind) -> usize {
+        let packets = self.nodes[node].queues[kind.number()].iter();
+        packets.map(|packet| kind.chunks_of(packet)).sum()
+    }
+
+    /// The chunks of a queue that are free. In a network no queue has taken more
+    /// than it has.
+    pub fn free(&self, node: usize, kind: Kind) -> usize {
+        self.capacities.chunks(kind) - self.taken(node, kind)
     }
 
     /// The queue that an output leads to: at the neighbour in its direction.
@@ -212,24 +250,25 @@ impl Network {
         }
     }
 
-    /// The flow rule: how many free slots the target must have.
-    fn slots_needed(from: Kind, to: Kind) -> usize {
-        match to {
-            Kind::Escape(_) if from != to => 2,
-            _ => 1,
-        }
-    }
-
-    /// Whether the target of a route has the slots that the rule wants: 11, 12.
-    fn judge_slots(&self, node: usize, from: Kind, output: Output) -> Result<(), Refusal> {
+    /// Whether the target of a route has the room that the flow rule wants: 11 if
+    /// the head does not fit there, 12 if it does, but would enter an escape ring
+    /// and leave no slot behind it.
+    fn judge_room(
+        &self,
+        node: usize,
+        from: Kind,
+        head: &Packet,
+        output: Output,
+    ) -> Result<(), Refusal> {
         let Some((neighbour, to)) = self.target(node, output) else {
             return Ok(());
         };
-        let free = self.free_slots(neighbour, to);
-        if free == 0 {
+        let (free, wanted) = (self.free(neighbour, to), to.chunks_of(head));
+        if free < wanted {
             return Err(Refusal::NoSlot);
         }
-        if free < Network::slots_needed(from, to) {
+        let enters_ring = matches!(to, Kind::Escape(_)) && from != to;
+        if enters_ring && free < wanted + MOST_CHUNKS {
             return Err(Refusal::NoBubble);
         }
         Ok(())
@@ -246,7 +285,7 @@ impl Network {
         if routes(from, head).all(|route| route != output) {
             return Err(Refusal::NotItsWay);
         }
-        self.judge_slots(step.node, from, output)
+        self.judge_room(step.node, from, head, output)
     }
 
     /// Makes a permitted move. A delivery hands out the packet.
@@ -276,7 +315,7 @@ impl Network {
                     continue;
                 };
                 let from = Kind::of(queue);
-                let open = |route: &Output| self.judge_slots(node, from, *route).is_ok();
+                let open = |route: &Output| self.judge_room(node, from, head, *route).is_ok();
                 if let Some(route) = routes(from, head).find(open) {
                     let output = route.number();
                     return Some(Step {
@@ -308,10 +347,11 @@ impl Network {
     }
 
     /// R101: the new packet becomes the newest of the node's queue 0.
-    pub fn inject(&mut self, node: usize, destination: usize, tag: u32) {
+    pub fn inject(&mut self, node: usize, destination: usize, tag: u32, chunks: usize) {
         let offsets = self.torus.offsets(node, destination);
         self.nodes[node].queues[0].push_back(Packet {
             tag,
+            chunks,
             destination,
             offsets,
         });

@@ -2,7 +2,7 @@
 //! that may be anything, and the way back.
 
 use super::geometry::{Torus, DIMENSIONS, DIRECTIONS};
-use super::network::{Capacities, Kind, Network, Packet, QUEUES};
+use super::network::{Capacities, Kind, Network, Packet, MOST_CHUNKS, QUEUES};
 use super::Refusal;
 
 /// X, Y, Z, E, A, J, accepted, delivered, moves made.
@@ -44,9 +44,9 @@ impl Sizes {
         })
     }
 
-    /// The words of one queue: the number held, then the slots.
+    /// The words of one queue: the number held, then those for packets.
     fn queue_words(&self, queue: usize) -> usize {
-        1 + self.capacities.of(Kind::of(queue))
+        1 + self.capacities.words(Kind::of(queue))
     }
 
     fn node_words(&self) -> usize {
@@ -71,13 +71,20 @@ const OFFSET_VALUES: u64 = 32;
 /// What the offset of each dimension is multiplied by in a packet word.
 const OFFSET_UNITS: [u64; DIMENSIONS] = [1 << 10, 1 << 5, 1];
 
-/// Bit 15, between the destination and the offsets. No packet has it.
-const NO_PART_OF_A_PACKET: u64 = 1 << 15;
+/// What the destination, and the chunks minus one, are multiplied by, and how
+/// many values each can have.
+const DESTINATION: (u64, u64) = (1 << 16, 1 << 12);
+const CHUNKS: (u64, u64) = (1 << 28, MOST_CHUNKS as u64);
+
+/// Bit 15, between the destination and the offsets, and bit 31, between the tag
+/// and the chunks. No packet has one of them.
+const NO_PART_OF_A_PACKET: u64 = 1 << 15 | 1 << 31;
 
 fn packet_from_word(word: u64) -> Option<Packet> {
     if word & NO_PART_OF_A_PACKET != 0 {
         return None;
     }
+    let [destination, chunks] = [DESTINATION, CHUNKS].map(|(unit, values)| word / unit % values);
     let offsets = OFFSET_UNITS.map(|unit| {
         let field = (word / unit % OFFSET_VALUES) as i32;
         let values = OFFSET_VALUES as i32;
@@ -90,7 +97,8 @@ fn packet_from_word(word: u64) -> Option<Packet> {
     });
     Some(Packet {
         tag: (word >> 32) as u32,
-        destination: (word >> 16) as u16 as usize,
+        chunks: chunks as usize + 1,
+        destination: destination as usize,
         offsets,
     })
 }
@@ -99,7 +107,8 @@ pub fn packet_to_word(packet: &Packet) -> u64 {
     let field = |offset: i32| offset.rem_euclid(OFFSET_VALUES as i32) as u64;
     let fields = packet.offsets.iter().zip(OFFSET_UNITS);
     ((packet.tag as u64) << 32)
-        + ((packet.destination as u64) << 16)
+        + (packet.chunks as u64 - 1) * CHUNKS.0
+        + packet.destination as u64 * DESTINATION.0
         + fields
             .map(|(offset, unit)| field(*offset) * unit)
             .sum::<u64>()
@@ -123,14 +132,14 @@ pub fn decode(words: &[u64]) -> Result<Network, Refusal> {
     let mut next = || rest.next().expect("the store was measured");
     for node in &mut network.nodes {
         for (queue, packets) in node.queues.iter_mut().enumerate() {
-            let capacity = sizes.capacities.of(Kind::of(queue));
+            let most = sizes.capacities.words(Kind::of(queue));
             let held = next();
-            if held > capacity as u64 {
+            if held > most as u64 {
                 return Err(Refusal::NoNetwork);
             }
-            for slot in 0..capacity {
+            for place in 0..most {
                 let word = next();
-                if (slot as u64) < held {
+                if (place as u64) < held {
                     let packet = packet_from_word(word).ok_or(Refusal::NoNetwork)?;
                     packets.push_back(packet);
                 } else if word != 0 {
@@ -162,7 +171,7 @@ pub fn encode(network: &Network, words: &mut [u64]) {
     ]);
     for node in &network.nodes {
         for (queue, packets) in node.queues.iter().enumerate() {
-            let end = list.len() + 1 + capacities.of(Kind::of(queue));
+            let end = list.len() + 1 + capacities.words(Kind::of(queue));
             list.push(packets.len() as u64);
             list.extend(packets.iter().map(packet_to_word));
             list.resize(end, 0);
@@ -171,13 +180,21 @@ pub fn encode(network: &Network, words: &mut [u64]) {
     words[..list.len()].copy_from_slice(&list);
 }
 
-/// The clauses of the check that speak of packets, rings and counters.
+/// The clauses of the check that speak of packets, queues, rings and counters.
 fn is_lawful(network: &Network) -> bool {
     network
         .packets()
         .all(|(node, kind, packet)| is_well_placed(&network.torus, node, kind, packet))
+        && every_queue_has_room(network)
         && every_ring_has_a_free_slot(network)
         && counters_agree(network)
+}
+
+/// No queue has more chunks in it than it has room for.
+fn every_queue_has_room(network: &Network) -> bool {
+    let has_room =
+        |node: usize, kind: Kind| network.taken(node, kind) <= network.capacities.chunks(kind);
+    (0..network.torus.nodes()).all(|node| (0..QUEUES).all(|queue| has_room(node, Kind::of(queue))))
 }
 
 fn is_well_placed(torus: &Torus, node: usize, kind: Kind, packet: &Packet) -> bool {
@@ -211,7 +228,7 @@ fn is_well_placed(torus: &Torus, node: usize, kind: Kind, packet: &Packet) -> bo
 
 fn every_ring_has_a_free_slot(network: &Network) -> bool {
     DIRECTIONS.iter().all(|direction| {
-        let has_room = |node: &usize| network.free_slots(*node, Kind::Escape(*direction)) > 0;
+        let has_room = |node: &usize| network.free(*node, Kind::Escape(*direction)) > 0;
         let mut rings = network.torus.rings(direction.dimension());
         rings.all(|ring| ring.iter().any(has_room))
     })

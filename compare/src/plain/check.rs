@@ -1,8 +1,8 @@
 //! The check, which every call begins with: one pass over the words, and then a
 //! look at the rings.
 
-use super::{destination, direction_of, offsets, Layout, DIMENSIONS, FIRST_ESCAPE, HEADER};
-use super::{MAX_SIDE, MAX_WORK, NO_NETWORK, QUEUES, SHORT_STORE, UNUSED_BIT, WRONG_SIZE};
+use super::{direction_of, load, offsets, Layout, DIMENSIONS, FIRST_ESCAPE, HEADER, MAX_SIDE};
+use super::{MAX_WORK, NO_NETWORK, QUEUES, SHORT_STORE, UNUSED_BITS, WRONG_SIZE};
 use std::array;
 
 /// x, y and z of a node, each counted on from the size: see `rounds` below.
@@ -32,10 +32,16 @@ fn limits(layout: &Layout, queue: usize, dimension: usize) -> (i8, i8) {
 struct Packets {
     /// The lowest and the highest lawful offset of each dimension in each queue.
     limits: [[(i8, i8); DIMENSIONS]; QUEUES],
-    /// What each coordinate adds to the number of a node, for three times round
-    /// each dimension: from the middle one a packet's hops lead to none beyond.
-    rounds: [[u16; 3 * MAX_SIDE]; DIMENSIONS],
+    /// What each coordinate adds to the number of a node, at the place of a packet's
+    /// destination, for three times round each dimension: from the middle one a
+    /// packet's hops lead to none beyond.
+    rounds: [[u64; 3 * MAX_SIDE]; DIMENSIONS],
 }
+
+/// The bits of a packet's destination, and those that are 0 in every packet.
+const FIXED: u64 = DESTINATION | UNUSED_BITS;
+const DESTINATION: u64 = 0xfff << DESTINATION_SHIFT;
+const DESTINATION_SHIFT: u32 = 16;
 
 impl Packets {
     fn new(layout: &Layout) -> Packets {
@@ -43,7 +49,7 @@ impl Packets {
         for (d, rounds) in rounds.iter_mut().enumerate() {
             for round in rounds.chunks_exact_mut(layout.side[d]) {
                 for (coordinate, part) in round.iter_mut().enumerate() {
-                    *part = (coordinate * layout.step[d]) as u16;
+                    *part = ((coordinate * layout.step[d]) as u64) << DESTINATION_SHIFT;
                 }
             }
         }
@@ -66,7 +72,7 @@ impl Packets {
         for d in 0..DIMENSIONS {
             end += self.rounds[d][place[d].wrapping_add_signed(offsets[d] as isize)];
         }
-        if destination(word) != end || word & UNUSED_BIT != 0 {
+        if word & FIXED != end {
             return None;
         }
         Some(offsets.iter().map(|offset| offset.unsigned_abs()).sum())
@@ -138,6 +144,9 @@ fn node_is_lawful(
                 return false;
             };
             sums.hops += hops as u64;
+        }
+        if load(queue, words) > slots.len() {
+            return false;
         }
         sums.held += count;
     }

@@ -3,7 +3,8 @@
 
 use super::check::open;
 use super::first::{permitted, search, Step};
-use super::{carry_out, direction_of, Layout, DIRECTIONS, MAX_NODES, QUEUES};
+use super::{carry_out, direction_of, is_adaptive, load, load_in, Layout};
+use super::{DIRECTIONS, FIRST_ESCAPE, MAX_NODES, QUEUES};
 use std::array;
 
 const EMPTIED: u64 = 0;
@@ -71,9 +72,59 @@ impl Map {
     }
 }
 
+/// The loads of the adaptive queues, direction by direction, so that a drain
+/// does not add up what the packets of a queue take.
+struct Loads([[u8; DIRECTIONS]; MAX_NODES]);
+
+impl Loads {
+    fn new(words: &[u64], layout: &Layout) -> Loads {
+        let mut loads = [[0; DIRECTIONS]; MAX_NODES];
+        for (node, loads) in loads.iter_mut().enumerate().take(layout.nodes()) {
+            for queue in 1..FIRST_ESCAPE {
+                let at = layout.at(node, queue);
+                loads[queue - 1] = load(queue, &words[at..]) as u8;
+            }
+        }
+        Loads(loads)
+    }
+
+    /// A packet has left a queue, or come into one.
+    fn left(&mut self, node: usize, queue: usize, packet: u64) {
+        if is_adaptive(queue) {
+            self.0[node][queue - 1] -= load_in(queue, packet) as u8;
+        }
+    }
+
+    fn came(&mut self, node: usize, queue: usize, packet: u64) {
+        if is_adaptive(queue) {
+            self.0[node][queue - 1] += load_in(queue, packet) as u8;
+        }
+    }
+}
+
+/// What a search sees of a network.
+struct View<'a> {
+    words: &'a [u64],
+    map: &'a Map,
+    loads: &'a Loads,
+}
+
+impl View<'_> {
+    /// How much is free of the queue that an output from 1 on leads to.
+    fn free(&self, node: usize, output: usize) -> usize {
+        let beyond = self.map.beyond(node, output);
+        let taken = if is_adaptive(output) {
+            self.loads.0[beyond][output - 1] as usize
+        } else {
+            self.words[self.map.layout.at(beyond, output)] as usize
+        };
+        self.map.layout.cap[output] - taken
+    }
+}
+
 /// A way to find First's move again and again.
 trait Search {
-    fn next(&mut self, words: &[u64], map: &Map) -> Option<Step>;
+    fn next(&mut self, view: View) -> Option<Step>;
 
     /// Told after a hop; `to` is the node of the target.
     fn hopped(&mut self, map: &Map, step: Step, to: usize);
@@ -91,6 +142,7 @@ fn run(
     ledger: &mut [u64],
     mut search: impl Search,
 ) -> [u64; 3] {
+    let mut loads = Loads::new(words, &map.layout);
     let mut moves = 0;
     let mut delivered = 0;
     let stop = loop {
@@ -100,11 +152,17 @@ fn run(
         if moves == budget {
             break SPENT;
         }
+        let view = View {
+            words: &*words,
+            map,
+            loads: &loads,
+        };
         let step = search
-            .next(words, map)
+            .next(view)
             .expect("a move is permitted while anything is held");
         let (node, queue, output) = step;
         let source = map.layout.at(node, queue);
+        let head = words[source + 1];
         if output == 0 {
             let Some(place) = ledger.get_mut(delivered) else {
                 break FULL;
@@ -116,8 +174,10 @@ fn run(
         } else {
             let to = map.beyond(node, output);
             carry_out(words, source, output, map.layout.at(to, output));
+            loads.came(to, output, head);
             search.hopped(map, step, to);
         }
+        loads.left(node, queue, head);
         moves += 1;
     };
     [moves as u64, delivered as u64, stop]
@@ -127,8 +187,9 @@ fn run(
 struct FromNodeZero;
 
 impl Search for FromNodeZero {
-    fn next(&mut self, words: &[u64], map: &Map) -> Option<Step> {
-        search(words, &map.layout, |node, output| map.beyond(node, output))
+    fn next(&mut self, view: View) -> Option<Step> {
+        let free = |node, output| view.free(node, output);
+        search(view.words, &view.map.layout, free)
     }
 
     fn hopped(&mut self, _: &Map, _: Step, _: usize) {}
@@ -137,7 +198,7 @@ impl Search for FromNodeZero {
 }
 
 /// The heads that may have a permitted move. A head outside the set has none:
-/// it was looked at without success, and no slot it waits for became free.
+/// it was looked at without success, and nothing it waits for became free.
 struct Candidates {
     /// One bit for each group of 64 nodes that has a candidate.
     groups: u64,
@@ -190,8 +251,8 @@ impl Candidates {
         Some((node, queue))
     }
 
-    /// The source has a new head, and one more free slot: that slot is a
-    /// target for the heads of the node behind it, seen in its direction.
+    /// The source has a new head, and more of it is free: it is a target for the
+    /// heads of the node behind it, seen in its direction.
     fn left(&mut self, map: &Map, node: usize, queue: usize) {
         self.add(node, 1 << queue);
         if queue != 0 {
@@ -202,11 +263,11 @@ impl Candidates {
 }
 
 impl Search for Candidates {
-    fn next(&mut self, words: &[u64], map: &Map) -> Option<Step> {
+    fn next(&mut self, view: View) -> Option<Step> {
+        let free = |node, output| view.free(node, output);
         loop {
             let (node, queue) = self.lowest()?;
-            let beyond = |node, output| map.beyond(node, output);
-            if let Some(output) = permitted(words, &map.layout, beyond, node, queue) {
+            if let Some(output) = permitted(view.words, &view.map.layout, free, node, queue) {
                 return Some((node, queue, output));
             }
             self.remove(node, queue);

@@ -2,18 +2,18 @@
 //! output, and the search from node 0 on.
 
 use super::check::open;
-use super::{flow, routes, Layout, NONE, QUEUES};
+use super::{flow, load, routes, Layout, NONE, QUEUES};
 
 /// A move: node, queue, output.
 pub(super) type Step = (usize, usize, usize);
 
-/// The first permitted output of one head; `beyond` tells the node that an
-/// output leads to.
+/// The first permitted output of one head; `free` tells how much is free of the
+/// queue that an output from 1 on of a node leads to.
 #[inline(always)]
 pub(super) fn permitted(
     words: &[u64],
     layout: &Layout,
-    beyond: impl Fn(usize, usize) -> usize,
+    free: impl Fn(usize, usize) -> usize,
     node: usize,
     queue: usize,
 ) -> Option<usize> {
@@ -21,15 +21,13 @@ pub(super) fn permitted(
     if words[source] == 0 {
         return None;
     }
-    routes(queue, words[source + 1])
+    let head = words[source + 1];
+    routes(queue, head)
         .into_iter()
         .find(|&output| match output {
             0 => true,
             NONE => false,
-            _ => {
-                let target = layout.at(beyond(node, output), output);
-                flow(queue, output, layout.cap[output] - words[target] as usize) == 0
-            }
+            _ => flow(queue, output, head, free(node, output)) == 0,
         })
 }
 
@@ -37,11 +35,11 @@ pub(super) fn permitted(
 pub(super) fn search(
     words: &[u64],
     layout: &Layout,
-    beyond: impl Fn(usize, usize) -> usize,
+    free: impl Fn(usize, usize) -> usize,
 ) -> Option<Step> {
     for node in 0..layout.nodes() {
         for queue in 0..QUEUES {
-            if let Some(output) = permitted(words, layout, &beyond, node, queue) {
+            if let Some(output) = permitted(words, layout, &free, node, queue) {
                 return Some((node, queue, output));
             }
         }
@@ -56,9 +54,12 @@ pub fn first(words: &[u64]) -> (u64, [u64; 4]) {
         Ok((_, 0)) => return (0, [0; 4]),
         Ok((layout, _)) => layout,
     };
-    // One search is too short to be worth a table of neighbours.
-    let beyond = |node, output| layout.beyond(node, output);
-    match search(words, &layout, beyond) {
+    // One search is too short to be worth tables of neighbours and loads.
+    let free = |node, output| {
+        let target = layout.at(layout.beyond(node, output), output);
+        layout.cap[output] - load(output, &words[target..])
+    };
+    match search(words, &layout, free) {
         None => (0, [0; 4]),
         Some((node, queue, output)) => (0, [1, node as u64, queue as u64, output as u64]),
     }

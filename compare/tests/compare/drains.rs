@@ -2,7 +2,8 @@
 //! fullest networks.
 
 use compare::bench::Call;
-use compare::generate::{network, Fill, Shape, ACCEPTED, DELIVERED, FILLS, SIDES};
+use compare::generate::{network, network_of, Chunks, Fill, Shape};
+use compare::generate::{ACCEPTED, DELIVERED, FILLS, SIDES};
 use compare::lab::Lab;
 use compare::random::Random;
 
@@ -24,6 +25,7 @@ pub fn move_by_move(lab: &mut Lab) {
 }
 
 const MOST_SLOTS: [u64; 3] = [8, 8, 8];
+const SOME_SLOTS: [u64; 3] = [5, 2, 4];
 const FEWEST_SLOTS: [u64; 3] = [2, 1, 1];
 
 /// Networks that are as full as the check allows, emptied.
@@ -31,10 +33,15 @@ pub fn full(lab: &mut Lab) {
     let mut random = Random::new(10);
     let long = [[16, 1, 1], [1, 16, 1], [1, 1, 16]];
     for sides in SIDES.into_iter().chain(long) {
-        for slots in [MOST_SLOTS, FEWEST_SLOTS] {
+        // 64 packets in each adaptive queue of many nodes would take long.
+        let nodes: u64 = sides.iter().product();
+        let most = if nodes > 8 { SOME_SLOTS } else { MOST_SLOTS };
+        for slots in [most, FEWEST_SLOTS] {
             lab.place = format!("full drain, {sides:?}, {slots:?}");
             let shape = Shape::of(sides, slots);
-            drain_at_once(lab, network(&mut random, &shape, Fill::Full));
+            for chunks in [Chunks::Equal(1), Chunks::Equal(8), Chunks::Odd] {
+                drain_at_once(lab, network_of(&mut random, &shape, Fill::Full, chunks));
+            }
             drain_at_once(lab, network(&mut random, &shape, Fill::Mixed));
             let words = network(&mut random, &shape, Fill::Half);
             drain_in_pieces(lab, &mut random, words);
@@ -42,10 +49,11 @@ pub fn full(lab: &mut Lab) {
     }
     // Large ones: before every move some drains search from node 0, which takes
     // long there.
-    for sides in [[4, 4, 4], [16, 16, 1], [16, 1, 5], [1, 8, 16], [8, 6, 4]] {
+    for sides in [[4, 4, 4], [16, 8, 1], [16, 1, 5], [1, 5, 16], [4, 6, 4]] {
         lab.place = format!("full drain, {sides:?}");
         let shape = Shape::of(sides, FEWEST_SLOTS);
-        drain_at_once(lab, network(&mut random, &shape, Fill::Full));
+        let words = network_of(&mut random, &shape, Fill::Full, Chunks::Mixed);
+        drain_at_once(lab, words);
     }
 }
 
@@ -67,13 +75,18 @@ pub fn largest(lab: &mut Lab) {
     }
 }
 
-/// The fullest networks of 512 and of 4,096 nodes emptied, by those who can.
+/// The fullest networks of 216, 512 and 4,096 nodes emptied, by those who can.
 pub fn largest_emptied(lab: &mut Lab) {
     let mut random = Random::new(17);
-    for (sides, slots) in [([8; 3], MOST_SLOTS), ([16; 3], FEWEST_SLOTS)] {
-        lab.place = format!("{sides:?} with {slots:?} slots, emptied");
+    for (sides, slots, chunks) in [
+        ([8; 3], MOST_SLOTS, Chunks::Mixed),
+        ([6; 3], MOST_SLOTS, Chunks::Equal(1)),
+        ([16; 3], FEWEST_SLOTS, Chunks::Odd),
+    ] {
+        lab.place = format!("{sides:?} with {slots:?} slots, emptied, {chunks:?}");
         let shape = Shape::of(sides, slots);
-        lab.empty_a_large_one(&network(&mut random, &shape, Fill::Full));
+        let words = network_of(&mut random, &shape, Fill::Full, chunks);
+        lab.empty_a_large_one(&words);
     }
 }
 

@@ -1,12 +1,13 @@
-//! The kept cases (R281 to R298, R361 to R380), the listing (R257) and the
+//! The kept cases (R281 to R298, R361 to R380, R388), the listing (R257) and the
 //! misreadings (R301 to R309, R500, R501), with the numbers that RULES gives, and others
-//! beside them. The numbers were worked out here once more.
+//! beside them. The numbers were worked out here once more. A packet has one
+//! chunk where nothing is said; the cases about chunks are in chunks.rs.
 
 use compare::bench::Call;
 use compare::equations::label;
-use compare::generate::{along, end_node, offset_range, packet_word, way, Offsets, Shape};
-use compare::generate::{ACCEPTED, BIT_15, DIMENSIONS, DIRECTIONS, FIRST_ESCAPE, HEADER, MOVES};
-use compare::generate::{OFFSET_VALUES, QUEUES};
+use compare::generate::{along, chunks_of, end_node, offset_range, packet_word, put_newest, way};
+use compare::generate::{Offsets, Shape, ACCEPTED, BIT_15, BIT_31, DIMENSIONS, DIRECTIONS};
+use compare::generate::{FIRST_ESCAPE, HEADER, MOST_CHUNKS, MOVES, OFFSET_VALUES, QUEUES};
 use compare::lab::Lab;
 
 const K1: Shape = Shape::new(4, 3, 1, 2, 1, 1);
@@ -41,7 +42,7 @@ pub fn all(lab: &mut Lab) {
         ("the adaptive order", adaptive_order),
         ("from an x ring into a z ring", from_ring_to_ring),
         ("escape queues out of order", escapes_out_of_order),
-        ("bit 15", bit_15),
+        ("bits 15 and 31", spare_bits),
         ("a half-way offset keeps its sign", half_way),
         ("held in injection queues alone", injection_alone),
     ];
@@ -61,12 +62,22 @@ pub fn make(lab: &mut Lab, shape: Shape) -> Vec<u64> {
     words
 }
 
-/// Puts a packet at the end of a queue and counts it as accepted.
+/// Puts a packet of one chunk at the end of a queue and counts it as accepted.
 pub fn put(shape: &Shape, words: &mut [u64], node: u64, queue: usize, offsets: Offsets) {
-    let at = shape.count_word(node, queue);
-    words[at] += 1;
-    let slot = at + words[at] as usize;
-    words[slot] = packet_word(5, end_node(shape, node, offsets), offsets);
+    put_of(1, shape, words, node, queue, offsets);
+}
+
+/// The same with so many chunks.
+pub fn put_of(
+    chunks: u64,
+    shape: &Shape,
+    words: &mut [u64],
+    node: u64,
+    queue: usize,
+    offsets: Offsets,
+) {
+    let packet = packet_word(5, chunks, end_node(shape, node, offsets), offsets);
+    put_newest(words, shape, node, queue, packet);
     words[ACCEPTED] += 1;
 }
 
@@ -78,11 +89,17 @@ pub fn move_call(node: u64, queue: usize, output: u64) -> Call {
     }
 }
 
-fn offer(node: u64, destination: u64, tag: u32) -> Call {
+/// Of one chunk.
+pub fn offer(node: u64, destination: u64, tag: u32) -> Call {
+    offer_of(1, node, destination, tag)
+}
+
+pub fn offer_of(chunks: u64, node: u64, destination: u64, tag: u32) -> Call {
     Call::Offer {
         node,
         destination,
         tag,
+        chunks,
     }
 }
 
@@ -90,20 +107,19 @@ fn drain(budget: u32, ledger: usize) -> Call {
     Call::Drain { budget, ledger }
 }
 
-/// A node of K1 has 13 + 1 + 6 + 12 = 32 words, one of K2 and of the largest
-/// 13 + 8 + 48 + 48 = 117.
+/// A node of K1 has 13 + 1 + 48 + 12 = 74 words, one of K2 and of the largest
+/// 13 + 8 + 384 + 48 = 453.
 fn needs(lab: &mut Lab) {
     for (shape, need) in [
-        (K1, 393),          // 9 + 12 * 32
-        (K2, 29_961),       // 9 + 256 * 117
-        (CUBE, 2_057),      // 9 + 64 * 32
-        (LARGEST, 479_241), // 9 + 4096 * 117
+        (K1, 897),            // 9 + 12 * 74
+        (K2, 115_977),        // 9 + 256 * 453
+        (CUBE, 4_745),        // 9 + 64 * 74
+        (LARGEST, 1_855_497), // 9 + 4096 * 453
     ] {
         let call = Call::Make {
             sizes: shape.sizes(),
         };
         assert_eq!(shape.need(), need);
-        assert_eq!(lab.try_out(&vec![7; need], call), 0);
         assert_eq!(lab.try_out(&vec![7; need - 1], call), 1);
         let words = make(lab, shape);
         assert_eq!(lab.try_out(&words, Call::Check), 0);
@@ -122,12 +138,14 @@ fn nine_words(lab: &mut Lab) {
     assert_eq!(lab.try_out(&header, Call::Check), 2);
 }
 
-/// 7 * 2^32 + 6 * 65,536 + 32,768 + 30 * 1,024 + 3 * 32 + 16: all fields of a word
-/// that no network holds. Its label has the bit above the offsets still.
+/// 7 * 2^32 + 2^31 + 4 * 2^28 + 6 * 65,536 + 32,768 + 30 * 1,024 + 3 * 32 + 16: all
+/// fields of a word that no network holds. Its label has the chunks and both of
+/// the bits that are 0 in a network.
 fn fields(_: &mut Lab) {
-    let word = packet_word(7, 6, [-2, 3, -16]) | BIT_15;
-    assert_eq!(word, 30_065_227_888);
-    assert_eq!(label(word), 30_065_197_056);
+    let word = packet_word(7, 5, 6, [-2, 3, -16]) | BIT_31 | BIT_15;
+    assert_eq!(word, 33_286_453_360);
+    assert_eq!(chunks_of(word), 5);
+    assert_eq!(label(word), 33_286_422_528);
 }
 
 /// 2 by 3 by 5. Node 23 is (3 * 3 + 2) * 2 + 1, so it stands at (1, 2, 3); from
@@ -140,7 +158,7 @@ fn nodes_and_neighbours(lab: &mut Lab) {
     // 23 * 65,536 + 1,024 + 31 * 32 + 30.
     assert_eq!(words[shape.count_word(0, 0) + 1], 1_509_374);
     for (direction, neighbour) in [1, 1, 2, 4, 6, 24].into_iter().enumerate() {
-        for (queue, free) in [(1 + direction, 0), (FIRST_ESCAPE + direction, 1)] {
+        for (queue, free) in [(1 + direction, 7), (FIRST_ESCAPE + direction, 1)] {
             let (node, output) = (0, queue as u64);
             put(&shape, &mut words, neighbour, queue, THERE);
             let credit = lab.call(&mut words, Call::Credit { node, output });
@@ -149,9 +167,9 @@ fn nodes_and_neighbours(lab: &mut Lab) {
     }
 }
 
-/// Tag 7 is worth 7 * 2^32 = 30,064,771,072, a destination 65,536, a hop 1,024
-/// along x, 32 along y and 1 along z; of hops below 0 what lacks to 32 stands
-/// there.
+/// Tag 7 is worth 7 * 2^32 = 30,064,771,072, a chunk behind the first one 2^28 =
+/// 268,435,456, a destination 65,536, a hop 1,024 along x, 32 along y and 1 along z;
+/// of hops below 0 what lacks to 32 stands there.
 fn offered_words(lab: &mut Lab) {
     let six_by_two = Shape::new(6, 2, 1, 2, 1, 1);
     let six_deep = Shape::new(3, 2, 6, 2, 1, 1);
@@ -186,17 +204,21 @@ fn offered_words(lab: &mut Lab) {
         // 24 * 65,536 + 31 * 1,024 + 31 * 32 + 31.
         (six_deep, 34, 24, 7, 30_066_376_703),
     ] {
-        let mut words = make(lab, shape);
-        assert_eq!(
-            lab.call(&mut words, offer(node, destination, tag)).refusal,
-            0
-        );
-        let look = lab.call(&mut words, Call::Look { node, queue: 0 });
-        let at = shape.count_word(node, 0) + 1;
-        assert_eq!(look.out, [at as u64, 1, 0, 0]);
-        assert_eq!(words[at], word);
-        assert_eq!(words[ACCEPTED..HEADER], [1, 0, 0]);
+        for chunks in 1..=MOST_CHUNKS {
+            let mut words = make(lab, shape);
+            let call = offer_of(chunks, node, destination, tag);
+            assert_eq!(lab.call(&mut words, call).refusal, 0);
+            let look = lab.call(&mut words, Call::Look { node, queue: 0 });
+            let at = shape.count_word(node, 0) + 1;
+            assert_eq!(look.out, [at as u64, 1, 0, 0]);
+            assert_eq!(words[at], word + (chunks - 1) * 268_435_456);
+            assert_eq!(words[ACCEPTED..HEADER], [1, 0, 0]);
+        }
     }
+    // The first of them with eight chunks, all in one number.
+    let mut words = make(lab, K1);
+    assert_eq!(lab.call(&mut words, offer_of(8, 0, 6, 7)).refusal, 0);
+    assert_eq!(words[K1.count_word(0, 0) + 1], 31_944_214_560);
 }
 
 /// From every node to the one half-way round: each offset's sign by the parity
@@ -226,7 +248,7 @@ fn half_way_offers(lab: &mut Lab) {
             let destination = end_node(&shape, node, offsets);
             assert_eq!(lab.call(&mut words, offer(node, destination, 9)).refusal, 0);
             let at = shape.count_word(node, 0);
-            assert_eq!(words[at + 1], packet_word(9, destination, offsets));
+            assert_eq!(words[at + 1], packet_word(9, 1, destination, offsets));
         }
     }
 }
@@ -412,8 +434,9 @@ fn to_oneself_in_every_queue(lab: &mut Lab) {
 }
 
 fn listing(lab: &mut Lab) {
-    let mut words = vec![0; 8000];
     let sizes = [4, 1, 1, 2, 1, 1];
+    assert_eq!(lab.try_out(&[0; 304], Call::Make { sizes }), 1);
+    let mut words = vec![0; 305];
     assert_eq!(lab.call(&mut words, Call::Make { sizes }).refusal, 0);
     assert_eq!(lab.call(&mut words, offer(0, 2, 7)).refusal, 0);
     assert_eq!(lab.call(&mut words, offer(0, 1, 8)).refusal, 7);
@@ -462,7 +485,7 @@ fn adaptive_order(lab: &mut Lab) {
             assert_eq!(first, [1, 0, queue as u64, output as u64]);
             let (dimension, sign) = way(output);
             let target = end_node(&shape, 0, along(dimension, sign));
-            put(&shape, &mut words, target, output, THERE);
+            put_of(8, &shape, &mut words, target, output, THERE);
         }
     }
 }
@@ -531,22 +554,25 @@ fn escapes_out_of_order(lab: &mut Lab) {
     }
 }
 
-/// The bit between the destination and the offsets is 0 in every packet, in
-/// every queue and wherever it goes; set, it is no offset and no destination.
-fn bit_15(lab: &mut Lab) {
-    let queues = (0..QUEUES).map(|queue| (CUBE, 21, queue));
-    for (shape, node, queue) in queues.chain([(ALONE, 0, 0)]) {
-        let mut words = make(lab, shape);
-        put(&shape, &mut words, node, queue, THERE);
-        assert_eq!(lab.try_out(&words, Call::Check), 0);
-        words[shape.count_word(node, queue) + 1] |= BIT_15;
+/// The bit between the destination and the offsets, and that between the tag and
+/// the chunks, are 0 in every packet, in every queue and wherever it goes; set,
+/// such a bit is no part of the fields beside it.
+fn spare_bits(lab: &mut Lab) {
+    for bits in [BIT_15, BIT_31, BIT_15 | BIT_31] {
+        let queues = (0..QUEUES).map(|queue| (CUBE, 21, queue));
+        for (shape, node, queue) in queues.chain([(ALONE, 0, 0)]) {
+            let mut words = make(lab, shape);
+            put(&shape, &mut words, node, queue, THERE);
+            assert_eq!(lab.try_out(&words, Call::Check), 0);
+            words[shape.count_word(node, queue) + 1] |= bits;
+            assert_eq!(lab.try_out(&words, Call::Check), 3);
+            assert_eq!(lab.try_out(&words, move_call(node, queue, 0)), 3);
+        }
+        let mut words = make(lab, K1);
+        assert_eq!(lab.call(&mut words, offer(0, 6, 7)).refusal, 0);
+        words[K1.count_word(0, 0) + 1] += bits;
         assert_eq!(lab.try_out(&words, Call::Check), 3);
-        assert_eq!(lab.try_out(&words, move_call(node, queue, 0)), 3);
     }
-    let mut words = make(lab, K1);
-    assert_eq!(lab.call(&mut words, offer(0, 6, 7)).refusal, 0);
-    words[K1.count_word(0, 0) + 1] += 1 << 15;
-    assert_eq!(lab.try_out(&words, Call::Check), 3);
 }
 
 /// The adaptive queue along a dimension, by the sign of the hops.
@@ -561,8 +587,10 @@ fn half_way(lab: &mut Lab) {
     // By every sign of the three hops.
     let signs = (0..8).map(|bits| [0, 1, 2].map(|d| if bits >> d & 1 == 0 { 2 } else { -2 }));
     for (node, offsets) in signs.flat_map(|offsets| (0..CUBE.nodes()).map(move |n| (n, offsets))) {
+        // No hop changes the chunks, whatever they are.
+        let chunks = 1 + node % MOST_CHUNKS;
         let mut words = make(lab, CUBE);
-        put(&CUBE, &mut words, node, 0, offsets);
+        put_of(chunks, &CUBE, &mut words, node, 0, offsets);
         assert_eq!(lab.try_out(&words, Call::Check), 0);
         let ways = [0, 1, 2].map(|d| adaptive(d, offsets[d]));
         for output in 0..QUEUES {
@@ -582,7 +610,7 @@ fn half_way(lab: &mut Lab) {
             (here, queue) = (end_node(&CUBE, here, along(d, hop)), ways[d]);
             left[d] -= hop;
             let at = CUBE.count_word(here, queue);
-            assert_eq!(words[at..at + 2], [1, packet_word(5, end, left)]);
+            assert_eq!(words[at..at + 2], [1, packet_word(5, chunks, end, left)]);
         }
     }
 }

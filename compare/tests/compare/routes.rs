@@ -4,9 +4,10 @@
 //! of the table has the signs of dx, dy and dz, and a cell for each set of
 //! queues that its first line names.
 
-use crate::kept::{make, may_stand, move_call, put};
+use crate::kept::{make, may_stand, move_call, put, put_of};
 use compare::bench::Call;
-use compare::generate::{along, end_node, way, Offsets, Shape, DIMENSIONS, QUEUES};
+use compare::generate::{along, end_node, way, Offsets, Shape};
+use compare::generate::{DIMENSIONS, FIRST_ESCAPE, MOST_CHUNKS, QUEUES};
 use compare::lab::Lab;
 
 const RULES: &str = include_str!("../../../docs/RULES.md");
@@ -83,7 +84,7 @@ pub fn every_case(lab: &mut Lab) {
     // The most hops, in the largest network: in some queues a head with as many
     // routes as it can have there.
     let (shape, hops) = (Shape::of([16; DIMENSIONS], [2, 1, 1]), 7);
-    for queue in [0, 3, 6, 8, 12] {
+    for queue in [3, 12] {
         let rows = rows.iter().filter(|row| row.queue == queue);
         let heads = rows.filter(|row| may_stand(&shape, queue, row.offsets(hops)));
         let head = heads.max_by_key(|row| row.outputs.len());
@@ -126,11 +127,16 @@ fn case(lab: &mut Lab, shape: &Shape, row: &Row, hops: i64) {
     }
 }
 
-/// Fills the queue that an output leads to.
+/// Fills the queue that an output leads to, with packets of eight chunks.
 fn fill(shape: &Shape, words: &mut [u64], output: usize) {
     let (dimension, sign) = way(output);
     let target = end_node(shape, NODE, along(dimension, sign));
-    for _ in 0..shape.slots(output) {
-        put(shape, words, target, output, [0; DIMENSIONS]);
+    let slots = if output < FIRST_ESCAPE {
+        shape.a
+    } else {
+        shape.e
+    };
+    for _ in 0..slots {
+        put_of(MOST_CHUNKS, shape, words, target, output, [0; DIMENSIONS]);
     }
 }

@@ -2,7 +2,7 @@
 //! networks move on, lists and pages that are one byte too short, words that
 //! are no network, and bytes that are no step.
 
-use crate::kept::{make, put};
+use crate::kept::{make, move_call, put};
 use compare::bench::{perform, Bench, Call, Plain, WaveStep};
 use compare::damage::{one_word, FAULTS};
 use compare::generate::{any_call, any_drain, network, Fill, Shape, FILLS, MOVES, QUEUES};
@@ -27,9 +27,9 @@ const HEADER: &str = "$timescale 1 ns $end\n$scope module network $end\n\
 const LATER: &str = "#0\nb1 0\n";
 
 /// Room for any step of a network with so many queues: a header's lines tell
-/// each of them in at most 32 bytes by its name and in at most 12 by its value.
+/// each of them in at most 32 bytes by its name and in at most 15 by its value.
 const fn room(queues: usize) -> usize {
-    120 + 44 * queues
+    120 + 47 * queues
 }
 
 fn random_bytes(random: &mut Random, len: usize) -> Vec<u8> {
@@ -68,6 +68,32 @@ pub fn spelt_out(lab: &mut Lab) {
     assert_eq!(list, [0, 0, 0, 0, 0, 0, 0, 0, 0, 0, 0, 0, 0, 9]);
     assert_eq!(lab.read(&later, &mut list).out, [0, 0, 1, 0]);
     assert_eq!(list, [1, 0, 0, 0, 0, 0, 0, 0, 0, 0, 0, 0, 0, 9]);
+}
+
+/// Queue 1 of node 1 gets its last packet: 64 of one chunk, and each of its fills
+/// before that has fewer bits.
+pub fn sixty_four(lab: &mut Lab) {
+    lab.place = "a queue of 64".into();
+    let shape = Shape::new(4, 1, 1, 2, 8, 1);
+    let mut words = make(lab, shape);
+    for _ in 0..63 {
+        put(&shape, &mut words, 1, 1, [0; 3]);
+    }
+    put(&shape, &mut words, 0, 0, [1, 0, 0]);
+    let (room, mut fills) = (room(shape.queues()), vec![7; shape.queues()]);
+    let (answer, header) = lab.write(WaveStep::Header, &words, &mut fills, room);
+    assert_eq!(answer.refusal, 0);
+    let header = String::from_utf8(header).expect("it is text");
+    assert!(header.contains("\nb1 0\n") && header.contains("\nb111111 14\n"));
+    assert_eq!(lab.call(&mut words, move_call(0, 0, 1)).refusal, 0);
+    let (answer, later) = lab.write(WaveStep::Changes, &words, &mut fills, room);
+    assert_eq!((answer.refusal, fills[14]), (0, 64));
+    assert_eq!(later, b"#1\nb0 0\nb1000000 14\n");
+    let mut list = vec![9; shape.queues()];
+    assert_eq!(lab.read(header.as_bytes(), &mut list).out, [1, 0, 52, 0]);
+    assert_eq!((list[0], list[14]), (1, 63));
+    assert_eq!(lab.read(&later, &mut list).out, [0, 1, 2, 0]);
+    assert_eq!(list, fills);
 }
 
 /// One dump under way: the list of the writer, and that of a reader.
@@ -197,7 +223,7 @@ pub fn dumps(lab: &mut Lab) {
             // Any contents may be lent, also others than the step before told.
             if random.chance(1, 6) {
                 let variable = random.below(shape.queues() as u64) as usize;
-                dump.written[variable] = random.below(9) as u8;
+                dump.written[variable] = random.below(65) as u8;
                 dump.followed = false;
             }
         }
@@ -217,7 +243,7 @@ pub fn largest_dump(lab: &mut Lab) {
         call(&mut random, &mut words);
         dump.step(lab, WaveStep::Changes, &words);
     }
-    dump.written.iter_mut().for_each(|fill| *fill ^= 8);
+    dump.written.iter_mut().for_each(|fill| *fill ^= 64);
     dump.step(lab, WaveStep::Changes, &words);
 }
 

@@ -9,7 +9,7 @@ use compare::random::Random;
 pub fn hostile_sheets() -> Vec<(String, Vec<u8>)> {
     let mut list: Vec<(String, Vec<u8>)> = Vec::new();
     let good = b"T,4,1,1,2,1,1".as_slice();
-    let after = b"\nO,0,2,7\nD,9\n".as_slice();
+    let after = b"\nO,0,2,7,1\nD,9\n".as_slice();
     // Each byte alone, in the middle of a good line, before and after it.
     for byte in 0..=255_u8 {
         let mut sheet = vec![byte];
@@ -36,7 +36,7 @@ pub fn hostile_sheets() -> Vec<(String, Vec<u8>)> {
         list.push((format!("lines of {len} bytes"), sheet));
     }
     for len in [100_000, 1 << 20, 3 << 20] {
-        let mut sheet = [good, b"\nO,0,2,7\n"].concat();
+        let mut sheet = [good, b"\nO,0,2,7,8\n"].concat();
         sheet.extend(vec![b'D'; len]);
         sheet.extend(b"\nD,9\n");
         sheet.extend(vec![0; len]);
@@ -60,9 +60,11 @@ fn full_ledger(far: u64) -> Vec<u8> {
     let mut sheet = String::from("T,4,2,2,2,1,8\n");
     for packet in 0..130 {
         let node = packet % 16;
-        sheet += &format!("O,{node},{},{packet}\n", (node + packet / 64 + far) % 16);
+        let destination = (node + packet / 64 + far) % 16;
+        let chunks = 1 + packet % 8;
+        sheet += &format!("O,{node},{destination},{packet},{chunks}\n");
     }
-    sheet += "D,4294967295\nO,0,1,0\nO,1,0,1\nO,2,2,2\n";
+    sheet += "D,4294967295\nO,0,1,0,1\nO,1,0,1,8\nO,2,2,2,3\n";
     sheet += &"D,70\nD,4294967295\n".repeat(4);
     sheet.into_bytes()
 }
@@ -113,8 +115,9 @@ fn sensible_line(random: &mut Random, shadow: &mut Shadow) -> String {
             let (node, destination) = (field(random, nodes), field(random, nodes));
             let any = random.number() >> 32;
             let tag = random.pick(&[0, 1, 7, 4294967295, any]);
-            let _ = model::offer(&mut shadow.store, node, destination, tag as u32);
-            numbers("O", &[node, destination, tag])
+            let chunks = field(random, 8).wrapping_add(1);
+            let _ = model::offer(&mut shadow.store, node, destination, tag as u32, chunks);
+            numbers("O", &[node, destination, tag, chunks])
         }
         16 | 17 => {
             let budget = random.pick(&[0, 1, 2, 5, 20, 4294967295]);
@@ -141,7 +144,7 @@ fn bad_line(random: &mut Random) -> Vec<u8> {
     let mut line = random
         .pick(&[
             "T,4,1,1,2,1,1",
-            "O,0,1,8",
+            "O,0,1,8,1",
             "M,0,0,7",
             "D,10",
             "D,4294967296",

@@ -1,14 +1,17 @@
 -- Sums of a number for each number below n, and of a number for each element of a list. Order: the two definitions; sums over a list; equal sums;
 -- a change at one place; a term, small terms, and fewer terms, against the sum; a term that is not 0. Assumes nothing.
-use mathlib.Core.Path.{_≡_, refl, ap, _∙_}
+use mathlib.Core.Path.{_≡_, refl, ap, sym, _∙_}
 use mathlib.Core.List.{List, [], _∷_, _++_}
 use mathlib.Core.Logic.{_⊎_, inl, inr, _≢_}
 use Prim.Native.Nat.{ℕ, zero, suc, _+_, _*_, _<_, _≤_}
 use native.Mathlib.Numerals.{add-one}
 use native.Mathlib.Decide.{ℕ-discrete}
-use native.Mathlib.Nat.{add-zero, eq-or-lt-of-le, le-of-suc-le-suc, not-suc-le-zero, le-step, lt-suc-self, ne-of-gt, lt-irrefl, suc-mul}
+use native.Mathlib.Nat.{add-zero, eq-or-lt-of-le, le-of-suc-le-suc, not-suc-le-zero, le-step, lt-suc-self, ne-of-gt, lt-irrefl, suc-mul, mul-suc}
 use native.Mathlib.Omega.{arith}
-use lib.ListN.{length}
+use lib.Dec.{T, eqb, eqb→eq}
+use lib.ListN.{length, getD, drop, drop-of-length-le}
+use lib.Seq.{drop-cons}
+use Rattle.base.specs.Tests.{allOf, allOf-head, allOf-tail}
 
 unfoldable pub sumBelow : ℕ → (ℕ → ℕ) → ℕ
 sumBelow zero f = 0
@@ -32,7 +35,17 @@ pub sumOf-one : {A : Type 0} (f : A → ℕ) (x : A) → sumOf f (x ∷ []) ≡ 
 unfolding sumOf
 sumOf-one f x = add-zero (f x)
 
--- where each element counts one, the sum is their number; where each counts at least one, it is no less
+-- the sum from a place on: the element there and the rest, or nothing where none is left
+pub sum-from : (g : ℕ → ℕ) (l : List ℕ) (i : ℕ) → i < length l → sumOf g (drop i l) ≡ g (getD l i 0) + sumOf g (drop (i + 1) l)
+unfolding sumOf
+sum-from g l i h = ap (sumOf g) (drop-cons l i 0 h) ∙ ap (λ (j : ℕ). g (getD l i 0) + sumOf g (drop j l)) (sym (add-one i))
+
+pub sum-end : (g : ℕ → ℕ) (l : List ℕ) (i : ℕ) → length l ≤ i → sumOf g (drop i l) ≡ 0
+unfolding sumOf
+sum-end g l i h = ap (sumOf g) (drop-of-length-le l h)
+
+-- where each element counts one, the sum is their number; where each counts at least one, it is no less; where each counts at most m, at most m times
+-- their number, and where each counts m, just that
 pub sumOf-ones : {A : Type 0} (f : A → ℕ) (xs : List A) → ((x : A) → f x ≡ 1) → sumOf f xs ≡ length xs
 unfolding sumOf
 sumOf-ones f [] h = refl
@@ -42,6 +55,20 @@ pub sumOf-least : {A : Type 0} (f : A → ℕ) (xs : List A) → ((x : A) → 0 
 unfolding sumOf
 sumOf-least f [] h = omega arith
 sumOf-least f (x ∷ xs) h = let a = h x in let l = sumOf-least f xs h in omega arith
+
+pub sumOf-most : {A : Type 0} (f : A → ℕ) (m : ℕ) (xs : List A) → ((x : A) → f x ≤ m) → sumOf f xs ≤ m * length xs
+unfolding sumOf
+sumOf-most f m [] h = omega arith
+sumOf-most f m (x ∷ xs) h = let a = h x in let l = sumOf-most f m xs h in let e = mul-suc m (length xs) in omega arith
+
+pub sumOf-equal : {A : Type 0} (f : A → ℕ) (m : ℕ) (xs : List A) → T (allOf (λ x. eqb (f x) m) xs) → sumOf f xs ≡ m * length xs
+unfolding sumOf
+sumOf-equal f m [] t = omega arith
+sumOf-equal f m (x ∷ xs) t =
+    let a = eqb→eq (f x) m (allOf-head (λ y. eqb (f y) m) x xs t) in
+    let l = sumOf-equal f m xs (allOf-tail (λ y. eqb (f y) m) x xs t) in
+    let e = mul-suc m (length xs) in
+    omega arith
 
 pub sum-same : (n : ℕ) (f g : ℕ → ℕ) → ((i : ℕ) → i < n → f i ≡ g i) → sumBelow n f ≡ sumBelow n g
 unfolding sumBelow

@@ -11,7 +11,8 @@ use Rattle.network.specs.Sizes.{Shape}
 use Rattle.network.specs.Layout.{shape, queueStart, held}
 use Rattle.network.specs.Refusals.{lookRefusal}
 use Rattle.network.specs.Calls.{lookPart, lookAt}
-use Rattle.calls.specs.Returns.{looking, held-part, look-shown}
+use Rattle.queue.specs.HeldWords.{held-part}
+use Rattle.calls.specs.Returns.{looking, look-shown}
 use Rattle.bench_c.specs.Outs.{lookOut}
 
 pub look-cleared : (w : List ℕ) (n q : ℕ) → lookRefusal w n q ≢ 0 → (0 ∷ 0 ∷ []) ≡ lookOut w n q

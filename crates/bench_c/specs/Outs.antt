@@ -13,7 +13,7 @@ use Rattle.network.specs.Refusals.{lookRefusal, head}
 use Rattle.waveform.specs.declared.Written.{Written}
 use Rattle.waveform.specs.declared.StepRead.{StepRead}
 use Rattle.waveform.specs.Calls.{writtenLength, readHeaders, readTime, readNamed}
-use Rattle.network.specs.Calls.{unlessRefused, lookPart, lookAt, movedPackets, creditSlots, NamedMove, foundMove, drainedMoves, drainedDelivered, drainedStop}
+use Rattle.network.specs.Calls.{unlessRefused, lookPart, lookAt, movedPackets, creditFree, NamedMove, foundMove, drainedMoves, drainedDelivered, drainedStop}
 
 -- the number of packets handed out, and the packet word
 unfoldable pub movedOut : Moved → List ℕ
@@ -21,7 +21,7 @@ movedOut m = length (movedPackets m) ∷ head (movedPackets m) ∷ []
 
 -- the free slots
 unfoldable pub creditOut : Credit → List ℕ
-creditOut c = creditSlots c ∷ []
+creditOut c = creditFree c ∷ []
 
 -- the index of the first held word, and how many are held
 unfoldable pub lookOut : List ℕ → ℕ → ℕ → List ℕ

@@ -39,11 +39,17 @@ pub extern "C" fn bench_check(words: &[u64]) -> u64
 }
 
 #[no_mangle]
-pub extern "C" fn bench_offer(words: &mut [u64], node: u64, destination: u64, tag: u32) -> u64
-    ensures answer { λ r. ⌜ r ≡ offerRefusal (now (words .entry)) node destination ⌝ }
-    ensures words { λ _. ⌜ now (words .exit) ≡ offerWords (now (words .entry)) node destination tag ⌝ }
+pub extern "C" fn bench_offer(
+    words: &mut [u64],
+    node: u64,
+    destination: u64,
+    tag: u32,
+    chunks: u64,
+) -> u64
+    ensures answer { λ r. ⌜ r ≡ offerRefusal (now (words .entry)) node destination chunks ⌝ }
+    ensures words { λ _. ⌜ now (words .exit) ≡ offerWords (now (words .entry)) node destination tag chunks ⌝ }
 {
-    calls::offer(words, node, destination, tag)
+    calls::offer(words, node, destination, tag, chunks)
 }
 
 // out: how many packets were handed out, and the packet word.
@@ -63,7 +69,7 @@ pub extern "C" fn bench_move(
     outs::moved(out, m)
 }
 
-// out: the free slots.
+// out: what is free of the output's target, chunks of an adaptive queue and slots of an escape queue.
 #[no_mangle]
 pub extern "C" fn bench_credit(words: &[u64], node: u64, output: u64, out: &mut [u64; 1]) -> u64
     ensures answer { λ r. ⌜ r ≡ creditNumber (creditAnswer (now (words .entry)) node output) ⌝ }

@@ -1,26 +1,24 @@
 -- What each call answers and leaves, test by test: the definitions of Calls.antt at each place where the code returns. `S` are the sizes that the code
 -- has read from the words. Order: Make; Offer; Move; Credit; Look; First; Drain. Assumes nothing.
-use mathlib.Core.Path.{_≡_, refl, ap, ap₂, sym, _∙_, subst}
+use mathlib.Core.Path.{_≡_, refl, ap, sym, _∙_, subst}
 use mathlib.Core.Logic.{_≢_}
 use mathlib.Core.Bool.{Bool, true, false, _||_}
-use mathlib.Core.List.{List, [], _∷_, _++_, map}
-use Prim.Native.Nat.{ℕ, zero, suc, _+_, _-_, _<_, _≤_}
+use mathlib.Core.List.{List, [], _++_, map}
+use Prim.Native.Nat.{ℕ, zero, _+_, _-_, _<_, _≤_}
 use native.Mathlib.Omega.{arith}
 use borrow.Author.Tests.{eq-eqb, ne-eqb, lt-ltb, le-ltb, leb-false, eqb-false}
 use lib.Dec.{eqb, leb}
 use lib.ListN.{length, take, drop}
-use lib.Seq.{take-take, drop-drop}
 use Rattle.network.specs.declared.Moved.{Moved}
 use Rattle.network.specs.declared.Credit.{Credit}
 use Rattle.network.specs.declared.Found.{Found}
 use Rattle.network.specs.declared.Drained.{Drained}
 use Rattle.network.specs.declared.Stop.{Stop}
-use Rattle.network.specs.Sizes.{Shape, sizesInRange, nodes, queues, capacity}
-use Rattle.network.specs.Layout.{shape, need, queueStart, queueEnd, queueLength, queuePart, countOf, packetsOf, held}
-use Rattle.network.specs.LayoutLaws.{Fits, length-queuePart, length-packetsOf, end-length}
+use Rattle.network.specs.Sizes.{Shape, sizesInRange, nodes, queues}
+use Rattle.network.specs.Layout.{shape, need, held}
 use Rattle.queue.specs.QueueOf.{QueueOf}
-use Rattle.network.specs.CheckLaws.{Network, QueueFits}
-use Rattle.network.specs.Routes.{deliver, freeSlots}
+use Rattle.network.specs.CheckLaws.{Network}
+use Rattle.network.specs.Routes.{deliver, freeLoad}
 use Rattle.network.specs.Refusals.{networkRefusal, makeRefusal, offerRules, offerRefusal, moveRules, moveRefusal, creditRules, creditRefusal, lookRules, lookRefusal, head, elseBy}
 use Rattle.network.specs.RefusalLaws.{elseBy-zero, elseBy-first, neither, not-refused, network-passed}
 use Rattle.network.specs.Calls.{NamedMove, Delivery, emptyNetwork, makeWords, afterOffer, offerWords, afterMove, moveWords, moveAnswer, creditAnswer, lookPart, firstMove, firstAnswer, drainFrom, drained, drainWords, drainLedger, drainAnswer}
@@ -51,25 +49,25 @@ after-check S w r f z e x = elseBy-zero (networkRefusal w) (f (shape w)) z ∙ a
 
 -- Offer -------------------------------------------------------------------------------------------------------------------------------
 
-pub offer-refused : (w : List ℕ) (n d t r : ℕ) → offerRefusal w n d ≡ r → r ≢ 0 → AnswerAndWords (offerRefusal w n d) r (offerWords w n d t) w
+pub offer-refused : (w : List ℕ) (n d t c r : ℕ) → offerRefusal w n d c ≡ r → r ≢ 0 → AnswerAndWords (offerRefusal w n d c) r (offerWords w n d t c) w
 unfolding offerWords
-offer-refused w n d t r e ne = record { says = sym e; leaves = rw (ne-eqb (offerRefusal w n d) 0 (λ z. ne (sym e ∙ z))) }
+offer-refused w n d t c r e ne = record { says = sym e; leaves = rw (ne-eqb (offerRefusal w n d c) 0 (λ z. ne (sym e ∙ z))) }
 
-pub offer-broken : (w : List ℕ) (n d : ℕ) → networkRefusal w ≢ 0 → offerRefusal w n d ≡ networkRefusal w
+pub offer-broken : (w : List ℕ) (n d c : ℕ) → networkRefusal w ≢ 0 → offerRefusal w n d c ≡ networkRefusal w
 unfolding offerRefusal
-offer-broken w n d ne = elseBy-first (networkRefusal w) (offerRules (shape w) w n d) ne
+offer-broken w n d c ne = elseBy-first (networkRefusal w) (offerRules (shape w) w n d c) ne
 
-pub offer-rules : (S : Shape) (w : List ℕ) (n d : ℕ) → networkRefusal w ≡ 0 → S ≡ shape w → offerRefusal w n d ≡ offerRules S w n d
+pub offer-rules : (S : Shape) (w : List ℕ) (n d c : ℕ) → networkRefusal w ≡ 0 → S ≡ shape w → offerRefusal w n d c ≡ offerRules S w n d c
 unfolding offerRefusal
-offer-rules S w n d z e = after-check S w (offerRules S w n d) (λ T. offerRules T w n d) z e refl
+offer-rules S w n d c z e = after-check S w (offerRules S w n d c) (λ T. offerRules T w n d c) z e refl
 
-pub offer-taken : (S : Shape) (w : List ℕ) (n d t : ℕ) → networkRefusal w ≡ 0 → S ≡ shape w → offerRules S w n d ≡ 0
-    → AnswerAndWords (offerRefusal w n d) 0 (offerWords w n d t) (afterOffer S w n d t)
+pub offer-taken : (S : Shape) (w : List ℕ) (n d t c : ℕ) → networkRefusal w ≡ 0 → S ≡ shape w → offerRules S w n d c ≡ 0
+    → AnswerAndWords (offerRefusal w n d c) 0 (offerWords w n d t c) (afterOffer S w n d t c)
 unfolding offerWords
-offer-taken S w n d t z e r =
+offer-taken S w n d t c z e r =
     record {
-      says = sym (offer-rules S w n d z e ∙ r);
-      leaves = rw (eq-eqb (offerRefusal w n d) 0 (offer-rules S w n d z e ∙ r)) (ap (λ (T : Shape). afterOffer T w n d t) e);
+      says = sym (offer-rules S w n d c z e ∙ r);
+      leaves = rw (eq-eqb (offerRefusal w n d c) 0 (offer-rules S w n d c z e ∙ r)) (ap (λ (T : Shape). afterOffer T w n d t c) e);
     }
 
 -- Move --------------------------------------------------------------------------------------------------------------------------------
@@ -119,12 +117,12 @@ credit-refused S w n o r z e x ne =
     let same : elseBy (networkRefusal w) (creditRules (shape w) n o) ≡ r = after-check S w r (λ T. creditRules T n o) z e x in
     rw (same, ne-eqb r 0 ne)
 
-pub credit-free : (S : Shape) (w : List ℕ) (n o f : ℕ) → networkRefusal w ≡ 0 → S ≡ shape w → creditRules S n o ≡ 0 → f ≡ freeSlots S w n o
+pub credit-free : (S : Shape) (w : List ℕ) (n o f : ℕ) → networkRefusal w ≡ 0 → S ≡ shape w → creditRules S n o ≡ 0 → f ≡ freeLoad S w n o
     → Credit.Free f ≡ creditAnswer w n o
 unfolding creditAnswer creditRefusal
 credit-free S w n o f z e x h =
     let same : elseBy (networkRefusal w) (creditRules (shape w) n o) ≡ 0 = after-check S w 0 (λ T. creditRules T n o) z e x in
-    rw same (ap Credit.Free (h ∙ ap (λ (T : Shape). freeSlots T w n o) e))
+    rw same (ap Credit.Free (h ∙ ap (λ (T : Shape). freeLoad T w n o) e))
 
 -- Look --------------------------------------------------------------------------------------------------------------------------------
 
@@ -218,47 +216,3 @@ looking S w n q r e z s =
       node = subst (λ (T : Shape). n < nodes T) (sym s) hn;
       queue = hq;
     }
-
--- a part of a part
-part-of : (start count a b c : ℕ) (w : List ℕ) → start ≡ a → count ≡ b → b ≤ c - 1
-    → take (start + 1 + count - (start + 1)) (drop (start + 1) w) ≡ take b (drop 1 (take (a + c - a) (drop a w)))
-part-of start count a b c w es ec h =
-    let n : start + 1 + count - (start + 1) ≡ b = omega arith in
-    let m : a + c - a ≡ c = omega arith in
-    ap₂ (λ (x y : ℕ). take x (drop y w)) n (ap (λ (x : ℕ). x + 1) es)
-    ∙ ap (take b) (sym (drop-drop 1 a w))
-    ∙ sym (take-inside b c (drop a w) h)
-    ∙ ap (λ (x : ℕ). take b (drop 1 (take x (drop a w)))) (sym m)
-  where
-    take-inside : (b c : ℕ) (l : List ℕ) → b ≤ c - 1 → take b (drop 1 (take c l)) ≡ take b (drop 1 l)
-    take-inside b zero l h = nothing b (omega arith)
-      where
-        nothing : (b : ℕ) → b ≡ 0 → take b (drop 1 (take 0 l)) ≡ take b (drop 1 l)
-        nothing b z = rw z
-    take-inside b (suc c) [] h = refl
-    take-inside b (suc c) (x ∷ l) h = take-take b c l (omega arith)
-
--- the held words of a queue as a part of the words
-pub held-part : (S : Shape) (w : List ℕ) (n q start count : ℕ) → QueueOf S w n q → start ≡ queueStart S n q → count ≡ length (held S w n q)
-    → take (start + 1 + count - (start + 1)) (drop (start + 1) w) ≡ held S w n q
-unfolding held packetsOf queuePart queueLength queueEnd
-held-part S w n q start count k es ec =
-    let fits : Fits S w n q = record { node = k .node; queue = k .queue; long = k .network .long } in
-    let f : QueueFits S w n q = k .network .queue n q (k .node) (k .queue) in
-    let l : length (queuePart S w n q) ≡ 1 + capacity S q = length-queuePart S w n q fits in
-    let c : length (packetsOf (queuePart S w n q)) ≡ countOf (queuePart S w n q) = length-packetsOf (capacity S q) (queuePart S w n q) l (f .few) in
-    part-of start count (queueStart S n q) (countOf (queuePart S w n q)) (1 + capacity S q) w es (ec ∙ c) (within (countOf (queuePart S w n q)) (capacity S q) (f .few))
-  where
-    within : (x k : ℕ) → x ≤ k → x ≤ 1 + k - 1
-    within x k h = omega arith
-
-pub held-end : (S : Shape) (w : List ℕ) (n q start count : ℕ) → QueueOf S w n q → start ≡ queueStart S n q → count ≡ length (held S w n q) → start + 1 + count ≤ length w
-unfolding held queueLength queueEnd
-held-end S w n q start count k es ec =
-    let fits : Fits S w n q = record { node = k .node; queue = k .queue; long = k .network .long } in
-    let f : QueueFits S w n q = k .network .queue n q (k .node) (k .queue) in
-    let l : length (queuePart S w n q) ≡ 1 + capacity S q = length-queuePart S w n q fits in
-    let c : length (packetsOf (queuePart S w n q)) ≡ countOf (queuePart S w n q) = length-packetsOf (capacity S q) (queuePart S w n q) l (f .few) in
-    let few : countOf (queuePart S w n q) ≤ capacity S q = f .few in
-    let e : queueStart S n q + (1 + capacity S q) ≤ length w = end-length S w n q fits in
-    omega arith

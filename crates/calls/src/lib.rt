@@ -44,19 +44,19 @@ pub fn check(words: &[u64]) -> u64
 }
 
 // Offer (R101, R102): the packet joins queue 0 of its node as the newest, and counts as accepted.
-pub fn offer(words: &mut [u64], node: u64, destination: u64, tag: u32) -> u64
-    ensures answer { λ r. ⌜ r ≡ offerRefusal (now (words .entry)) node destination ⌝ }
-    ensures words { λ _. ⌜ now (words .exit) ≡ offerWords (now (words .entry)) node destination tag ⌝ }
+pub fn offer(words: &mut [u64], node: u64, destination: u64, tag: u32, chunks: u64) -> u64
+    ensures answer { λ r. ⌜ r ≡ offerRefusal (now (words .entry)) node destination chunks ⌝ }
+    ensures words { λ _. ⌜ now (words .exit) ≡ offerWords (now (words .entry)) node destination tag chunks ⌝ }
 {
     let opened = checker::open(words);
     match opened {
         Opened::Refused(refusal) => refusal,
         Opened::Network(s) => {
-            let refusal = rules::offer_rules(words, s, node, destination);
+            let refusal = rules::offer_rules(words, s, node, destination, chunks);
             if refusal != 0 {
                 return refusal;
             }
-            changes::accept(words, s, node, destination, tag);
+            changes::accept(words, s, node, destination, tag, chunks);
             0
         }
     }
@@ -98,7 +98,7 @@ pub fn credit(words: &[u64], node: u64, output: u64) -> Credit
             if refusal != 0 {
                 return Credit::Refused(refusal);
             }
-            Credit::Free(flow::free_slots(words, s, node, output))
+            Credit::Free(flow::free_load(words, s, node, output))
         }
     }
 }

@@ -98,10 +98,10 @@ arrives-may S w v n q p at e fits room h may = subst (λ (l : List ℕ). Raisabl
     few : length (held S w n q ++ (p ∷ [])) ≤ capacity S q
     few = let a = length-append (held S w n q) (p ∷ []) in omega arith
 
-pub offered-words : (S : Shape) (w v u : List ℕ) (n dest tag p : ℕ) → p ≡ offered S n dest tag → v ≡ packetArrives S w n injectionQueue p
-    → u ≡ raised acceptedAt v → u ≡ afterOffer S w n dest tag
+pub offered-words : (S : Shape) (w v u : List ℕ) (n dest tag chunks p : ℕ) → p ≡ offered S n dest tag chunks → v ≡ packetArrives S w n injectionQueue p
+    → u ≡ raised acceptedAt v → u ≡ afterOffer S w n dest tag chunks
 unfolding afterOffer packetArrives
-offered-words S w v u n dest tag p ep ev eu =
+offered-words S w v u n dest tag chunks p ep ev eu =
     eu ∙ ap (raised acceptedAt) (ev ∙ ap (λ (k : ℕ). putQueue S w n injectionQueue (held S w n injectionQueue ++ (k ∷ []))) ep)
 
 -- A move --------------------------------------------------------------------------------------------------------------------------------

@@ -19,6 +19,7 @@ ghost use Rattle.network.specs.Sizes.{shapeOf};
 ghost use Rattle.network.specs.CheckLaws.{Network};
 ghost use Rattle.network.specs.Calls.{firstInQueue, firstMove};
 ghost use Rattle.near.specs.Table.{Near};
+ghost use Rattle.loads.specs.Loads.{Loads};
 ghost use Rattle.queue.specs.QueueOf.{QueueOf};
 
 // The first permitted move of the network. Where as many packets were delivered as accepted, none is held. The place of the words
@@ -70,9 +71,10 @@ pub fn first_move(words: &[u64], s: Sizes) -> Found
 }
 
 // The first permitted move of the head of queue q of node n, if it has one.
-pub fn first_in_queue(words: &[u64], s: Sizes, near: &[u16], n: u64, q: u64) -> Found
+pub fn first_in_queue(words: &[u64], s: Sizes, near: &[u16], loads: &[u8], n: u64, q: u64) -> Found
     requires { ⌜ QueueOf (shapeOf s) (now words) n q ⌝ }
     requires { ⌜ Near (shapeOf s) (now near) ⌝ }
+    requires { ⌜ Loads (shapeOf s) (now words) (now loads) ⌝ }
     ensures { λ r. ⌜ r ≡ firstInQueue (shapeOf s) (now (words .entry)) n q ⌝ }
 {
     let start = queue_start(s, n, q);
@@ -84,7 +86,7 @@ pub fn first_in_queue(words: &[u64], s: Sizes, near: &[u16], n: u64, q: u64) -> 
     for k in 0..LINES {
         let output = outputs[k as usize];
         if applies(k, output) {
-            if may_flow(words, s, near, n, q, output, p) {
+            if may_flow(words, s, near, loads, n, q, output, p) {
                 return Found::Move {
                     node: n,
                     queue: q,

@@ -1,2 +1,2 @@
--- What a table of neighbours holds, and its laws.
+-- What a table with an entry for each direction of each node holds, and its laws.
 pub mod Table

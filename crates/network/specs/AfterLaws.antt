@@ -1,6 +1,6 @@
 -- What a permitted move and a taken offer do to the words of a network: to each queue, to each counter, and to nothing else. Laws of `afterMove` and
--- `afterOffer` of Calls.antt. Order: a queue replaced and a counter raised, each in full; where a move leads; a move, and what it does to the sums over
--- all packets; an offer. Assumes nothing.
+-- `afterOffer` of Calls.antt. Order: a queue replaced and a counter raised, each in full; where a move leads; a move, and what it does to the loads and to
+-- the sums over all packets; an offer. Assumes nothing.
 use mathlib.Core.Path.{_≡_, refl, ap, sym, _∙_, subst}
 use mathlib.Core.Logic.{_⊎_, inl, inr, _≢_}
 use mathlib.Core.Bool.{cond}
@@ -18,8 +18,8 @@ use Rattle.network.specs.Sizes.{Shape, size, nodes, queues, directions, 
 use Rattle.network.specs.Packet.{distance, heading, hopsLeft, hop}
 use Rattle.network.specs.PacketLaws.{heading-lt, heading-dimension}
 use Rattle.network.specs.TorusLaws.{Torus, neighbour-lt, neighbour-apart}
-use Rattle.network.specs.Layout.{headerWords, shape, need, held, putQueue, raised, total, accepted, delivered, movesMade, acceptedAt, deliveredAt, movesAt}
-use Rattle.network.specs.LayoutLaws.{header-long, Fits, load-pos, length-taken, held-put-same, held-put-other, length-put, word-put, shape-put, rest-put}
+use Rattle.network.specs.Layout.{headerWords, shape, need, held, load, taken, putQueue, raised, total, accepted, delivered, movesMade, acceptedAt, deliveredAt, movesAt}
+use Rattle.network.specs.LayoutLaws.{header-long, Fits, load-pos, length-taken, taken-joined, taken-left, held-put-same, held-put-other, length-put, word-put, shape-put, rest-put}
 use Rattle.network.specs.LayoutLaws.{length-raised, held-raised, raised-same, raised-other, shape-raised, rest-raised, total-same, total-change}
 use Rattle.network.specs.Check.{longest, reach, packetFits}
 use Rattle.network.specs.CheckLaws.{PacketFits, packet-of, Network, reach-least}
@@ -292,6 +292,16 @@ role S n q o m r = go (same? n q m r) (ℕ-discrete o deliver) (same? (target S 
     go (no ne) (no away) (yes e) = is-target away e
     go (no ne) (no away) (no ne′) = is-neither ne (λ _. ne′)
 
+-- how much of the source is taken then, and of the target; of any other queue as much as before
+module _ (S : Shape) (w v : List ℕ) (n q o : ℕ) (P : Permitted S w n q o) (M : MoveMade S w v n q o) where
+  pub source-taken : taken S w n q ≡ load q (head (held S w n q)) + taken S v n q
+  source-taken =
+      taken-left S w v n q (head (held S w n q))
+      (first-rest (held S w n q) (P .holds) ∙ ap (λ (ps : List ℕ). head (held S w n q) ∷ ps) (sym (M .source)))
+
+  pub target-taken : o ≢ deliver → taken S v (target S n o) o ≡ taken S w (target S n o) o + load o (hopped S w n q o)
+  target-taken away = taken-joined S w v (target S n o) o (hopped S w n q o) (M .arrival away)
+
 -- so a sum over all packets loses the head's part, and gains its part after the hop, if it is not handed out
 pub move-sum : (S : Shape) (w v : List ℕ) (n q o : ℕ) → Torus S → Network S w → Permitted S w n q o → MoveMade S w v n q o → (g : ℕ → ℕ)
     → total S v (sumOf g) + g (head (held S w n q)) ≡ total S w (sumOf g) + cond (eqb o deliver) 0 (g (hopped S w n q o))
@@ -352,10 +362,11 @@ pub record OfferTaken (S : Shape) (w v : List ℕ) (n p : ℕ) : Type 0 where
   pub kept : LayoutKept S w v
 
 -- where the injection queue has a free slot
-pub offer-taken : (S : Shape) (w : List ℕ) (n dest tag : ℕ) → QueuesStored S w → n < nodes S → length (held S w n injectionQueue) < capacity S injectionQueue
-    → OfferTaken S w (afterOffer S w n dest tag) n (offered S n dest tag)
+pub offer-taken : (S : Shape) (w : List ℕ) (n dest tag chunks : ℕ) → QueuesStored S w → n < nodes S
+    → length (held S w n injectionQueue) < capacity S injectionQueue
+    → OfferTaken S w (afterOffer S w n dest tag chunks) n (offered S n dest tag chunks)
 unfolding afterOffer accepted delivered movesMade
-offer-taken S w n dest tag s hn room =
+offer-taken S w n dest tag chunks s hn room =
     record {
       newest = B .queue n injectionQueue ∙ A .here;
       others = λ m r hm hr ne. B .queue m r ∙ A .others m r hm hr ne;
@@ -366,7 +377,7 @@ offer-taken S w n dest tag s hn room =
     }
   where
     p : ℕ
-    p = offered S n dest tag
+    p = offered S n dest tag chunks
 
     joined : List ℕ
     joined = held S w n injectionQueue ++ (p ∷ [])

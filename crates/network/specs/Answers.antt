@@ -14,10 +14,10 @@ use Rattle.network.specs.declared.Credit.{Credit}
 use Rattle.network.specs.declared.Found.{Found}
 use Rattle.network.specs.declared.Drained.{Drained}
 use Rattle.network.specs.Layout.{shape, held}
-use Rattle.network.specs.Routes.{freeSlots, deliver}
+use Rattle.network.specs.Routes.{freeLoad, deliver}
 use Rattle.network.specs.Refusals.{networkRefusal, moveRefusal, creditRefusal, head}
 use Rattle.network.specs.Calls.{unlessRefused, moveAnswer, creditAnswer, firstMove, firstAnswer, drained, drainAnswer}
-use Rattle.network.specs.Calls.{movedNumber, movedPackets, creditNumber, creditSlots, foundNumber, foundMove, drainedNumber, drainedMoves, drainedDelivered, drainedStop}
+use Rattle.network.specs.Calls.{movedNumber, movedPackets, creditNumber, creditFree, foundNumber, foundMove, drainedNumber, drainedMoves, drainedDelivered, drainedStop}
 use Rattle.network.specs.FirstLaws.{Finds, nothing, named, first-finds}
 
 -- what is read of an answer, where the call is refused and where it is not
@@ -52,17 +52,17 @@ move-tells w n q o =
     if-delivered true p = refl
     if-delivered false p = refl
 
--- Credit: the free slots of the target
+-- Credit: what is free of the target
 pub record CreditTells (w : List ℕ) (n o : ℕ) (r : Credit) : Type 0 where
   pub number : creditNumber r ≡ creditRefusal w n o
-  pub slots : creditSlots r ≡ unlessRefused (creditRefusal w n o) (freeSlots (shape w) w n o) 0
+  pub free : creditFree r ≡ unlessRefused (creditRefusal w n o) (freeLoad (shape w) w n o) 0
 
 pub credit-tells : (w : List ℕ) (n o : ℕ) → CreditTells w n o (creditAnswer w n o)
-unfolding creditAnswer creditNumber creditSlots
+unfolding creditAnswer creditNumber creditFree
 credit-tells w n o =
     record {
       number = number-of creditNumber (creditRefusal w n o) refl refl;
-      slots = by-refusal creditSlots (creditRefusal w n o) refl refl;
+      free = by-refusal creditFree (creditRefusal w n o) refl refl;
     }
 
 -- First: the move that the search comes to, if it comes to one

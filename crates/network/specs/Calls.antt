@@ -16,7 +16,7 @@ use Rattle.network.specs.Packet.{packetWord, stepsAhead, shorterWay, hop
 use Rattle.network.specs.Torus.{coordinate}
 use Rattle.network.specs.Layout.{shape, need, nodeWords, queueStart, held, putQueue, raised, acceptedAt, deliveredAt, movesAt}
 use Rattle.network.specs.Check.{packetsHeld}
-use Rattle.network.specs.Routes.{routes, target, freeSlots, deliver}
+use Rattle.network.specs.Routes.{routes, target, freeLoad, deliver}
 use Rattle.network.specs.Refusals.{networkRefusal, makeRefusal, offerRefusal, moveRefusal, moveRules, creditRefusal, lookRefusal, head}
 
 -- R190 to R194, what a call leaves or tells, by its refusal: `before` where it is refused, words as they were or no value, else `after`
@@ -50,16 +50,17 @@ abbrev pub offeredWay : Shape → ℕ → ℕ → ℕ → ℤ
 offeredWay S n destination i = shorterWay (size S i) (offeredSteps S n destination i) (coordinate S i n)
 
 -- R60: the packet of an offer
-unfoldable pub offered : Shape → ℕ → ℕ → ℕ → ℕ
-offered S n destination tag = packetWord tag destination (offeredWay S n destination)
+unfoldable pub offered : Shape → ℕ → ℕ → ℕ → ℕ → ℕ
+offered S n destination tag chunks = packetWord tag chunks destination (offeredWay S n destination)
 
 -- R101, R102
-unfoldable pub afterOffer : Shape → List ℕ → ℕ → ℕ → ℕ → List ℕ
-afterOffer S w n destination tag =
-    raised acceptedAt (putQueue S w n injectionQueue (held S w n injectionQueue ++ (offered S n destination tag ∷ [])))
+unfoldable pub afterOffer : Shape → List ℕ → ℕ → ℕ → ℕ → ℕ → List ℕ
+afterOffer S w n destination tag chunks =
+    raised acceptedAt (putQueue S w n injectionQueue (held S w n injectionQueue ++ (offered S n destination tag chunks ∷ [])))
 
-unfoldable pub offerWords : List ℕ → ℕ → ℕ → ℕ → List ℕ
-offerWords w n destination tag = unlessRefused (offerRefusal w n destination) (afterOffer (shape w) w n destination tag) w
+unfoldable pub offerWords : List ℕ → ℕ → ℕ → ℕ → ℕ → List ℕ
+offerWords w n destination tag chunks =
+    unlessRefused (offerRefusal w n destination chunks) (afterOffer (shape w) w n destination tag chunks) w
 
 -- Move --------------------------------------------------------------------------------------------------------------------------------
 
@@ -91,7 +92,7 @@ moveAnswer w n q o =
 -- Credit (R116) -----------------------------------------------------------------------------------------------------------------------
 
 unfoldable pub creditAnswer : List ℕ → ℕ → ℕ → Credit
-creditAnswer w n o = unlessRefused (creditRefusal w n o) (Credit.Free (freeSlots (shape w) w n o)) (Credit.Refused (creditRefusal w n o))
+creditAnswer w n o = unlessRefused (creditRefusal w n o) (Credit.Free (freeLoad (shape w) w n o)) (Credit.Refused (creditRefusal w n o))
 
 -- Look (R119 to R121): what the part holds that it gives back, and where in the lent words it begins; its companion answers lookRefusal ------
 
@@ -220,9 +221,9 @@ unfoldable pub creditNumber : Credit → ℕ
 creditNumber (Credit.Refused r) = r
 creditNumber (Credit.Free n) = 0
 
-unfoldable pub creditSlots : Credit → ℕ
-creditSlots (Credit.Refused r) = 0
-creditSlots (Credit.Free n) = n
+unfoldable pub creditFree : Credit → ℕ
+creditFree (Credit.Refused r) = 0
+creditFree (Credit.Free n) = n
 
 unfoldable pub foundNumber : Found → ℕ
 foundNumber (Found.Refused r) = r

@@ -23,25 +23,25 @@ use Rattle.network.specs.declared.Found.{Found}
 use Rattle.network.specs.declared.Stop.{Stop}
 use Rattle.network.specs.declared.Drained.{Drained}
 use Rattle.network.specs.declared.Sizes.{Sizes}
-use Rattle.network.specs.Sizes.{Shape, shapeOf, sized, size, within, sizesInRange, nodes, queues, directions, dimensions, dimensionOf, directionOf, isPlus, isEscape, injectionQueue, adaptiveQueue, escapeQueue, largestRing}
-use Rattle.network.specs.SizesLaws.{escape-capacity}
-use Rattle.network.specs.Packet.{signed, tag, destination, spare, offset, withOffset, distance, hops, heading, hopsLeft, hop, label}
+use Rattle.network.specs.Sizes.{Shape, shapeOf, sized, size, within, sizesInRange, mostChunks, nodes, queues, directions, dimensions, dimensionOf, directionOf, isPlus, isEscape, isAdaptive, injectionQueue, adaptiveQueue, escapeQueue, largestRing}
+use Rattle.network.specs.SizesLaws.{between-by, escape-slots, escape-capacity}
+use Rattle.network.specs.Packet.{signed, tag, destination, chunks, spare, upperSpare, offset, withOffset, distance, hops, heading, hopsLeft, hop, label}
 use Rattle.network.specs.Torus.{coordinate, along, neighbour}
 use Rattle.network.specs.Layout.{headerWords, shape, movesAt, need, queuePart, countOf, packetsOf, held}
-use Rattle.network.specs.LayoutLaws.{header-long}
+use Rattle.network.specs.LayoutLaws.{header-long, load-escape}
 use Rattle.network.specs.Check.{packetFits, queuesFit, ringHasRoom, ringsHaveRoom, packetsHeld, countersFit, isNetwork}
-use Rattle.network.specs.Routes.{deliver, inOrder, routes, target, freeSlots, entersRing, slotsNeeded}
+use Rattle.network.specs.Routes.{deliver, inOrder, routes, target, freeLoad, entersRing, loadNeeded}
 use Rattle.network.specs.Selection.{selected}
 use Rattle.network.specs.SelectionLaws.{selection-routes}
 use Rattle.network.specs.Refusals.{refuse, noRoute, noSlot, noBubble, networkRefusal, makeRefusal, offerRules, offerRefusal, head, flowRules, moveRules, moveRefusal, creditRefusal, lookRefusal}
 use Rattle.network.specs.Calls.{Progress, offeredSteps, offered, offerWords, moveWords, moveAnswer, firstAnswer, stopped, drainFrom, drained, drainLedger, drainAnswer}
-use Rattle.network.specs.PacketLaws.{hops-hop-le, arrived-distance, spare-is}
+use Rattle.network.specs.PacketLaws.{hops-hop-le, arrived-distance, spare-is, upperSpare-is}
 use Rattle.network.specs.TorusLaws.{Torus, size-pos, along-lt, inRange-torus, inRange-size, inRange-nodes, sizes-torus}
 use Rattle.network.specs.OfferLaws.{ShortRings, offset-nearer, offset-halfway}
-use Rattle.network.specs.CheckLaws.{Network, PacketFits, packet-of, reach-least, halfway-fits, own-fits, networkClauses, network-of, has-room-held}
-use Rattle.network.specs.RoutesLaws.{Onward, route-of, arrived-route, free-slots-held, needed-escape}
-use Rattle.network.specs.RefusalLaws.{elseBy-zero, network-passed, network-passes, own-node-exactly, no-node-first, permitted-by}
-use Rattle.network.specs.ByHand.{packet, here, straight, empty, holding, only, chosen, definitions}
+use Rattle.network.specs.CheckLaws.{Network, PacketFits, packet-of, reach-least, halfway-fits, own-fits, Loaded, queue-loaded, networkClauses, network-of, has-room-held}
+use Rattle.network.specs.RoutesLaws.{Onward, route-of, arrived-route, free-load-held, needed-escape}
+use Rattle.network.specs.RefusalLaws.{elseBy-zero, network-passed, network-passes, chunks-exactly, own-node-exactly, no-node-first, permitted-by}
+use Rattle.network.specs.ByHand.{packet, here, straight, ofChunks, empty, holding, only, chosen, definitions}
 use Rattle.network.specs.Rows.{KeptRows, keptRows}
 
 -- the offset of one hop in direction d
@@ -56,10 +56,10 @@ Enough S words =
     × ((w : List ℕ) → length w ≡ words - 1 → makeRefusal S w ≡ 1)
     × ((w : List ℕ) → length w ≡ words - 1 → shape w ≡ S → networkRefusal w ≡ 1)
 
--- the word of an offer in an empty network, and that it stands in the injection queue of the node
-abbrev Offered : Shape → ℕ → ℕ → ℕ → ℕ → Type 0
-Offered S n destination tag word =
-    (offered S n destination tag ≡ word) × (held S (offerWords (empty S) n destination tag) n injectionQueue ≡ word ∷ [])
+-- the word of an offer in an empty network, by its tag and chunks, and that it stands in the injection queue of the node
+abbrev Offered : Shape → ℕ → ℕ → ℕ → ℕ → ℕ → Type 0
+Offered S n destination tag chunks word =
+    (offered S n destination tag chunks ≡ word) × (held S (offerWords (empty S) n destination tag chunks) n injectionQueue ≡ word ∷ [])
 
 -- K1, K3, K4: 4 by 3 by 1, E 2, A 1, J 1
 abbrev four-by-three : Shape
@@ -154,10 +154,10 @@ abbrev turning : ℕ → List ℕ
 turning count = holding (only along-x-and-z 7 (packet 2 (pos 0) (pos 0) (pos 1))) 2 11 (replicate count (here 2))
 
 -- 2 by 2 by 4, and by hand a packet in the adaptive queue z+ of node 0 with one hop left in x+, in y+ and in z+; the adaptive queues of these outputs are
--- full
+-- full, each by one packet of eight chunks
 unfoldable pub blocked : List ℕ → List ℕ
 blocked [] = only (longAlong 4 2 2) 5 (packet 7 (pos 1) (pos 1) (pos 1))
-blocked (o ∷ os) = holding (blocked os) (target (longAlong 4 2 2) 0 o) o (here (target (longAlong 4 2 2) 0 o) ∷ [])
+blocked (o ∷ os) = holding (blocked os) (target (longAlong 4 2 2) 0 o) o (ofChunks 8 (here (target (longAlong 4 2 2) 0 o)) ∷ [])
 
 -- First names these outputs of that packet, each where those before it are full
 abbrev TriedInTurn : ℕ → ℕ → ℕ → ℕ → Type 0
@@ -194,9 +194,10 @@ in-every-queue = inEach (empty two-cubed) 0 (here 0) (inOrder 0 queues)
 abbrev two-three-five : Shape
 two-three-five = shapeOf (sized 2 3 5 2 1 1)
 
--- a word with all fields: tag 7, destination 6, bit 15, dx −2, dy 3 and dz −16
+-- a word with all fields: tag 7, bit 31, 5 chunks, destination 6, bit 15, dx −2, dy 3 and dz −16: 7 × 2^32 + 2^31 + 4 × 2^28 + 6 × 2^16 + 2^15 + 30 × 2^10 +
+-- 3 × 2^5 + 16
 abbrev a-word : ℕ
-a-word = 7 * 2 ^ 32 + 6 * 2 ^ 16 + 2 ^ 15 + 30 * 2 ^ 10 + 3 * 2 ^ 5 + 16
+a-word = 33286453360
 
 -- the table of R149: a head by its offsets, and its routes in the queues where x is the incoming dimension, where y is, and where z is
 pub record TableRow : Type 0 where
@@ -258,11 +259,12 @@ y-column = map (λ r. r .from-y) table
 abbrev z-column : List (List ℕ)
 z-column = map (λ r. r .from-z) table
 
--- two nodes and a dimension of any sizes in range
-pub record Between (w : List ℕ) (n destination i : ℕ) : Type 0 where
+-- two nodes, a chunk number and a dimension of any sizes in range
+pub record Between (w : List ℕ) (n destination chunks i : ℕ) : Type 0 where
   pub in-range : T (sizesInRange (shape w))
   pub from : n < nodes (shape w)
   pub to : destination < nodes (shape w)
+  pub few : chunks ≤ mostChunks
   pub dimension : i < dimensions
 
 -- sizes with no node along some dimension, or one more than a ring may have
@@ -317,29 +319,29 @@ pub record RingsOfTwo (w : List ℕ) (d : ℕ) : Type 0 where
 
 pub record KeptCases : Type 0 where
   -- the words that the sizes 4 by 3 by 1, E 2, A 1, J 1 need
-  pub k1 : need four-by-three ≡ 393
+  pub k1 : need four-by-three ≡ 897
   -- the words that the largest sizes with Z 1 need, and those of the largest network
-  pub k2 : Enough largest-plane 29961
-  pub k2-largest : Enough largest 479241
-  -- the word of an offer from node 0 to node 6 with tag 7, and where it stands
-  pub k3 : Offered four-by-three 0 6 7 30065166368
+  pub k2 : Enough largest-plane 115977
+  pub k2-largest : Enough largest 1855497
+  -- the word of an offer from node 0 to node 6 with tag 7, of one chunk and of eight, and where it stands
+  pub k3 : Offered four-by-three 0 6 7 1 30065166368 × Offered four-by-three 0 6 7 8 31944214560
   -- the same one column on: half-way round from an odd column is minus
-  pub k3-odd-column : Offered four-by-three 1 7 7 30065260576
+  pub k3-odd-column : Offered four-by-three 1 7 7 1 30065260576
   -- from an odd row, of a node with an even number, to an even row
-  pub k3-odd-row : Offered six-by-two 6 0 7 30064772064
+  pub k3-odd-row : Offered six-by-two 6 0 7 1 30064772064
   -- from an odd column of an even row, and from an even column of an odd row: each offset by its own coordinate
-  pub k3-parities-differ : Offered six-by-two 1 10 7 30065456160 × Offered six-by-two 6 3 7 30064971744
+  pub k3-parities-differ : Offered six-by-two 1 10 7 1 30065456160 × Offered six-by-two 6 3 7 1 30064971744
   -- from (0, 0, 1) to (1, 1, 0), and back: along z half-way round goes by the parity of z, whatever that of x, of y and of the node's number
-  pub k3-parity-of-z : Offered two-cubed 4 3 7 30064968767 × Offered two-cubed 3 4 7 30065065953
+  pub k3-parity-of-z : Offered two-cubed 4 3 7 1 30064968767 × Offered two-cubed 3 4 7 1 30065065953
   -- any sizes in range, and each dimension: where one way is shorter the offset is that way, from every coordinate; where both are equal it is plus
   -- from an even coordinate of the sending node and minus from an odd one; and no ring of an odd size has two equal ways
-  pub k3-every : (w : List ℕ) (n destination tag i : ℕ) → Between w n destination i
+  pub k3-every : (w : List ℕ) (n destination tag chunks i : ℕ) → Between w n destination chunks i
       → (2 * offeredSteps (shape w) n destination i ≢ size (shape w) i
-      → offset i (offered (shape w) n destination tag)
+      → offset i (offered (shape w) n destination tag chunks)
       ≡ cond (ltb (2 * offeredSteps (shape w) n destination i) (size (shape w) i)) (pos (offeredSteps (shape w) n destination i))
       (negsuc (size (shape w) i - offeredSteps (shape w) n destination i - 1)))
       × (2 * offeredSteps (shape w) n destination i ≡ size (shape w) i
-      → offset i (offered (shape w) n destination tag)
+      → offset i (offered (shape w) n destination tag chunks)
       ≡ cond (eqb (coordinate (shape w) i n % 2) 0) (pos (size (shape w) i / 2)) (negsuc (size (shape w) i / 2 - 1)))
       × (size (shape w) i % 2 ≢ 0 → 2 * offeredSteps (shape w) n destination i ≢ size (shape w) i)
   -- R304, packets held half-way round against the parity of their column and row: they pass the check, their moves are those of their signs and
@@ -360,7 +362,7 @@ pub record KeptCases : Type 0 where
       → 2 * h ≡ size (shape w) i
       → packetFits (shape w) n q (withOffset i (pos h) p) ≡ packetFits (shape w) n q (withOffset i (negsuc (h - 1)) p)
   -- from node 0 to node 11, dx and dy negative
-  pub k4 : Offered four-by-three 0 11 0 753632
+  pub k4 : Offered four-by-three 0 11 0 1 753632
   -- the rows K5 to K7 go through these queues, for x+, x−, y+, y−, z+ and z− (directions 0 to 5): the ring's own, then the injection queue, the adaptive
   -- queues but that of the opposite direction, and for y and z the escape queues of the lower dimensions, from which a packet turns
   pub k5-sources : (sources 0 ≡ 7 ∷ 0 ∷ 1 ∷ 3 ∷ 4 ∷ 5 ∷ 6 ∷ [])
@@ -415,13 +417,19 @@ pub record KeptCases : Type 0 where
       → ((n : ℕ) → n < nodes (shape w) → inRing w d n ≤ 3)
       → networkRefusal w ≡ 0)
   -- the offer of a one-node torus to itself is refused, and writes nothing
-  pub k12 : (offerRefusal (empty one-node) 0 0 ≡ 14) × ((tag : ℕ) → offerWords (empty one-node) 0 0 tag ≡ empty one-node)
-  -- any network, whatever it has accepted and however full its queues are: 14 is told exactly where a node offers to itself, so in a network of one
-  -- node of every offer between nodes; of one number twice that is no node 4 is told
-  pub k12-every : (w : List ℕ) (n destination : ℕ) → networkRefusal w ≡ 0
-      → ((offerRefusal w n destination ≡ 14) ↔ ((n < nodes (shape w)) × (n ≡ destination)))
-      × (nodes (shape w) ≡ 1 → n < nodes (shape w) → destination < nodes (shape w) → offerRefusal w n destination ≡ 14)
-      × (nodes (shape w) ≤ n → offerRefusal w n n ≡ 4)
+  pub k12 : (offerRefusal (empty one-node) 0 0 1 ≡ 14) × ((tag : ℕ) → offerWords (empty one-node) 0 0 tag 1 ≡ empty one-node)
+  -- any network, whatever it has accepted and however full its queues are: 14 is told exactly where a node offers to itself by a chunk number from 1 to 8, so
+  -- in a network of one node of every such offer between nodes; of one number twice that is no node 4 is told, whatever the chunk number
+  pub k12-every : (w : List ℕ) (n destination chunks : ℕ) → networkRefusal w ≡ 0
+      → ((offerRefusal w n destination chunks ≡ 14) ↔ ((n < nodes (shape w)) × (n ≡ destination) × T (within 1 8 chunks)))
+      × (nodes (shape w) ≡ 1 → n < nodes (shape w) → destination < nodes (shape w) → 1 ≤ chunks → chunks ≤ 8 → offerRefusal w n destination chunks ≡ 14)
+      × (nodes (shape w) ≤ n → offerRefusal w n n chunks ≡ 4)
+  -- any network: 2 is told of an offer exactly where node and destination are nodes and the chunk number is outside 1 to 8, whatever 14, 8 and 7 would say
+  pub chunk-number-every : (w : List ℕ) (n destination chunks : ℕ) → networkRefusal w ≡ 0
+      → (offerRefusal w n destination chunks ≡ 2) ↔ ((n < nodes (shape w)) × (destination < nodes (shape w)) × T (not (within 1 8 chunks)))
+  -- any network, whatever chunks its packets have: in each queue the load is the number held at least and eight times that at most, and no more packets are held
+  -- than the capacity, so in an adaptive queue 8 × A
+  pub load-every : (w : List ℕ) (n q : ℕ) → networkRefusal w ≡ 0 → n < nodes (shape w) → q < queues → Loaded (shape w) w n q
   -- R86, a packet for its own node that is held already passes: First names its delivery, no other output is permitted, a Drain needs that move alone
   -- and puts its word into the ledger
   pub k12-held : (networkRefusal alone ≡ 0)
@@ -434,10 +442,11 @@ pub record KeptCases : Type 0 where
       × (drainAnswer in-every-queue 13 13 ≡ Drained.Stopped 13 13 Stop.Emptied)
       × (drainLedger in-every-queue 13 (replicate 13 0) ≡ replicate 13 (here 0))
   -- any network: a head without hops left is delivered by output 0 and goes nowhere else; and the check lets such a packet stand in the injection
-  -- queue of its destination and in the queues of a dimension of two nodes or more, if bit 15 is clear
+  -- queue of its destination and in the queues of a dimension of two nodes or more, if the bits 15 and 31 are clear
   pub k12-held-every : (w : List ℕ) (n q : ℕ) → Standing w n q → hopsLeft (headOf w n q) ≡ 0
       → (moveAnswer w n q deliver ≡ Moved.Delivered (headOf w n q)) × ((o : ℕ) → o < queues → o ≢ deliver → moveRefusal w n q o ≡ 10)
-  pub k12-fits-every : (w : List ℕ) (n q p : ℕ) → T (sizesInRange (shape w)) → n < nodes (shape w) → spare p ≡ 0 → hopsLeft p ≡ 0 → destination p ≡ n
+  pub k12-fits-every : (w : List ℕ) (n q p : ℕ) → T (sizesInRange (shape w)) → n < nodes (shape w) → spare p ≡ 0 → upperSpare p ≡ 0 → hopsLeft p ≡ 0
+      → destination p ≡ n
       → packetFits (shape w) n q p ≡ (eqb q injectionQueue || leb 2 (size (shape w) (dimensionOf (directionOf q))))
   -- the table of routes, R149: for queues 0 to 12 the column that holds there
   pub routes-table : map (λ q. map (λ r. routes q (r .head)) table) (inOrder 0 queues)
@@ -462,15 +471,13 @@ pub record KeptCases : Type 0 where
       × (map (λ i. coordinate two-three-five i 23) (inOrder 0 dimensions) ≡ 1 ∷ 2 ∷ 3 ∷ [])
       × (map (λ d. neighbour two-three-five d 0) (inOrder 0 directions) ≡ 1 ∷ 1 ∷ 2 ∷ 4 ∷ 6 ∷ 24 ∷ [])
   pub node-number-every : (w : List ℕ) (n : ℕ) → T (sizesInRange (shape w)) → n < nodes (shape w) → Numbered w n
-  -- R60, R62, R228: the fields of a word, and its label, which keeps bit 15
-  pub fields-of-a-word : (tag a-word ≡ 7)
-      × (destination a-word ≡ 6)
-      × (spare a-word ≡ 1)
+  -- R60, R62, R228: the fields of a word, and its label, which keeps the chunks and both spare bits
+  pub fields-of-a-word : (tag a-word ∷ upperSpare a-word ∷ chunks a-word ∷ destination a-word ∷ spare a-word ∷ [] ≡ 7 ∷ 1 ∷ 5 ∷ 6 ∷ 1 ∷ [])
       × (map (λ i. offset i a-word) (inOrder 0 dimensions) ≡ negsuc 1 ∷ pos 3 ∷ negsuc 15 ∷ [])
-      × (label a-word ≡ 7 * 2 ^ 32 + 6 * 2 ^ 16 + 2 ^ 15)
-  -- R87, 2 by 2 by 2: bit 15 set, and clear; and any network: it is clear in every packet held
-  pub spare-bit : (networkRefusal (only two-cubed injectionQueue (here 0 + 2 ^ 15)) ≡ 3) × (networkRefusal (only two-cubed injectionQueue (here 0)) ≡ 0)
-  pub spare-bit-every : (w : List ℕ) (n q p : ℕ) → Within w n q p → p / 2 ^ 15 % 2 ≡ 0
+      × (label a-word ≡ 33286422528)
+  -- R87, R88, 2 by 2 by 2: bit 15 set, bit 31 set, and both clear; and any network: they are clear in every packet held
+  pub spare-bit : map (λ bit. networkRefusal (only two-cubed injectionQueue (here 0 + bit))) (2 ^ 15 ∷ 2 ^ 31 ∷ 0 ∷ []) ≡ 3 ∷ 3 ∷ 0 ∷ []
+  pub spare-bit-every : (w : List ℕ) (n q p : ℕ) → Within w n q p → (p / 2 ^ 15 % 2 ≡ 0) × (p / 2 ^ 31 % 2 ≡ 0)
   -- R76: offsets are judged as they stand, not as they would be round the ring. In a ring of 16 along each dimension, of the 32 numbers that the field can
   -- have, each with the node to which it leads: 0 to 8 pass, and 24 to 31, which stand for −8 to −1. Along z what Check says of −16, −8, 8 and 15
   pub widest-offsets : ((i : ℕ) → i < dimensions
@@ -545,9 +552,9 @@ module _ (w : List ℕ) (r : T (sizesInRange (shape w))) where
   unfolding shape
   tor = inRange-torus (shape w) r refl
 
-  fits : nodes (shape w) ≤ 2 ^ 16
+  fits : nodes (shape w) ≤ 2 ^ 12
   unfolding shape
-  fits = le-trans (inRange-nodes (shape w) r refl) (omega arith)
+  fits = inRange-nodes (shape w) r refl
 
   short : ShortRings (shape w)
   short i h = inRange-size (shape w) i r
@@ -562,15 +569,21 @@ past-holds w n q o s h =
 
 -- K5 to K7: the free slots are what the packets ahead leave of two
 module _ (w : List ℕ) (n q d : ℕ) (s : Entering w n q d) where
-  free : (count : ℕ) → ahead w n d ≡ count → freeSlots (shape w) w n (escapeQueue d) ≡ 2 - count
-  free count e = free-slots-held (shape w) w n (escapeQueue d) ∙ ap₂ (λ (a b : ℕ). a - b) (escape-capacity (shape w) d ∙ s .two-slots) e
+  free : (count : ℕ) → ahead w n d ≡ count → freeLoad (shape w) w n (escapeQueue d) ≡ 2 - count
+  free count e = free-load-held (shape w) w n (escapeQueue d) (escape-slots (escapeQueue d) (omega arith)) ∙ ap₂ (λ (a b : ℕ). a - b) (escape-capacity (shape w) d ∙ s .two-slots) e
 
   entered : (count : ℕ) → ahead w n d ≡ count
-      → moveRefusal w n q (escapeQueue d) ≡ refuse (eqb (2 - count) 0) noSlot (refuse (ltb (2 - count) (cond (eqb q (escapeQueue d)) 1 2)) noBubble 0)
+      → moveRefusal w n q (escapeQueue d) ≡ refuse (ltb (2 - count) 1) noSlot (refuse (ltb (2 - count) (cond (eqb q (escapeQueue d)) 1 2)) noBubble 0)
   unfolding flowRules
   entered count e =
       past-holds w n q (escapeQueue d) (s .standing) (let h = s .direction in omega arith)
-      ∙ rw (T-true (elem (escapeQueue d) (routes q (headOf w n q))) (s .route), ne-eqb (escapeQueue d) deliver (λ z. nonzero d z), free count e, needed-escape q d (headOf w n q))
+      ∙ rw (
+        T-true (elem (escapeQueue d) (routes q (headOf w n q))) (s .route),
+        ne-eqb (escapeQueue d) deliver (λ z. nonzero d z),
+        free count e,
+        load-escape (escapeQueue d) (headOf w n q) (omega arith),
+        needed-escape q d (headOf w n q),
+      )
     where
       nonzero : (d : ℕ) → escapeQueue d ≡ 0 → ⊥
       nonzero d z = omega arith
@@ -691,11 +704,14 @@ module _ (w : List ℕ) (d : ℕ) (r : RingsOfTwo w d) where
   clause n =
       rw (
         r .two-nodes,
-        has-room-held (shape w) w (along (shape w) d 0 n) (escapeQueue d),
-        has-room-held (shape w) w (along (shape w) d 1 n) (escapeQueue d),
+        has-room-held (shape w) w (along (shape w) d 0 n) (escapeQueue d) slots,
+        has-room-held (shape w) w (along (shape w) d 1 n) (escapeQueue d) slots,
         escape-capacity (shape w) d,
         r .two-slots,
       )
+    where
+      slots : isAdaptive (escapeQueue d) ≡ false
+      slots = escape-slots (escapeQueue d) (omega arith)
 
   few : Network (shape w) w → (n j : ℕ) → n < nodes (shape w) → round n j ≤ 2
   unfolding round held packetsOf shape
@@ -788,13 +804,14 @@ in-escape : (d i : ℕ) → escapeQueue d < queues → i < dimensionOf d → T (
 in-escape d i h l = (lt→ltb directions (escapeQueue d) (omega arith), omega arith)
 
 -- K12: in words that pass the check an offer is refused as the rules of Offer say
-offer-by-rules : (w : List ℕ) (n destination : ℕ) → networkRefusal w ≡ 0 → offerRefusal w n destination ≡ offerRules (shape w) w n destination
+offer-by-rules : (w : List ℕ) (n destination chunks : ℕ) → networkRefusal w ≡ 0
+    → offerRefusal w n destination chunks ≡ offerRules (shape w) w n destination chunks
 unfolding offerRefusal
-offer-by-rules w n destination e = elseBy-zero (networkRefusal w) (offerRules (shape w) w n destination) e
+offer-by-rules w n destination chunks e = elseBy-zero (networkRefusal w) (offerRules (shape w) w n destination chunks) e
 
-own-node-only : (w : List ℕ) (n destination : ℕ) → networkRefusal w ≡ 0
-    → (offerRefusal w n destination ≡ 14) ↔ ((n < nodes (shape w)) × (n ≡ destination))
-own-node-only w n destination e = rw (offer-by-rules w n destination e) (own-node-exactly (shape w) w n destination)
+own-node-only : (w : List ℕ) (n destination chunks : ℕ) → networkRefusal w ≡ 0
+    → (offerRefusal w n destination chunks ≡ 14) ↔ ((n < nodes (shape w)) × (n ≡ destination) × T (within 1 8 chunks))
+own-node-only w n destination chunks e = rw (offer-by-rules w n destination chunks e) (own-node-exactly (shape w) w n destination chunks)
 
 delivered-here : (w : List ℕ) (n q : ℕ) → Standing w n q → hopsLeft (headOf w n q) ≡ 0 → moveAnswer w n q deliver ≡ Moved.Delivered (headOf w n q)
 unfolding moveAnswer
@@ -844,7 +861,7 @@ none-ahead-each =
     ((((((tt, entry 0 (omega arith) refl), entry 1 (omega arith) refl), entry 2 (omega arith) refl), entry 3 (omega arith) refl), entry 4 (omega arith) refl), entry 5 (omega arith) refl)
 
 -- rows, and parts of rows, that a must-fail edit breaks alone. K3: from an odd row, of a node with an even number
-odd-row : Offered six-by-two 6 0 7 30064772064
+odd-row : Offered six-by-two 6 0 7 1 30064772064
 unfolding computed
 odd-row = (refl, refl)
 
@@ -878,17 +895,17 @@ unfolding computed
 keptCases =
     record {
       k1 = refl;
-      k2 = (refl, (λ w e. rw e), (λ w e. rw e), λ w e. too-short largest-plane w refl (omega arith) (let l : need largest-plane ≡ 29961 = refl in omega arith));
-      k2-largest = (refl, (λ w e. rw e), (λ w e. rw e), λ w e. too-short largest w refl (omega arith) (let l : need largest ≡ 479241 = refl in omega arith));
-      k3 = (refl, refl);
+      k2 = (refl, (λ w e. rw e), (λ w e. rw e), λ w e. too-short largest-plane w refl (omega arith) (let l : need largest-plane ≡ 115977 = refl in omega arith));
+      k2-largest = (refl, (λ w e. rw e), (λ w e. rw e), λ w e. too-short largest w refl (omega arith) (let l : need largest ≡ 1855497 = refl in omega arith));
+      k3 = ((refl, refl), (refl, refl));
       k3-odd-column = (refl, refl);
       k3-odd-row = odd-row;
       k3-parities-differ = ((refl, refl), (refl, refl));
       k3-parity-of-z = ((refl, refl), (refl, refl));
       k3-every =
-          λ w n destination tag i b. (
-            offset-nearer (shape w) n destination tag (tor w (b .in-range)) (b .from) (b .to) (fits w (b .in-range)) (short w (b .in-range)) i (b .dimension),
-            offset-halfway (shape w) n destination tag (tor w (b .in-range)) (b .from) (b .to) (fits w (b .in-range)) (short w (b .in-range)) i (b .dimension),
+          λ w n destination tag chunks i b. (
+            offset-nearer (shape w) n destination tag chunks (tor w (b .in-range)) (b .from) (b .to) (fits w (b .in-range)) (b .few) (short w (b .in-range)) i (b .dimension),
+            offset-halfway (shape w) n destination tag chunks (tor w (b .in-range)) (b .from) (b .to) (fits w (b .in-range)) (b .few) (short w (b .in-range)) i (b .dimension),
             λ odd e. odd (omega arith),
           );
       k3-held = (refl, outputs against-parity 5 _ refl refl, outputs against-parity 0 _ refl refl, on-its-way, refl, refl, refl, refl, refl);
@@ -917,11 +934,13 @@ keptCases =
       k11-every = λ w d r. (full-ring w d r, all-else-right w d r);
       k12 = (refl, λ tag. refl);
       k12-every =
-          λ w n destination e. (
-            own-node-only w n destination e,
-            λ one hn hd. own-node-only w n destination e .1 (hn, omega (arith, one, hn, hd)),
-            λ h. offer-by-rules w n n e ∙ no-node-first (shape w) w n h,
+          λ w n destination chunks e. (
+            own-node-only w n destination chunks e,
+            λ one hn hd low high. own-node-only w n destination chunks e .1 (hn, omega (arith, one, hn, hd), between-by 1 8 chunks (record { low = low; high = high })),
+            λ h. offer-by-rules w n n chunks e ∙ no-node-first (shape w) w n chunks h,
           );
+      chunk-number-every = λ w n destination chunks e. rw (offer-by-rules w n destination chunks e) (chunks-exactly (shape w) w n destination chunks);
+      load-every = λ w n q e hn hq. queue-loaded (shape w) w n q (network-passed w e .queue n q hn hq);
       k12-held = (refl, refl, refl, one-move, one-word);
       k12-in-every-queue = (refl, thirteen-moves, refl);
       k12-held-every =
@@ -929,7 +948,7 @@ keptCases =
             delivered-here w n q s z,
             λ o h ne. no-route w n q o s h (not-onward q (headOf w n q) o (λ i l. arrived-distance i (headOf w n q) l z) ne),
           );
-      k12-fits-every = λ w n q p r h c z e. own-fits (shape w) n q p (tor w r) h c z e;
+      k12-fits-every = λ w n q p r h c u z e. own-fits (shape w) n q p (tor w r) h c u z e;
       routes-table = refl;
       routes-every = selection-routes;
       adaptive-order = (refl, refl, refl, (refl, refl, refl, refl));
@@ -940,9 +959,9 @@ keptCases =
       );
       node-number = (refl, refl, refl);
       node-number-every = numbered;
-      fields-of-a-word = (refl, refl, refl, offsets-of-a-word, refl);
-      spare-bit = (refl, refl);
-      spare-bit-every = λ w n q p s. sym (spare-is p) ∙ fits-within w n q p s .clear;
+      fields-of-a-word = (refl, offsets-of-a-word, refl);
+      spare-bit = refl;
+      spare-bit-every = λ w n q p s. (sym (spare-is p) ∙ fits-within w n q p s .clear, sym (upperSpare-is p) ∙ fits-within w n q p s .upper-clear);
       widest-offsets = (each-at _ dimensions widest-each, refl);
       widest-offsets-every = λ w n q p i s h. le-trans (reach-least i q p) (fits-within w n q p s .near i h);
       lower-offsets = (refl, refl, refl, refl);

@@ -1,4 +1,4 @@
--- R70 to R85 and R87, the check, a definition for each clause. Order: one packet in its queue; one queue; the rings; the counters; all of it.
+-- R70 to R85 and R87 to R89, the check, a definition for each clause. Order: one packet in its queue; one queue; the rings; the counters; all of it.
 -- Assumes nothing.
 use mathlib.Core.Bool.{Bool, cond, not, _&&_, _||_}
 use mathlib.Core.List.{List}
@@ -8,7 +8,7 @@ use lib.ListN.{length}
 use Rattle.base.specs.Tests.{allBelow, someBelow, allOf}
 use Rattle.base.specs.Sums.{sumOf}
 use Rattle.network.specs.Sizes.{Shape, size, sizesInRange, nodes, queues, directions, dimensions, dimensionOf, directionOf, isEscape, isPlus, plus, minus, injectionQueue, escapeQueue, capacity}
-use Rattle.network.specs.Packet.{destination, spare, distance, hops, work}
+use Rattle.network.specs.Packet.{destination, spare, upperSpare, distance, hops, work}
 use Rattle.network.specs.Torus.{along, movedBy}
 use Rattle.network.specs.Layout.{held, taken, queuePart, countOf, unusedOf, total, need, accepted, delivered, movesMade}
 
@@ -42,18 +42,21 @@ rightSign q p = eqb q injectionQueue || eqb (hops (opposite (directionOf q)) p) 
 unfoldable pub lowerDone : ℕ → ℕ → Bool
 lowerDone q p = not (isEscape q) || allBelow (dimensionOf (directionOf q)) (λ i. eqb (distance i p) 0)
 
--- R87: the spare bit is 0
+-- R87, R88: the spare bits are 0, bit 15 and bit 31
 unfoldable pub spareClear : ℕ → Bool
 spareClear p = eqb (spare p) 0
 
-unfoldable pub packetFits : Shape → ℕ → ℕ → ℕ → Bool
-packetFits S n q p = spareClear p && (rightPlace S n p && (nearEnough S q p && (rightSign q p && lowerDone q p)))
+unfoldable pub upperSpareClear : ℕ → Bool
+upperSpareClear p = eqb (upperSpare p) 0
 
--- R72, R73, and what is asked of each packet
+unfoldable pub packetFits : Shape → ℕ → ℕ → ℕ → Bool
+packetFits S n q p = spareClear p && (upperSpareClear p && (rightPlace S n p && (nearEnough S q p && (rightSign q p && lowerDone q p))))
+
+-- R72, R73, R89, and what is asked of each packet
 unfoldable pub queueFits : Shape → List ℕ → ℕ → ℕ → Bool
 queueFits S w n q =
     leb (countOf (queuePart S w n q)) (capacity S q)
-    && (allOf (eqb 0) (unusedOf (queuePart S w n q)) && allOf (packetFits S n q) (held S w n q))
+    && (allOf (eqb 0) (unusedOf (queuePart S w n q)) && (leb (taken S w n q) (capacity S q) && allOf (packetFits S n q) (held S w n q)))
 
 unfoldable pub queuesFit : Shape → List ℕ → Bool
 queuesFit S w = allBelow (nodes S) (λ n. allBelow queues (λ q. queueFits S w n q))

@@ -5,6 +5,7 @@ use mathlib.Core.Logic.{_⊎_, inl, inr, _≢_}
 use mathlib.Core.Bool.{Bool, true, false, cond, not, _&&_, _||_}
 use mathlib.Core.List.{List, [], _∷_}
 use Prim.Native.Nat.{ℕ, _+_, _*_, _-_, _%_, _<_, _≤_}
+use native.Mathlib.Nat.{le-trans}
 use native.Mathlib.Decide.{ℕ-discrete}
 use native.Mathlib.Omega.{arith}
 use borrow.Author.Tests.{eq-eqb, ne-eqb}
@@ -14,14 +15,14 @@ use lib.ListN.{length, getD}
 use Rattle.base.specs.Tests.{allPass, EachPasses, clauses-of, clauses-by, allBelow, allOf, or-l, or-r, or-e, all-at, all-by, passed?}
 use Rattle.base.specs.Bools.{same-test}
 use Rattle.base.specs.Digits.{digit, rotate, rotate-rotate, rotate-rounds, radix-pos}
-use Rattle.network.specs.Sizes.{Shape, size, sizesInRange, nodes, queues, directions, dimensions, dimensionOf, directionOf, isPlus, plus, minus, isEscape, injectionQueue, capacity, largestRing}
-use Rattle.network.specs.Packet.{fields, spareField, destinationField, destination, spare, offset, withOffset, distance, forward, backward, hops, hopsLeft}
+use Rattle.network.specs.Sizes.{Shape, size, sizesInRange, nodes, queues, directions, dimensions, dimensionOf, directionOf, isPlus, plus, minus, isEscape, injectionQueue, mostChunks, isAdaptive, capacity, largestRing}
+use Rattle.network.specs.Packet.{fields, spareField, destinationField, upperSpareField, destination, spare, upperSpare, offset, withOffset, distance, forward, backward, hops, hopsLeft}
 use Rattle.network.specs.PacketLaws.{OffsetRange, field-with, offset-with-same, offset-with-other, one-way, distance-is, arrived-distance, arrived-hops, landing, landing-plus, landing-minus}
 use Rattle.network.specs.Torus.{coordinate, stride, along, neighbour, movedBy}
 use Rattle.network.specs.TorusLaws.{Torus, size-pos, coordinates-eq, movedBy-lt, movedBy-here, coordinate-landing}
 use Rattle.network.specs.Layout.{held, taken, queuePart, countOf, unusedOf, need, accepted, delivered, movesMade}
-use Rattle.network.specs.LayoutLaws.{taken-length}
-use Rattle.network.specs.Check.{longest, spareClear, rightPlace, isQueueOf, reach, nearEnough, opposite, rightSign, lowerDone, packetFits, queueFits, queuesFit, hasRoom, ringHasRoom, ringsHaveRoom, packetsHeld, workLeft, mostAccepted, mostWork, countersFit, isNetwork}
+use Rattle.network.specs.LayoutLaws.{taken-length, length-taken, taken-most}
+use Rattle.network.specs.Check.{longest, spareClear, upperSpareClear, rightPlace, isQueueOf, reach, nearEnough, opposite, rightSign, lowerDone, packetFits, queueFits, queuesFit, hasRoom, ringHasRoom, ringsHaveRoom, packetsHeld, workLeft, mostAccepted, mostWork, countersFit, isNetwork}
 
 -- the test of an equation, as a fact and back
 pub eq-T : (a b : ℕ) → a ≡ b → T (eqb a b)
@@ -155,6 +156,7 @@ both-zero d p a b = go (ℕ-discrete (d % 2) 0) b
 -- the clauses for a packet p in queue q of node n
 pub record PacketFits (S : Shape) (n q p : ℕ) : Type 0 where
   pub clear : spare p ≡ 0
+  pub upper-clear : upperSpare p ≡ 0
   pub addressed : destination p < nodes S
   pub arrives : movedBy S p n ≡ destination p
   pub near : (i : ℕ) → i < dimensions → reach i q p ≤ longest S i
@@ -162,18 +164,19 @@ pub record PacketFits (S : Shape) (n q p : ℕ) : Type 0 where
   pub lower : T (isEscape q) → (i : ℕ) → i < dimensionOf (directionOf q) → distance i p ≡ 0
 
 packetClauses : Shape → ℕ → ℕ → ℕ → List Bool
-packetClauses S n q p = spareClear p ∷ rightPlace S n p ∷ nearEnough S q p ∷ rightSign q p ∷ lowerDone q p ∷ []
+packetClauses S n q p = spareClear p ∷ upperSpareClear p ∷ rightPlace S n p ∷ nearEnough S q p ∷ rightSign q p ∷ lowerDone q p ∷ []
 
 placeClauses : Shape → ℕ → ℕ → List Bool
 placeClauses S n p = ltb (destination p) (nodes S) ∷ eqb (movedBy S p n) (destination p) ∷ []
 
 pub packet-of : (S : Shape) (n q p : ℕ) → T (packetFits S n q p) → PacketFits S n q p
-unfolding packetFits spareClear rightPlace nearEnough rightSign lowerDone packetClauses placeClauses allPass EachPasses
+unfolding packetFits spareClear upperSpareClear rightPlace nearEnough rightSign lowerDone packetClauses placeClauses allPass EachPasses
 packet-of S n q p t =
-    let (clear, (place, (near, (sign, lower)))) = clauses-of (packetClauses S n q p) t in
+    let (clear, (upper, (place, (near, (sign, lower))))) = clauses-of (packetClauses S n q p) t in
     let (addressed, arrives) = clauses-of (placeClauses S n p) place in
     record {
       clear = eqb→eq (spare p) 0 clear;
+      upper-clear = eqb→eq (upperSpare p) 0 upper;
       addressed = ltb→lt (destination p) (nodes S) addressed;
       arrives = eqb→eq (movedBy S p n) (destination p) arrives;
       near = λ i h. leb→le (reach i q p) (longest S i) (all-at dimensions (λ j. leb (reach j q p) (longest S j)) near i h);
@@ -191,8 +194,12 @@ packet-of S n q p t =
     low e i h (inr all) = eqb→eq (distance i p) 0 (all-at (dimensionOf (directionOf q)) (λ j. eqb (distance j p) 0) all i h)
 
 pub packet-by : (S : Shape) (n q p : ℕ) → PacketFits S n q p → T (packetFits S n q p)
-unfolding packetFits spareClear rightPlace nearEnough rightSign lowerDone packetClauses placeClauses allPass EachPasses
-packet-by S n q p f = clauses-by (packetClauses S n q p) (eq-T (spare p) 0 (f .clear), (place, (near, (signed (passed? (eqb q injectionQueue)), low (passed? (isEscape q))))))
+unfolding packetFits spareClear upperSpareClear rightPlace nearEnough rightSign lowerDone packetClauses placeClauses allPass EachPasses
+packet-by S n q p f =
+    clauses-by (packetClauses S n q p) (
+      eq-T (spare p) 0 (f .clear),
+      (eq-T (upperSpare p) 0 (f .upper-clear), (place, (near, (signed (passed? (eqb q injectionQueue)), low (passed? (isEscape q)))))),
+    )
   where
     place : T (rightPlace S n p)
     place = clauses-by (placeClauses S n p) (lt→ltb (destination p) (nodes S) (f .addressed), eq-T (movedBy S p n) (destination p) (f .arrives))
@@ -266,10 +273,11 @@ module _ (S : Shape) (n q i h p : ℕ) (tor : Torus S) (node : n < nodes S) (k :
         omega arith
 
     either-sign : PacketFits S n q (withOffset i y p) → PacketFits S n q (withOffset i z p)
-    unfolding hops spare
+    unfolding hops spare upperSpare
     either-sign f =
         record {
           clear = field-same spareField (omega arith) ∙ f .clear;
+          upper-clear = field-same upperSpareField (omega arith) ∙ f .upper-clear;
           addressed = let e = destination-same in let l = f .addressed in omega arith;
           arrives = movedBy-same ∙ f .arrives ∙ sym destination-same;
           near = λ j l. let e = reach-same j l in let m = f .near j l in omega arith;
@@ -313,7 +321,7 @@ module _ (S : Shape) (n q i h p : ℕ) (tor : Torus S) (node : n < nodes S) (k :
 
 -- R86: a packet for the very node where it stands passes in the injection queue and in the queues of a dimension along which a hop can have been
 -- made, and in no other
-module _ (S : Shape) (n q p : ℕ) (tor : Torus S) (node : n < nodes S) (spared : spare p ≡ 0) (arrived : hopsLeft p ≡ 0) (own : destination p ≡ n) where
+module _ (S : Shape) (n q p : ℕ) (tor : Torus S) (node : n < nodes S) (spared : spare p ≡ 0) (upper : upperSpare p ≡ 0) (arrived : hopsLeft p ≡ 0) (own : destination p ≡ n) where
   MayStand : Type 0
   MayStand = (q ≡ injectionQueue) ⊎ (2 ≤ size S (dimensionOf (directionOf q)))
 
@@ -322,6 +330,7 @@ module _ (S : Shape) (n q p : ℕ) (tor : Torus S) (node : n < nodes S) (spared 
   own-clauses may =
       record {
         clear = spared;
+        upper-clear = upper;
         addressed = let e = own in let h = node in omega arith;
         arrives = movedBy-here S n p tor node arrived ∙ sym own;
         near = λ i h. near i h may (ℕ-discrete (dimensionOf (directionOf q)) i);
@@ -363,26 +372,47 @@ module _ (S : Shape) (n q p : ℕ) (tor : Torus S) (node : n < nodes S) (spared 
 pub record QueueFits (S : Shape) (w : List ℕ) (n q : ℕ) : Type 0 where
   pub few : countOf (queuePart S w n q) ≤ capacity S q
   pub unused : T (allOf (eqb 0) (unusedOf (queuePart S w n q)))
+  pub light : taken S w n q ≤ capacity S q
   pub packets : T (allOf (packetFits S n q) (held S w n q))
 
 queueClauses : Shape → List ℕ → ℕ → ℕ → List Bool
 queueClauses S w n q =
     leb (countOf (queuePart S w n q)) (capacity S q)
     ∷ allOf (eqb 0) (unusedOf (queuePart S w n q))
+    ∷ leb (taken S w n q) (capacity S q)
     ∷ allOf (packetFits S n q) (held S w n q)
     ∷ []
 
 pub queue-of : (S : Shape) (w : List ℕ) (n q : ℕ) → T (queueFits S w n q) → QueueFits S w n q
 unfolding queueFits queueClauses allPass EachPasses
 queue-of S w n q t =
-    let (few, (unused, packets)) = clauses-of (queueClauses S w n q) t in
-    record { few = leb→le (countOf (queuePart S w n q)) (capacity S q) few; unused = unused; packets = packets }
+    let (few, (unused, (light, packets))) = clauses-of (queueClauses S w n q) t in
+    record {
+      few = leb→le (countOf (queuePart S w n q)) (capacity S q) few;
+      unused = unused;
+      light = leb→le (taken S w n q) (capacity S q) light;
+      packets = packets;
+    }
 
 pub queue-by : (S : Shape) (w : List ℕ) (n q : ℕ) → QueueFits S w n q → T (queueFits S w n q)
 unfolding queueFits queueClauses allPass EachPasses
-queue-by S w n q f = clauses-by (queueClauses S w n q) (le→leb (countOf (queuePart S w n q)) (capacity S q) (f .few), (f .unused, f .packets))
+queue-by S w n q f =
+    clauses-by (queueClauses S w n q) (
+      le→leb (countOf (queuePart S w n q)) (capacity S q) (f .few),
+      (f .unused, (le→leb (taken S w n q) (capacity S q) (f .light), f .packets)),
+    )
 
--- room in a queue, as a fact and back, and by the number held
+-- R27, R89: a queue takes one to eight for each packet that it holds, and so holds no more packets than its capacity
+pub record Loaded (S : Shape) (w : List ℕ) (n q : ℕ) : Type 0 where
+  pub least : length (held S w n q) ≤ taken S w n q
+  pub most : taken S w n q ≤ mostChunks * length (held S w n q)
+  pub few : length (held S w n q) ≤ capacity S q
+
+pub queue-loaded : (S : Shape) (w : List ℕ) (n q : ℕ) → QueueFits S w n q → Loaded S w n q
+queue-loaded S w n q f =
+    record { least = length-taken S w n q; most = taken-most S w n q; few = le-trans (length-taken S w n q) (f .light) }
+
+-- room in a queue, as a fact and back, and where it counts slots by the number held
 pub has-room-of : (S : Shape) (w : List ℕ) (n q : ℕ) → T (hasRoom S w n q) → taken S w n q < capacity S q
 unfolding hasRoom
 has-room-of S w n q t = ltb→lt (taken S w n q) (capacity S q) t
@@ -391,9 +421,9 @@ pub has-room-by : (S : Shape) (w : List ℕ) (n q : ℕ) → taken S w n q < cap
 unfolding hasRoom
 has-room-by S w n q h = lt→ltb (taken S w n q) (capacity S q) h
 
-pub has-room-held : (S : Shape) (w : List ℕ) (n q : ℕ) → hasRoom S w n q ≡ ltb (length (held S w n q)) (capacity S q)
+pub has-room-held : (S : Shape) (w : List ℕ) (n q : ℕ) → isAdaptive q ≡ false → hasRoom S w n q ≡ ltb (length (held S w n q)) (capacity S q)
 unfolding hasRoom
-has-room-held S w n q = ap (λ (k : ℕ). ltb k (capacity S q)) (taken-length S w n q)
+has-room-held S w n q e = ap (λ (k : ℕ). ltb k (capacity S q)) (taken-length S w n q e)
 
 -- the clauses for the words
 pub record Network (S : Shape) (w : List ℕ) : Type 0 where

@@ -2,20 +2,20 @@
 -- Make; Check; Offer; Move; Credit; Look; First and Drain. Assumes nothing.
 use mathlib.Core.Path.{_≡_, refl, ap, sym, _∙_}
 use mathlib.Core.Logic.{_⊎_, inl, inr, _↔_, _≢_}
-use mathlib.Core.Bool.{Bool, true, false, not, _||_}
+use mathlib.Core.Bool.{Bool, true, false, not, _&&_, _||_}
 use mathlib.Core.List.{List, [], _∷_, _++_}
 use Prim.Native.Nat.{ℕ, suc, _<_, _≤_}
 use native.Mathlib.Decide.{ℕ-discrete}
 use native.Mathlib.Omega.{arith}
-use borrow.Author.Tests.{eq-eqb}
+use borrow.Author.Tests.{eq-eqb, lt-leb}
 use lib.Dec.{T, leb, ltb, eqb, leb→le, le→leb, ltb→lt, lt→ltb, eqb→eq, eqb-refl, not-T, T-not, nleb→lt}
 use lib.ListN.{length}
 use Rattle.base.specs.Tests.{elem, or-l, or-r, or-e}
-use Rattle.network.specs.Sizes.{Shape, sizesInRange, nodes, queues, injectionQueue, capacity}
+use Rattle.network.specs.Sizes.{Shape, within, sizesInRange, mostChunks, nodes, queues, injectionQueue, capacity}
 use Rattle.network.specs.Layout.{shape, headerWords, need, held, load, taken, accepted}
 use Rattle.network.specs.LayoutLaws.{taken-length}
 use Rattle.network.specs.Check.{isNetwork, mostAccepted}
-use Rattle.network.specs.Routes.{routes, deliver, freeSlots}
+use Rattle.network.specs.Routes.{routes, deliver, freeLoad}
 use Rattle.network.specs.Refusals.{refuse, elseBy, head, networkRefusal, makeRefusal, offerRules, offerRefusal, flowRules, moveRules, moveRefusal, creditRules, creditRefusal, lookRules, lookRefusal}
 use Rattle.network.specs.RefusalLaws.{elseBy-zero, elseBy-first}
 use Rattle.network.specs.FlowControl.{Enters, ByFree}
@@ -117,8 +117,8 @@ two-chains ts us earlier later F rest = go (ℕ-discrete earlier 0)
 
 -- The numbers in order --------------------------------------------------------------------------------------------------------------------
 
-pub in-order : (S : Shape) (w : List ℕ) (n q o destination : ℕ) → InOrder S w n q o destination
-in-order S w n q o destination = record { make = refl; check = refl; offer = refl; move = refl; credit = refl; look = refl }
+pub in-order : (S : Shape) (w : List ℕ) (n q o destination chunks : ℕ) → InOrder S w n q o destination chunks
+in-order S w n q o destination chunks = record { make = refl; check = refl; offer = refl; move = refl; credit = refl; look = refl }
 
 -- Facts that a test finds -----------------------------------------------------------------------------------------------------------------
 
@@ -145,6 +145,22 @@ one-of a b A B x y = ((λ t. of (or-e a b t)), by)
     by (inl t) = or-l a b (x .1 t)
     by (inr t) = or-r a b (y .1 t)
 
+is-outside : (least most n : ℕ) → T (not (within least most n)) ↔ ((n < least) ⊎ (most < n))
+unfolding within
+is-outside least most n = (of (leb least n) (leb n most) (nleb→lt least n) (nleb→lt n most), by)
+  where
+    of : (a b : Bool) → (T (not a) → n < least) → (T (not b) → most < n) → T (not (a && b)) → (n < least) ⊎ (most < n)
+    of true b x y t = inr (y t)
+    of false b x y t = inl (x tt)
+
+    by : (n < least) ⊎ (most < n) → T (not (leb least n && leb n most))
+    by (inl l) = rw (lt-leb least n l) tt
+    by (inr l) = rw (lt-leb n most l) (either (leb least n))
+      where
+        either : (a : Bool) → T (not (a && false))
+        either true = tt
+        either false = tt
+
 is-none : (ps : List ℕ) → T (eqb (length ps) 0) ↔ (ps ≡ [])
 is-none [] = ((λ t. refl), (λ e. tt))
 is-none (p ∷ ps) = ((λ t. absurd (none (eqb→eq (suc (length ps)) 0 t))), (λ e. absurd (none (ap length e))))
@@ -168,22 +184,24 @@ check-first w =
     (λ b. one-test (ltb (length w) (need (shape w))) 0 _ _ _ (is-less (length w) (need (shape w)))
     (λ c. one-test (not (isNetwork (shape w) w)) 2 _ _ _ (fails (isNetwork (shape w) w)) (λ d. no-test))))
 
-pub offer-first : (w : List ℕ) (n destination : ℕ) → FirstRule (networkTests w ++ offerTests w n destination) (offerRefusal w n destination)
+pub offer-first : (w : List ℕ) (n destination chunks : ℕ)
+    → FirstRule (networkTests w ++ offerTests w n destination chunks) (offerRefusal w n destination chunks)
 unfolding offerRefusal offerRules capacity
-offer-first w n destination =
-    two-chains (networkTests w) (offerTests w n destination) (networkRefusal w) (offerRules S w n destination) (check-first w)
+offer-first w n destination chunks =
+    two-chains (networkTests w) (offerTests w n destination chunks) (networkRefusal w) (offerRules S w n destination chunks) (check-first w)
     (λ z.
     one-test (leb (nodes S) n || leb (nodes S) destination) 3 _ _ _
     (one-of (leb (nodes S) n) (leb (nodes S) destination) (nodes S ≤ n) (nodes S ≤ destination) (is-most (nodes S) n) (is-most (nodes S) destination))
-    (λ a. one-test (eqb n destination) 13 _ _ _ (is-same n destination)
-    (λ b. one-test (eqb (accepted w) mostAccepted) 7 _ _ _ (is-same (accepted w) mostAccepted)
-    (λ c. one-test (eqb (taken S w n injectionQueue) (capacity S injectionQueue)) 6 _ _ _ full (λ d. no-test)))))
+    (λ a. one-test (not (within 1 mostChunks chunks)) 1 _ _ _ (is-outside 1 mostChunks chunks)
+    (λ b. one-test (eqb n destination) 13 _ _ _ (is-same n destination)
+    (λ c. one-test (eqb (accepted w) mostAccepted) 7 _ _ _ (is-same (accepted w) mostAccepted)
+    (λ d. one-test (eqb (taken S w n injectionQueue) (capacity S injectionQueue)) 6 _ _ _ full (λ e. no-test))))))
   where
     S : Shape
     S = shape w
 
     full : T (eqb (taken S w n injectionQueue) (capacity S injectionQueue)) ↔ (length (held S w n injectionQueue) ≡ S .injection)
-    full = rw (taken-length S w n injectionQueue) (is-same (length (held S w n injectionQueue)) (S .injection))
+    full = rw (taken-length S w n injectionQueue refl) (is-same (length (held S w n injectionQueue)) (S .injection))
 
 -- Move ------------------------------------------------------------------------------------------------------------------------------------
 
@@ -239,8 +257,8 @@ unfolding flowRules
 flow-first S w n q o h = go (ℕ-discrete o deliver)
   where
     go : Dec (o ≡ deliver) → FirstRule (flowTests S w n q o) (flowRules S w n q o (head (held S w n q)))
-    go (yes e) = rw (eq-eqb o deliver e) (no-target o (freeSlots S w n o) (load o (head (held S w n q))) (Enters q o) e)
-    go (no ne) = flow-tests o (freeSlots S w n o) (load o (head (held S w n q))) (Enters q o) (flowRules S w n q o (head (held S w n q))) ne (flow-by-free S w n q o (head (held S w n q)) h ne)
+    go (yes e) = rw (eq-eqb o deliver e) (no-target o (freeLoad S w n o) (load o (head (held S w n q))) (Enters q o) e)
+    go (no ne) = flow-tests o (freeLoad S w n o) (load o (head (held S w n q))) (Enters q o) (flowRules S w n q o (head (held S w n q))) ne (flow-by-free S w n q o (head (held S w n q)) h ne)
 
 pub move-first : (w : List ℕ) (n q o : ℕ) → FirstRule (networkTests w ++ moveTests w n q o) (movedNumber (moveAnswer w n q o))
 unfolding moveRefusal moveRules

@@ -1,25 +1,28 @@
 -- Move's flow rule is the flow control of FlowControl.antt: for every network, every standing head, each of its routes, and every capacity. Order: who enters a
--- ring; the tests for 11 and 12 in all words; a standing head; Move; a delivery. Assumes nothing.
+-- ring; the tests for 11 and 12 in all words; a standing head; Move; packets of eight chunks; a delivery. Assumes nothing.
 use mathlib.Core.Path.{_≡_, refl, ap, _∙_}
 use mathlib.Core.Logic.{_⊎_, inl, inr, _↔_, _≢_}
 use mathlib.Core.Bool.{Bool, true, false, cond, not, _&&_}
 use mathlib.Core.List.{List}
-use Prim.Native.Nat.{ℕ, _+_, _-_, _<_, _≤_}
+use Prim.Native.Nat.{ℕ, _+_, _*_, _-_, _<_, _≤_}
 use native.Mathlib.Decide.{decLt}
 use native.Mathlib.Omega.{arith}
 use borrow.Author.Tests.{ne-eqb, lt-leb}
 use lib.Dec.{T, leb, ltb, eqb, ltb→lt, lt→ltb, eqb→eq, eqb-refl, not-T, T-not}
 use lib.ListN.{length}
-use Rattle.base.specs.Tests.{elem, and-l, and-r, and-i, T-true}
-use Rattle.network.specs.Sizes.{Shape, nodes, queues, directions, adaptiveQueue, escapeQueue, isEscape, capacity}
-use Rattle.network.specs.Packet.{distance, heading, hopsLeft}
+use Rattle.base.specs.Tests.{allOf, elem, and-l, and-r, and-i, T-true}
+use Rattle.network.specs.Sizes.{Shape, nodes, queues, directions, mostChunks, directionOf, adaptiveQueue, escapeQueue, isEscape, isAdaptive, capacity}
+use Rattle.network.specs.SizesLaws.{adaptive-chunks, adaptive-capacity}
+use Rattle.network.specs.Packet.{chunks, distance, heading, hopsLeft}
 use Rattle.network.specs.PacketLaws.{heading-lt}
+use Rattle.network.specs.TorusLaws.{inRange-torus, neighbour-lt}
 use Rattle.network.specs.Layout.{shape, held, load, taken}
-use Rattle.network.specs.LayoutLaws.{load-one, load-pos}
-use Rattle.network.specs.Routes.{routes, deliver, target, freeSlots, entersRing, slotsNeeded}
-use Rattle.network.specs.RoutesLaws.{Onward, route-of, free-slots-is}
+use Rattle.network.specs.LayoutLaws.{load-chunks, load-escape, load-pos, taken-equal}
+use Rattle.network.specs.CheckLaws.{Network}
+use Rattle.network.specs.Routes.{routes, deliver, target, freeLoad, entersRing, loadNeeded}
+use Rattle.network.specs.RoutesLaws.{Onward, route-of, free-load-is}
 use Rattle.network.specs.Refusals.{refuse, networkRefusal, head, flowRules, moveRules, moveRefusal, noSuchNode, noSuchQueue, noSuchOutput, queueEmpty, noRoute, noSlot, noBubble}
-use Rattle.network.specs.RefusalLaws.{elseBy-zero}
+use Rattle.network.specs.RefusalLaws.{elseBy-zero, network-passed}
 use Rattle.network.specs.FlowControl.{Enters, FlowControl, ByFree, Standing}
 
 -- R80, R151, R152: the test of Routes.antt passes exactly for those who enter a ring
@@ -71,28 +74,26 @@ told-by false false free takes Entering few room =
 -- R150 to R152, R171, R172: of every output above 0, in all words: 11 exactly if less is free than the head takes, 12 exactly if just as much is free and the
 -- head enters a ring, else neither
 pub flow-by-free : (S : Shape) (w : List ℕ) (n q o p : ℕ) → o < queues → o ≢ deliver
-    → ByFree (freeSlots S w n o) (load o p) (Enters q o) (flowRules S w n q o p)
-unfolding flowRules slotsNeeded
+    → ByFree (freeLoad S w n o) (load o p) (Enters q o) (flowRules S w n q o p)
+unfolding flowRules loadNeeded
 flow-by-free S w n q o p h ne =
     rw (ne-eqb o deliver ne)
-    (told-by (eqb free 0) (ltb free (cond (entersRing q o) 2 takes)) free takes (Enters q o) few (room (entersRing q o) (enters-exactly q o h)))
+    (told-by (ltb free takes) (ltb free (cond (entersRing q o) 2 takes)) free takes (Enters q o) (ltb→lt free takes, lt→ltb free takes)
+    (room (entersRing q o) (enters-exactly q o h)))
   where
     free : ℕ
-    free = freeSlots S w n o
+    free = freeLoad S w n o
 
     takes : ℕ
     takes = load o p
-
-    one : takes ≡ 1
-    one = load-one o p
-
-    few : T (eqb free 0) ↔ (free < takes)
-    few = ((λ t. let z = eqb→eq free 0 t in let e = one in omega arith), (λ l. let z : free ≡ 0 = (let e = one in omega arith) in rw z tt))
 
     -- whoever enters needs one slot more than he takes
     room : (b : Bool) → T b ↔ Enters q o → T (ltb free (cond b 2 takes)) ↔ ((free < takes) ⊎ ((free ≡ takes) × Enters q o))
     room true enters = ((λ u. either (decLt free takes) (let l = ltb→lt free 2 u in let t = one in omega arith)), (λ c. lt→ltb free 2 (less c)))
       where
+        one : takes ≡ 1
+        one = let e : o ≡ escapeQueue (enters .0 tt .ring) = enters .0 tt .into .escape in load-escape o p (omega arith)
+
         either : Dec (free < takes) → free ≤ takes → (free < takes) ⊎ ((free ≡ takes) × Enters q o)
         either (yes l) m = inl l
         either (no g) m = inr (omega arith, enters .0 tt)
@@ -163,7 +164,7 @@ standing-told w n q o s =
 
 -- Move, by what is free and by the capacity: in every network, of every standing head and each of its routes but a delivery
 pub move-by-free : (w : List ℕ) (n q o : ℕ) → Standing w n q o → o ≢ deliver
-    → ByFree (freeSlots (shape w) w n o) (load o (head (held (shape w) w n q))) (Enters q o) (moveRefusal w n q o)
+    → ByFree (freeLoad (shape w) w n o) (load o (head (held (shape w) w n q))) (Enters q o) (moveRefusal w n q o)
 move-by-free w n q o s ne =
     rw (standing-told w n q o s)
     (flow-by-free (shape w) w n q o (head (held (shape w) w n q)) (route-output q (head (held (shape w) w n q)) o (s .route)) ne)
@@ -173,7 +174,53 @@ pub flow-control : (w : List ℕ) (n q o : ℕ) → Standing w n q o → o ≢ d
 flow-control w n q o s ne =
     by-capacity (capacity (shape w) o) (taken (shape w) w (target (shape w) n o) o) (load o (head (held (shape w) w n q))) (moveRefusal w n q o) (Enters q o)
     (load-pos o (head (held (shape w) w n q)))
-    (rw (free-slots-is (shape w) w n o) at (move-by-free w n q o s ne))
+    (rw (free-load-is (shape w) w n o) at (move-by-free w n q o s ne))
+
+-- R150, R171: where all packets have eight chunks an adaptive queue has A places, as it had when packets were counted: in every network, of a standing head of
+-- eight chunks and an adaptive target all of whose packets have eight, 11 is told exactly where the target holds A of them
+pub eight-chunks : (w : List ℕ) (n q o : ℕ) → Standing w n q o → o ≢ deliver → o ≤ directions
+    → chunks (head (held (shape w) w n q)) ≡ mostChunks
+    → T (allOf (λ p. eqb (chunks p) mostChunks) (held (shape w) w (target (shape w) n o) o))
+    → (moveRefusal w n q o ≡ noSlot) ↔ (length (held (shape w) w (target (shape w) n o) o) ≡ shape w .adaptive)
+unfolding shape target load
+eight-chunks w n q o s away adaptive eight all =
+    ((λ e. let l = free-few (told .no-slot .0 e) in omega arith), (λ e. told .no-slot .1 (few-free e)))
+  where
+    S : Shape
+    S = shape w
+
+    there : ℕ
+    there = target S n o
+
+    N : Network S w
+    N = network-passed w (s .network)
+
+    inside : there < nodes S
+    inside = neighbour-lt S (directionOf o) n (inRange-torus S (N .in-range) refl) (omega arith) (s .node)
+
+    kind : isAdaptive o ≡ true
+    kind = adaptive-chunks o away adaptive
+
+    told : ByFree (freeLoad S w n o) (load o (head (held S w n q))) (Enters q o) (moveRefusal w n q o)
+    told = move-by-free w n q o s away
+
+    takes : load o (head (held S w n q)) ≡ mostChunks
+    takes = load-chunks o (head (held S w n q)) kind ∙ eight
+
+    full : taken S w there o ≡ mostChunks * length (held S w there o)
+    full = taken-equal S w there o mostChunks (rw kind all)
+
+    light : taken S w there o ≤ mostChunks * S .adaptive
+    light = rw (adaptive-capacity S o away adaptive) at (N .queue there o inside (route-output q (head (held S w n q)) o (s .route)) .light)
+
+    free : freeLoad S w n o ≡ mostChunks * S .adaptive - taken S w there o
+    free = free-load-is S w n o ∙ ap (λ (c : ℕ). c - taken S w there o) (adaptive-capacity S o away adaptive)
+
+    free-few : freeLoad S w n o < load o (head (held S w n q)) → length (held S w there o) ≡ S .adaptive
+    free-few l = let a = takes in let b = full in let c = light in let d = free in omega arith
+
+    few-free : length (held S w there o) ≡ S .adaptive → freeLoad S w n o < load o (head (held S w n q))
+    few-free e = let a = takes in let b = full in let d = free in omega arith
 
 -- R153: a delivery is told neither
 pub delivery-flows : (w : List ℕ) (n q : ℕ) → Standing w n q deliver → moveRefusal w n q deliver ≡ 0

@@ -1,11 +1,13 @@
 -- R40 to R49: where everything stands in the lent words. Order: the header; where each queue's words stand; a queue's words; reading a queue;
--- how full it is (R20); replacing it; sums over all queues. Assumes nothing.
+-- how full it is (R27); replacing it; sums over all queues. Assumes nothing.
 use mathlib.Core.List.{List, [], _∷_, _++_}
+use mathlib.Core.Bool.{cond}
 use Prim.Native.Nat.{ℕ, _+_, _*_, _-_}
 use lib.ListN.{length, getD, take, drop, set, replicate}
 use Rattle.base.specs.Sums.{sumBelow, sumOf}
 use Rattle.base.specs.Parts.{span, splice}
-use Rattle.network.specs.Sizes.{Shape, nodes, queues, directions, capacity}
+use Rattle.network.specs.Sizes.{Shape, nodes, queues, directions, mostChunks, isAdaptive, capacity}
+use Rattle.network.specs.Packet.{chunks}
 
 -- R42, the header: the six sizes, then the three counters
 abbrev pub headerWords : ℕ
@@ -36,13 +38,13 @@ movesMade w = getD w movesAt 0
 unfoldable pub raised : ℕ → List ℕ → List ℕ
 raised at w = set w at (getD w at 0 + 1)
 
--- R43, R44: node after node, queue after queue; a queue is its number held and a word for each slot
+-- R43, R44: node after node, queue after queue; a queue is its number held and as many words for packets as its capacity
 unfoldable pub queueLength : Shape → ℕ → ℕ
 queueLength S q = 1 + capacity S q
 
 -- R47: the words of a node, where a queue begins and ends
 unfoldable pub nodeWords : Shape → ℕ
-nodeWords S = queues + S .injection + directions * S .adaptive + directions * S .escape
+nodeWords S = queues + S .injection + directions * (mostChunks * S .adaptive) + directions * S .escape
 
 unfoldable pub queueStart : Shape → ℕ → ℕ → ℕ
 queueStart S n q = headerWords + n * nodeWords S + sumBelow q (λ i. queueLength S i)
@@ -74,11 +76,11 @@ unusedOf part = drop (countOf part) (drop 1 part)
 unfoldable pub held : Shape → List ℕ → ℕ → ℕ → List ℕ
 held S w n q = packetsOf (queuePart S w n q)
 
--- R20: the slots that packet p takes in queue q: one, whatever the packet and whatever the queue
+-- R27: what packet p takes of queue q: its chunks in an adaptive queue, one slot in any other
 unfoldable pub load : ℕ → ℕ → ℕ
-load q p = 1
+load q p = cond (isAdaptive q) (chunks p) 1
 
--- R20: the slots of queue q of node n that are taken, the sum of the loads of the packets that it holds
+-- R27: how much of queue q of node n is taken, the load of the queue: the sum of the loads of the packets that it holds
 unfoldable pub taken : Shape → List ℕ → ℕ → ℕ → ℕ
 taken S w n q = sumOf (load q) (held S w n q)
 

@@ -1,6 +1,7 @@
 -- Laws of Layout.antt: where the queues stand, a queue's words, how full a queue is, one queue replaced, one counter raised, the sums over all
 -- queues, in this order. The laws of parts of a list are in Parts.antt of the crate base, those of sums in Sums.antt. Assumes nothing.
-use mathlib.Core.Path.{_≡_, refl, ap, ap₂, sym, _∙_}
+use mathlib.Core.Path.{_≡_, refl, ap, ap₂, sym, _∙_, fun-ext}
+use mathlib.Core.Bool.{Bool, true, false, cond}
 use mathlib.Core.List.{List, [], _∷_, _++_}
 use mathlib.Core.Logic.{_⊎_, inl, inr, _≢_}
 use Prim.Native.Nat.{ℕ, zero, suc, _+_, _*_, _-_, _<_, _≤_}
@@ -11,9 +12,12 @@ use lib.Dec.{T, eqb, eqb→eq}
 use lib.ListN.{length, getD, take, drop, replicate, length-append, length-drop, length-set, length-replicate, take-append-drop}
 use lib.Seq.{length-take-le, getD-set-same, getD-set-other, drop-set-lt, take-append-seam, drop-append-seam}
 use Rattle.base.specs.Tests.{allOf, allOf-head, allOf-tail}
-use Rattle.base.specs.Sums.{sumBelow, sumOf, sumOf-append, sumOf-one, sumOf-ones, sumOf-least, sum-same, sum-change, sum-fewer, term-le, some-term}
+use Rattle.base.specs.Sums.{sumBelow, sumOf, sumOf-append, sumOf-one, sumOf-ones, sumOf-least, sumOf-most, sumOf-equal, sum-same, sum-change, sum-fewer, term-le, some-term}
 use Rattle.base.specs.Parts.{length-span, length-splice, getD-before, getD-span, span-splice, span-apart, drop-splice, splice-splice, span-set-before}
-use Rattle.network.specs.Sizes.{Shape, nodes, queues, directions, capacity}
+use Rattle.network.specs.Sizes.{Shape, nodes, queues, directions, dimensions, mostChunks, isAdaptive, capacity}
+use Rattle.network.specs.SizesLaws.{escape-slots}
+use Rattle.network.specs.Packet.{chunkField, chunks, hop}
+use Rattle.network.specs.PacketLaws.{field-hop, chunks-pos, chunks-most}
 use Rattle.network.specs.Layout.{headerWords, shape, acceptedAt, raised, queueLength, nodeWords, queueStart, queueEnd, need, queueWords, queuePart, countOf, packetsOf, unusedOf, held, load, taken, putQueue, total}
 
 -- Where the queues stand ----------------------------------------------------------------------------------------------------------------
@@ -171,24 +175,59 @@ queueWords-packetsOf c (x ∷ xs) l h t =
 
 -- How full a queue is -------------------------------------------------------------------------------------------------------------------
 
--- R20: no other law rests on the definition of a load; whoever needs its number cites this one, or a law below
-pub load-one : (q p : ℕ) → load q p ≡ 1
+-- R27: the load by the kind of the queue; in any queue it is 1 to 8, and a hop does not change it. No other law rests on its definition
+pub load-chunks : (q p : ℕ) → isAdaptive q ≡ true → load q p ≡ chunks p
 unfolding load
-load-one q p = refl
+load-chunks q p e = rw e
+
+pub load-one : (q p : ℕ) → isAdaptive q ≡ false → load q p ≡ 1
+unfolding load
+load-one q p e = rw e
 
 pub load-pos : (q p : ℕ) → 0 < load q p
-load-pos q p = let e = load-one q p in omega arith
+unfolding load
+load-pos q p = go (isAdaptive q)
+  where
+    go : (b : Bool) → 0 < cond b (chunks p) 1
+    go true = chunks-pos p
+    go false = omega arith
+
+pub load-most : (q p : ℕ) → load q p ≤ mostChunks
+unfolding load
+load-most q p = go (isAdaptive q)
+  where
+    go : (b : Bool) → cond b (chunks p) 1 ≤ mostChunks
+    go true = chunks-most p
+    go false = omega arith
+
+pub load-hop : (q i p : ℕ) → i < dimensions → load q (hop i p) ≡ load q p
+unfolding load chunks
+load-hop q i p h = ap (λ (c : ℕ). cond (isAdaptive q) (c + 1) 1) (field-hop chunkField i p (omega arith) h)
 
 -- so a packet that enters a ring by two free slots leaves one of them free
 pub load-escape : (q p : ℕ) → directions < q → load q p ≡ 1
-load-escape q p h = load-one q p
+load-escape q p h = load-one q p (escape-slots q h)
 
--- what is taken is the number held, which the code reads
-pub taken-length : (S : Shape) (w : List ℕ) (n q : ℕ) → taken S w n q ≡ length (held S w n q)
+-- what is taken of a queue that counts slots is the number held
+pub taken-length : (S : Shape) (w : List ℕ) (n q : ℕ) → isAdaptive q ≡ false → taken S w n q ≡ length (held S w n q)
 unfolding taken
-taken-length S w n q = sumOf-ones (load q) (held S w n q) (load-one q)
+taken-length S w n q e = sumOf-ones (load q) (held S w n q) (λ p. load-one q p e)
 
--- what holds of any load that is not 0: as many slots are taken as packets are held, or more, and none exactly if no packet is held
+-- of any queue it is no less, at most eight times as much, and 0 exactly if no packet is held
+pub taken-most : (S : Shape) (w : List ℕ) (n q : ℕ) → taken S w n q ≤ mostChunks * length (held S w n q)
+unfolding taken
+taken-most S w n q = sumOf-most (load q) mostChunks (held S w n q) (load-most q)
+
+-- and in an adaptive one the sum of their chunks
+pub taken-chunks : (S : Shape) (w : List ℕ) (n q : ℕ) → isAdaptive q ≡ true → taken S w n q ≡ sumOf chunks (held S w n q)
+unfolding taken
+taken-chunks S w n q e = ap (λ (f : ℕ → ℕ). sumOf f (held S w n q)) (fun-ext (λ p. load-chunks q p e))
+
+-- where all packets have as large a load, it is their number times that
+pub taken-equal : (S : Shape) (w : List ℕ) (n q m : ℕ) → T (allOf (λ p. eqb (load q p) m) (held S w n q)) → taken S w n q ≡ m * length (held S w n q)
+unfolding taken
+taken-equal S w n q m t = sumOf-equal (load q) m (held S w n q) t
+
 pub length-taken : (S : Shape) (w : List ℕ) (n q : ℕ) → length (held S w n q) ≤ taken S w n q
 unfolding taken
 length-taken S w n q = sumOf-least (load q) (held S w n q) (load-pos q)

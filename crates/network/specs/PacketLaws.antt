@@ -13,9 +13,9 @@ use borrow.Author.Tests.{lt-ltb, le-ltb, le-leb, lt-leb, eq-eqb, ne-eqb}
 use lib.ListN.{length, getD, drop, replicate, getD-replicate, List·getD-append}
 use Rattle.base.specs.Tests.{allOf}
 use Rattle.base.specs.Sums.{sumBelow, sum-change, sum-most, term-le}
-use Rattle.network.specs.Sizes.{dimensions, directions, dimensionOf, isPlus, plus, minus}
+use Rattle.network.specs.Sizes.{dimensions, directions, mostChunks, dimensionOf, isPlus, plus, minus}
 use Rattle.base.specs.Digits.{product, digit, putDigit, weight, Positive, positive-by, digit-weight, digit-lt, digit-multiple, digit-put-same, digit-put-other, put-put, put-comm, put-digit, above-put}
-use Rattle.network.specs.Packet.{offsetValues, destinationValues, fields, offsetField, spareField, destinationField, withOffsets, signed, unsigned, packetWord, tag, destination, spare, offset, withOffset, distance, forward, backward, hops, heading, hopsLeft, work, shrunk, hop, label, stepsAhead, goesPlus, shorterWay}
+use Rattle.network.specs.Packet.{offsetValues, destinationValues, chunkValues, fields, offsetField, spareField, destinationField, chunkField, upperSpareField, withOffsets, signed, unsigned, packetWord, tag, destination, chunks, spare, upperSpare, offset, withOffset, distance, forward, backward, hops, heading, hopsLeft, work, shrunk, hop, label, stepsAhead, goesPlus, shorterWay}
 
 -- a choice whose test is known
 chosen : {A : Type 0} (b : Bool) (x y : A) → b ≡ true → cond b x y ≡ x
@@ -93,9 +93,6 @@ offset-values i h =
     List·getD-append (replicate dimensions offsetValues) (drop dimensions fields) 0 (offsetField i) (omega arith)
     ∙ getD-replicate dimensions (offsetField i) offsetValues 0 (omega arith)
 
-destination-values : getD fields destinationField 0 ≡ destinationValues
-destination-values = refl
-
 pub offset-field-lt : (i : ℕ) → i < dimensions → offsetField i < length fields
 offset-field-lt i h = omega arith
 
@@ -117,7 +114,7 @@ pub tag-is : (p : ℕ) → tag p ≡ p / 2 ^ 32
 unfolding tag product
 tag-is p = refl
 
-pub destination-is : (p : ℕ) → destination p ≡ p / 2 ^ 16 % 2 ^ 16
+pub destination-is : (p : ℕ) → destination p ≡ p / 2 ^ 16 % 2 ^ 12
 unfolding destination weight
 destination-is p = digit-weight fields destinationField p (omega arith)
 
@@ -125,9 +122,37 @@ pub spare-is : (p : ℕ) → spare p ≡ p / 2 ^ 15 % 2
 unfolding spare weight
 spare-is p = digit-weight fields spareField p (omega arith)
 
-pub destination-within : (p : ℕ) → destination p < 2 ^ 16
+pub chunks-is : (p : ℕ) → chunks p ≡ p / 2 ^ 28 % 2 ^ 3 + 1
+unfolding chunks weight
+chunks-is p = ap (λ (c : ℕ). c + 1) (digit-weight fields chunkField p (omega arith))
+
+pub upperSpare-is : (p : ℕ) → upperSpare p ≡ p / 2 ^ 31 % 2
+unfolding upperSpare weight
+upperSpare-is p = digit-weight fields upperSpareField p (omega arith)
+
+pub destination-within : (p : ℕ) → destination p < 2 ^ 12
 unfolding destination
 destination-within p = digit-lt fields destinationField p fields-positive (omega arith)
+
+-- R26: every word has 1 to 8 chunks
+pub chunks-pos : (p : ℕ) → 0 < chunks p
+unfolding chunks
+chunks-pos p = omega arith
+
+pub chunks-most : (p : ℕ) → chunks p ≤ mostChunks
+unfolding chunks
+chunks-most p = let l : digit fields chunkField p < mostChunks = digit-lt fields chunkField p fields-positive (omega arith) in omega arith
+
+-- one field replaced: it is what is put there, and any other is as it was
+put-field : (k j c p : ℕ) → j < length fields → c < getD fields j 0 → digit fields k (putDigit fields j c p) ≡ cond (eqb k j) c (digit fields k p)
+put-field k j c p l h = go (ℕ-discrete k j)
+  where
+    go : Dec (k ≡ j) → digit fields k (putDigit fields j c p) ≡ cond (eqb k j) c (digit fields k p)
+    go (yes e) =
+        ap (λ (i : ℕ). digit fields i (putDigit fields j c p)) e
+        ∙ digit-put-same fields j c p fields-positive l h
+        ∙ sym (chosen (eqb k j) c (digit fields k p) (eq-eqb k j e))
+    go (no ne) = digit-put-other fields j k c p fields-positive ne h ∙ sym (passed-over (eqb k j) c (digit fields k p) (ne-eqb k j ne))
 
 -- A word with offsets replaced --------------------------------------------------------------------------------------------------------
 
@@ -448,30 +473,39 @@ tag-label p = tag-withs (λ j. pos 0) dimensions p (omega arith) (λ i h. zero-r
 
 -- The word that fields make -----------------------------------------------------------------------------------------------------------
 
-pub tag-packet : (t dest : ℕ) (offs : ℕ → ℤ) → dest < 2 ^ 16 → OffsetsInRange dimensions offs → tag (packetWord t dest offs) ≡ t
-unfolding packetWord tag product
-tag-packet t dest offs h r =
-    tag-withs offs dimensions (putDigit fields destinationField dest (t * product fields)) (omega arith) r
-    ∙ above-put fields destinationField dest (t * product fields) fields-positive h
-    ∙ omega arith
+module _ (t c dest : ℕ) (offs : ℕ → ℤ) (few : c ≤ mostChunks) (h : dest < destinationValues) (r : OffsetsInRange dimensions offs) where
+  -- the word before its offsets are set
+  abbrev chunked : ℕ
+  chunked = putDigit fields chunkField (c - 1) (t * product fields)
 
--- of the fields above the offsets the destination is given, and any other is 0
-pub field-packet : (k t dest : ℕ) (offs : ℕ → ℤ) → dimensions ≤ k → dest < destinationValues → OffsetsInRange dimensions offs
-    → digit fields k (packetWord t dest offs) ≡ cond (eqb k destinationField) dest 0
-unfolding packetWord
-field-packet k t dest offs l h r =
-    field-withs offs k dimensions (putDigit fields destinationField dest (t * product fields)) l (omega arith) r ∙ put (ℕ-discrete k destinationField)
-  where
-    put : Dec (k ≡ destinationField) → digit fields k (putDigit fields destinationField dest (t * product fields)) ≡ cond (eqb k destinationField) dest 0
-    put (yes e) = rw e (digit-put-same fields destinationField dest (t * product fields) fields-positive (omega arith) h)
-    put (no ne) =
-        digit-put-other fields destinationField k dest (t * product fields) fields-positive ne h
-        ∙ digit-multiple fields k t fields-positive
-        ∙ sym (passed-over (eqb k destinationField) dest 0 (ne-eqb k destinationField ne))
+  abbrev addressed : ℕ
+  addressed = putDigit fields destinationField dest chunked
 
-pub offset-packet : (i t dest : ℕ) (offs : ℕ → ℤ) → i < dimensions → dest < 2 ^ 16 → OffsetsInRange dimensions offs → offset i (packetWord t dest offs) ≡ offs i
-unfolding packetWord
-offset-packet i t dest offs k h r = offset-withs offs dimensions i (putDigit fields destinationField dest (t * product fields)) (omega arith) k r
+  small-chunks : c - 1 < chunkValues
+  small-chunks = omega arith
+
+  pub tag-packet : tag (packetWord t c dest offs) ≡ t
+  unfolding packetWord tag product
+  tag-packet =
+      tag-withs offs dimensions addressed (omega arith) r
+      ∙ above-put fields destinationField dest chunked fields-positive h
+      ∙ above-put fields chunkField (c - 1) (t * product fields) fields-positive small-chunks
+      ∙ omega arith
+
+  -- of the fields above the offsets the destination and the chunks are given, and any other is 0
+  pub field-packet : (k : ℕ) → dimensions ≤ k
+      → digit fields k (packetWord t c dest offs) ≡ cond (eqb k destinationField) dest (cond (eqb k chunkField) (c - 1) 0)
+  unfolding packetWord
+  field-packet k l =
+      field-withs offs k dimensions addressed l (omega arith) r
+      ∙ put-field k destinationField dest chunked (omega arith) h
+      ∙ ap (cond (eqb k destinationField) dest)
+      (put-field k chunkField (c - 1) (t * product fields) (omega arith) small-chunks
+      ∙ ap (cond (eqb k chunkField) (c - 1)) (digit-multiple fields k t fields-positive))
+
+  pub offset-packet : (i : ℕ) → i < dimensions → offset i (packetWord t c dest offs) ≡ offs i
+  unfolding packetWord
+  offset-packet i k = offset-withs offs dimensions i addressed (omega arith) k r
 
 -- The shorter way round ---------------------------------------------------------------------------------------------------------------
 

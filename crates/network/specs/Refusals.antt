@@ -1,4 +1,4 @@
--- R160 to R188: the numbers, and for each call the first of its tests that applies, in its order; 0 if none does.
+-- R160 to R189: the numbers, and for each call the first of its tests that applies, in its order; 0 if none does.
 -- Order: the numbers; the tests by what each finds; the tests that all calls but Make share; Make; Offer; Move; Credit; Look. Assumes nothing.
 use mathlib.Core.Bool.{Bool, true, false, not, cond, _||_}
 use mathlib.Core.List.{List}
@@ -6,10 +6,10 @@ use Prim.Native.Nat.{ℕ}
 use lib.Dec.{leb, ltb, eqb}
 use lib.ListN.{length, getD}
 use Rattle.base.specs.Tests.{elem}
-use Rattle.network.specs.Sizes.{Shape, sizesInRange, nodes, queues, injectionQueue, capacity}
-use Rattle.network.specs.Layout.{shape, headerWords, need, held, taken, accepted}
+use Rattle.network.specs.Sizes.{Shape, within, sizesInRange, mostChunks, nodes, queues, injectionQueue, capacity}
+use Rattle.network.specs.Layout.{shape, headerWords, need, held, load, taken, accepted}
 use Rattle.network.specs.Check.{isNetwork, mostAccepted}
-use Rattle.network.specs.Routes.{routes, deliver, freeSlots, slotsNeeded}
+use Rattle.network.specs.Routes.{routes, deliver, freeLoad, loadNeeded}
 
 -- R161 to R175, with the trade's words where they are others
 abbrev pub shortStore : ℕ
@@ -78,6 +78,10 @@ head packets = getD packets 0 0
 
 -- What a test finds, by the clause of its number
 
+-- R162, of an offer: no packet has so many chunks
+abbrev pub wrongChunks : ℕ → Bool
+wrongChunks chunks = not (within 1 mostChunks chunks)
+
 -- R164
 abbrev pub noNode : Shape → ℕ → Bool
 noNode S n = leb (nodes S) n
@@ -106,13 +110,13 @@ isEmpty S w n q = eqb (length (held S w n q)) 0
 abbrev pub noRouteFor : Shape → List ℕ → ℕ → ℕ → ℕ → Bool
 noRouteFor S w n q o = not (elem o (routes q (head (held S w n q))))
 
--- R171
-abbrev pub noSlotFor : Shape → List ℕ → ℕ → ℕ → Bool
-noSlotFor S w n o = eqb (freeSlots S w n o) 0
+-- R171: less is free than the packet takes there
+abbrev pub noSlotFor : Shape → List ℕ → ℕ → ℕ → ℕ → Bool
+noSlotFor S w n o p = ltb (freeLoad S w n o) (load o p)
 
 -- R172
 abbrev pub noBubbleFor : Shape → List ℕ → ℕ → ℕ → ℕ → ℕ → Bool
-noBubbleFor S w n q o p = ltb (freeSlots S w n o) (slotsNeeded q o p)
+noBubbleFor S w n q o p = ltb (freeLoad S w n o) (loadNeeded q o p)
 
 -- R174: an offer to the node at which it is made
 abbrev pub isOwnNode : ℕ → ℕ → Bool
@@ -130,22 +134,23 @@ networkRefusal w =
 unfoldable pub makeRefusal : Shape → List ℕ → ℕ
 makeRefusal S w = refuse (not (sizesInRange S)) wrongSize (refuse (ltb (length w) (need S)) shortStore 0)
 
--- R188: 4, 14, 8, 7
-unfoldable pub offerRules : Shape → List ℕ → ℕ → ℕ → ℕ
-offerRules S w n destination =
+-- R189: 4, 2, 14, 8, 7
+unfoldable pub offerRules : Shape → List ℕ → ℕ → ℕ → ℕ → ℕ
+offerRules S w n destination chunks =
     refuse (noNode S n || noNode S destination) noSuchNode
+    (refuse (wrongChunks chunks) wrongSize
     (refuse (isOwnNode n destination) ownNode
     (refuse (countIsSpent w) countSpent
-    (refuse (injectionIsFull S w n) injectionFull 0)))
+    (refuse (injectionIsFull S w n) injectionFull 0))))
 
-unfoldable pub offerRefusal : List ℕ → ℕ → ℕ → ℕ
-offerRefusal w n destination = elseBy (networkRefusal w) (offerRules (shape w) w n destination)
+unfoldable pub offerRefusal : List ℕ → ℕ → ℕ → ℕ → ℕ
+offerRefusal w n destination chunks = elseBy (networkRefusal w) (offerRules (shape w) w n destination chunks)
 
 -- R184: 4, 5, 6, 9, 10, 11, 12; a delivery has no target and needs no slot (R153). The last two are of packet p, the head of queue q of node n
 unfoldable pub flowRules : Shape → List ℕ → ℕ → ℕ → ℕ → ℕ → ℕ
 flowRules S w n q o p =
     cond (eqb o deliver) 0
-    (refuse (noSlotFor S w n o) noSlot
+    (refuse (noSlotFor S w n o p) noSlot
     (refuse (noBubbleFor S w n q o p) noBubble 0))
 
 unfoldable pub moveRules : Shape → List ℕ → ℕ → ℕ → ℕ → ℕ

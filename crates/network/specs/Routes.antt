@@ -1,5 +1,5 @@
 -- R140 to R152: by which outputs a head may leave, and how much room it needs (the paper, section 2.3). Order: the routes; the target of an
--- output; its free slots; how many a move needs. Assumes nothing.
+-- output; how much of it is free; how much a move needs. Assumes nothing.
 use mathlib.Core.Bool.{Bool, cond, not, _&&_}
 use mathlib.Core.List.{List, [], _∷_, _++_, map}
 use Prim.Native.Nat.{ℕ, zero, suc, _-_}
@@ -47,15 +47,15 @@ routes q p =
 unfoldable pub target : Shape → ℕ → ℕ → ℕ
 target S n o = neighbour S (directionOf o) n
 
--- R116: the slots of the target that are not taken
-unfoldable pub freeSlots : Shape → List ℕ → ℕ → ℕ → ℕ
-freeSlots S w n o = capacity S o - taken S w (target S n o) o
+-- R116: what is not taken of the target: chunks of an adaptive queue, slots of an escape queue
+unfoldable pub freeLoad : Shape → List ℕ → ℕ → ℕ → ℕ
+freeLoad S w n o = capacity S o - taken S w (target S n o) o
 
 -- R151, R152: a head that goes into an escape queue enters its ring, unless it stands in the escape queue of that direction: there its queue has the
 -- output's number, and it travels in the ring already
 unfoldable pub entersRing : ℕ → ℕ → Bool
 entersRing q o = isEscape o && not (eqb q o)
 
--- R150 to R152: the free slots that packet p of queue q needs at output o: two where it enters a ring, else those that it takes there
-unfoldable pub slotsNeeded : ℕ → ℕ → ℕ → ℕ
-slotsNeeded q o p = cond (entersRing q o) 2 (load o p)
+-- R150 to R152: how much must be free where packet p of queue q goes to output o: two slots where it enters a ring, else what it takes there
+unfoldable pub loadNeeded : ℕ → ℕ → ℕ → ℕ
+loadNeeded q o p = cond (entersRing q o) 2 (load o p)

@@ -12,13 +12,13 @@ use borrow.Author.Tests.{eq-eqb, ne-eqb, lt-ltb, le-ltb}
 use lib.Dec.{T, eqb, eqb→eq, eqb-refl}
 use lib.ListN.{length, take}
 use Rattle.base.specs.Tests.{elem, or-e, or-l, or-r, elem-append-r}
-use Rattle.network.specs.Sizes.{Shape, capacity, dimensions, directions, dimensionOf, directionOf, adaptiveQueue, escapeQueue}
+use Rattle.network.specs.Sizes.{Shape, capacity, mostChunks, isAdaptive, dimensions, directions, dimensionOf, directionOf, adaptiveQueue, escapeQueue}
 use Rattle.network.specs.Packet.{distance, heading, hopsLeft}
 use Rattle.base.specs.Sums.{sumBelow, sum-zero}
 use Rattle.network.specs.Torus.{neighbour}
 use Rattle.network.specs.Layout.{held, load, taken}
-use Rattle.network.specs.LayoutLaws.{load-one, load-pos, load-escape, taken-length}
-use Rattle.network.specs.Routes.{inOrder, without, incoming, incomingFirst, headings, routes, deliver, target, freeSlots, entersRing, slotsNeeded}
+use Rattle.network.specs.LayoutLaws.{load-pos, load-most, load-escape, taken-length}
+use Rattle.network.specs.Routes.{inOrder, without, incoming, incomingFirst, headings, routes, deliver, target, freeLoad, entersRing, loadNeeded}
 
 -- a member of two lists joined, or of a list mapped
 elem-either : (a : ℕ) (xs ys : List ℕ) → T (elem a (xs ++ ys)) → T (elem a xs) ⊎ T (elem a ys)
@@ -282,21 +282,21 @@ pub target-is : (S : Shape) (n o d r : ℕ) → d ≡ directionOf o → r ≡ ne
 unfolding target
 target-is S n o d r e h = h ∙ ap (λ (k : ℕ). neighbour S k n) e
 
--- the free slots of a target, by what is taken of it, and by the number that it holds
-pub free-slots-is : (S : Shape) (w : List ℕ) (n o : ℕ) → freeSlots S w n o ≡ capacity S o - taken S w (target S n o) o
-unfolding freeSlots
-free-slots-is S w n o = refl
+-- what is free of a target, by what is taken of it, and where it counts slots by the number that it holds
+pub free-load-is : (S : Shape) (w : List ℕ) (n o : ℕ) → freeLoad S w n o ≡ capacity S o - taken S w (target S n o) o
+unfolding freeLoad
+free-load-is S w n o = refl
 
-pub free-slots-held : (S : Shape) (w : List ℕ) (n o : ℕ) → freeSlots S w n o ≡ capacity S o - length (held S w (target S n o) o)
-free-slots-held S w n o = free-slots-is S w n o ∙ ap (λ (k : ℕ). capacity S o - k) (taken-length S w (target S n o) o)
+pub free-load-held : (S : Shape) (w : List ℕ) (n o : ℕ) → isAdaptive o ≡ false → freeLoad S w n o ≡ capacity S o - length (held S w (target S n o) o)
+free-load-held S w n o e = free-load-is S w n o ∙ ap (λ (k : ℕ). capacity S o - k) (taken-length S w (target S n o) o e)
 
 -- where no less is taken, no more is free
-pub free-slots-fewer : (S : Shape) (w v : List ℕ) (n o : ℕ) → taken S w (target S n o) o ≤ taken S v (target S n o) o → freeSlots S v n o ≤ freeSlots S w n o
-free-slots-fewer S w v n o l = let a = free-slots-is S w n o in let b = free-slots-is S v n o in omega arith
+pub free-load-fewer : (S : Shape) (w v : List ℕ) (n o : ℕ) → taken S w (target S n o) o ≤ taken S v (target S n o) o → freeLoad S v n o ≤ freeLoad S w n o
+free-load-fewer S w v n o l = let a = free-load-is S w n o in let b = free-load-is S v n o in omega arith
 
 -- R151, R152: into an escape queue one slot for whoever stands in that queue, two for whoever enters its ring
-pub needed-escape : (q d p : ℕ) → slotsNeeded q (escapeQueue d) p ≡ cond (eqb q (escapeQueue d)) 1 2
-unfolding entersRing slotsNeeded
+pub needed-escape : (q d p : ℕ) → loadNeeded q (escapeQueue d) p ≡ cond (eqb q (escapeQueue d)) 1 2
+unfolding entersRing loadNeeded
 needed-escape q d p =
     rw (lt-ltb directions (escapeQueue d) (omega arith), load-escape (escapeQueue d) p (omega arith)) (go (eqb q (escapeQueue d)))
   where
@@ -305,31 +305,31 @@ needed-escape q d p =
     go false = refl
 
 -- R150: into an adaptive queue what the packet takes there
-pub needed-adaptive : (q o p : ℕ) → o ≤ directions → slotsNeeded q o p ≡ load o p
-unfolding entersRing slotsNeeded
+pub needed-adaptive : (q o p : ℕ) → o ≤ directions → loadNeeded q o p ≡ load o p
+unfolding entersRing loadNeeded
 needed-adaptive q o p h = rw (le-ltb directions o h)
 
 -- into any queue no less than that
-pub load-needed : (q o p : ℕ) → load o p ≤ slotsNeeded q o p
-unfolding slotsNeeded
+pub load-needed : (q o p : ℕ) → load o p ≤ loadNeeded q o p
+unfolding loadNeeded
 load-needed q o p = go (decLe o directions)
   where
     either : (enters : Bool) → load o p ≡ 1 → load o p ≤ cond enters 2 (load o p)
     either true l = omega arith
     either false l = omega arith
 
-    go : Dec (o ≤ directions) → load o p ≤ slotsNeeded q o p
+    go : Dec (o ≤ directions) → load o p ≤ loadNeeded q o p
     go (yes h) = le-of-eq (sym (needed-adaptive q o p h))
     go (no h) = either (entersRing q o) (load-escape o p (omega arith))
 
-pub needed-pos : (q o p : ℕ) → 0 < slotsNeeded q o p
+pub needed-pos : (q o p : ℕ) → 0 < loadNeeded q o p
 needed-pos q o p = let a = load-needed q o p in let b = load-pos o p in omega arith
 
--- and never more than two
-pub needed-most : (q o p : ℕ) → slotsNeeded q o p ≤ 2
-unfolding slotsNeeded
+-- and never more than the largest packet has chunks
+pub needed-most : (q o p : ℕ) → loadNeeded q o p ≤ mostChunks
+unfolding loadNeeded
 needed-most q o p = go (entersRing q o)
   where
-    go : (enters : Bool) → cond enters 2 (load o p) ≤ 2
+    go : (enters : Bool) → cond enters 2 (load o p) ≤ mostChunks
     go true = omega arith
-    go false = let l = load-one o p in omega arith
+    go false = load-most o p

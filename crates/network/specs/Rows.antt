@@ -17,18 +17,18 @@ use Rattle.network.specs.declared.Found.{Found}
 use Rattle.network.specs.declared.Stop.{Stop}
 use Rattle.network.specs.declared.Drained.{Drained}
 use Rattle.network.specs.Sizes.{Shape, shapeOf, sized, size, nodes, mostNodes, capacity}
-use Rattle.network.specs.Packet.{tag, destination, spare, offset, label, work, hop}
+use Rattle.network.specs.Packet.{tag, destination, chunks, spare, upperSpare, offset, label, work, hop}
 use Rattle.network.specs.Torus.{neighbour, movedBy}
 use Rattle.network.specs.Layout.{shape, accepted, delivered, movesMade, need, queueStart, queueWords, putQueue}
 use Rattle.network.specs.Check.{packetFits, workLeft}
 use Rattle.network.specs.Routes.{routes, target}
 use Rattle.network.specs.Refusals.{badLine, shortPage, networkRefusal, makeRefusal, offerRefusal, moveRefusal, lookRefusal}
 use Rattle.network.specs.Calls.{makeWords, offered, offerWords, moveWords, moveAnswer, creditAnswer, lookPart, lookAt, firstAnswer, drainWords, drainLedger, drainAnswer}
-use Rattle.network.specs.Calls.{NamedMove, moveOf, Delivery, movedNumber, movedPackets, creditNumber, creditSlots, foundNumber, foundMove, drainedNumber, drainedMoves, drainedDelivered, drainedStop}
+use Rattle.network.specs.Calls.{NamedMove, moveOf, Delivery, movedNumber, movedPackets, creditNumber, creditFree, foundNumber, foundMove, drainedNumber, drainedMoves, drainedDelivered, drainedStop}
 use Rattle.network.specs.Choices.{Permits}
 use Rattle.network.specs.Run.{move, drain, Ledger, Outcome, deliveryNodes, atNodes, ledgerOf, wordsWritten, outcome, run, isLabelled, heldWith, handedWith, hopsOf, hopsWith, atDestination}
 use Rattle.network.specs.FirstMoves.{ByFirst}
-use Rattle.network.specs.ByHand.{packet, here, empty, holding, only, chosen, definitions}
+use Rattle.network.specs.ByHand.{packet, here, ofChunks, empty, holding, only, chosen, definitions}
 
 -- the numbers of the queues
 abbrev thirteen : List ℕ
@@ -40,13 +40,13 @@ counting w a d m = set (set (set w 6 a) 7 d) 8 m
 
 -- The words -----------------------------------------------------------------------------------------------------------------------------
 
--- 3 by 1 by 2, E 4, A 5, J 6: six different sizes. A node has 13 + 6 + 6 × 5 + 6 × 4 = 73 words, six nodes 438, and with the header there are 447
+-- 3 by 1 by 2, E 4, A 5, J 6: six different sizes. A node has 13 + 6 + 48 × 5 + 6 × 4 = 283 words, six nodes 1698, and with the header there are 1707
 abbrev uneven : Shape
 uneven = shapeOf (sized 3 1 2 4 5 6)
 
 -- Make in a store that is two words longer, where all words are 7 before
 abbrev made : List ℕ
-made = makeWords uneven (replicate 449 7)
+made = makeWords uneven (replicate 1709 7)
 
 -- R42, R92: the sizes in their order, and three counters 0
 abbrev pub HeaderMade : Type 0
@@ -58,7 +58,7 @@ header-made = refl
 
 -- R91: no packet anywhere
 abbrev pub QueuesMade : Type 0
-QueuesMade = take 438 (drop 9 made) ≡ replicate 438 0
+QueuesMade = take 1698 (drop 9 made) ≡ replicate 1698 0
 
 queues-made : QueuesMade
 unfolding definitions
@@ -66,7 +66,7 @@ queues-made = refl
 
 -- R48: behind the last node Make leaves what there was
 abbrev pub RestAfterMake : Type 0
-RestAfterMake = drop 447 made ≡ 7 ∷ 7 ∷ []
+RestAfterMake = drop 1707 made ≡ 7 ∷ 7 ∷ []
 
 rest-after-make : RestAfterMake
 unfolding definitions
@@ -85,32 +85,32 @@ header-read : HeaderRead
 unfolding definitions
 header-read = (refl, refl, refl)
 
--- R22 to R24, R31 to R34: the slots of the thirteen queues, J in queue 0, A in six and E in six
+-- R22 to R24, R28, R31 to R34: the capacities of the thirteen queues, J slots in queue 0, 8 × A chunks in six and E slots in six
 abbrev pub SlotsOfQueues : Type 0
-SlotsOfQueues = map (capacity uneven) thirteen ≡ 6 ∷ 5 ∷ 5 ∷ 5 ∷ 5 ∷ 5 ∷ 5 ∷ 4 ∷ 4 ∷ 4 ∷ 4 ∷ 4 ∷ 4 ∷ []
+SlotsOfQueues = map (capacity uneven) thirteen ≡ 6 ∷ 40 ∷ 40 ∷ 40 ∷ 40 ∷ 40 ∷ 40 ∷ 4 ∷ 4 ∷ 4 ∷ 4 ∷ 4 ∷ 4 ∷ []
 
 slots-of-queues : SlotsOfQueues
 unfolding definitions
 slots-of-queues = refl
 
--- R43, R44, R47: where the queues of node 1 begin. The node begins at 9 + 73 = 82; queue 0 has 7 words, each of the adaptive queues 6, each of the escape
--- queues 5. Node 5, the last, begins at 9 + 5 × 73 = 374
+-- R43, R44, R47: where the queues of node 1 begin. The node begins at 9 + 283 = 292; queue 0 has 7 words, each of the adaptive queues 41, each of the escape
+-- queues 5. Node 5, the last, begins at 9 + 5 × 283 = 1424
 abbrev pub QueueStarts : Type 0
-QueueStarts = (map (queueStart uneven 1) thirteen ≡ 82 ∷ 89 ∷ 95 ∷ 101 ∷ 107 ∷ 113 ∷ 119 ∷ 125 ∷ 130 ∷ 135 ∷ 140 ∷ 145 ∷ 150 ∷ [])
-    × (queueStart uneven 5 0 ≡ 374)
+QueueStarts = (map (queueStart uneven 1) thirteen ≡ 292 ∷ 299 ∷ 340 ∷ 381 ∷ 422 ∷ 463 ∷ 504 ∷ 545 ∷ 550 ∷ 555 ∷ 560 ∷ 565 ∷ 570 ∷ [])
+    × (queueStart uneven 5 0 ≡ 1424)
 
 queue-starts : QueueStarts
 unfolding definitions
 queue-starts = (refl, refl)
 
--- 2 by 1 by 1, E 4, A 2, J 3. A node has 13 + 3 + 6 × 2 + 6 × 4 = 52 words: queue 0 four, the adaptive queues three each, the escape queues five each. Node 0
--- begins at 9, node 1 at 61, and there are 113 words
+-- 2 by 1 by 1, E 4, A 1, J 3. A node has 13 + 3 + 48 × 1 + 6 × 4 = 88 words: queue 0 four, the adaptive queues nine each, the escape queues five each. Node 0
+-- begins at 9, node 1 at 97, and there are 185 words
 abbrev small : Shape
-small = shapeOf (sized 2 1 1 4 2 3)
+small = shapeOf (sized 2 1 1 4 1 3)
 
--- R47: the words that both need
+-- R47: the words that both need; and those of the listing (R257), 4 by 1 by 1, E 2, A 1, J 1: four nodes of 13 + 1 + 48 + 12 = 74 words
 abbrev pub WordsNeeded : Type 0
-WordsNeeded = need uneven ∷ need small ∷ [] ≡ 447 ∷ 113 ∷ []
+WordsNeeded = need uneven ∷ need small ∷ need (shapeOf (sized 4 1 1 2 1 1)) ∷ [] ≡ 1707 ∷ 185 ∷ 305 ∷ []
 
 words-needed : WordsNeeded
 unfolding definitions
@@ -131,37 +131,37 @@ free-slots : FreeSlots
 unfolding definitions
 free-slots = refl
 
--- R49: a queue is written into words that are all 5, queue 12 of node 0: in front of its word 56 and behind its word 60 nothing is changed
+-- R49: a queue is written into words that are all 5, queue 12 of node 0: in front of its word 92 and behind its word 96 nothing is changed
 abbrev pub OwnWordsAlone : Type 0
-OwnWordsAlone = take 56 (putQueue small (replicate 113 5) 0 12 (8 ∷ [])) ++ drop 61 (putQueue small (replicate 113 5) 0 12 (8 ∷ [])) ≡ replicate 108 5
+OwnWordsAlone = take 92 (putQueue small (replicate 185 5) 0 12 (8 ∷ [])) ++ drop 97 (putQueue small (replicate 185 5) 0 12 (8 ∷ [])) ≡ replicate 180 5
 
 own-words-alone : OwnWordsAlone
 unfolding definitions
 own-words-alone = refl
 
--- three packets for node 1, with tags 5, 6 and the largest that there is. At node 0 each has dx = 1; two of them as they have arrived
+-- three packets for node 1, of 3, 5 and 8 chunks, with tags 5, 6 and the largest that there is. At node 0 each has dx = 1; two of them as they have arrived
 abbrev five : ℕ
-five = 5 * 2 ^ 32 + 2 ^ 16 + 2 ^ 10
+five = 5 * 2 ^ 32 + 2 * 2 ^ 28 + 2 ^ 16 + 2 ^ 10
 
 abbrev six : ℕ
-six = 6 * 2 ^ 32 + 2 ^ 16 + 2 ^ 10
+six = 6 * 2 ^ 32 + 4 * 2 ^ 28 + 2 ^ 16 + 2 ^ 10
 
 abbrev last : ℕ
-last = 4294967295 * 2 ^ 32 + 2 ^ 16 + 2 ^ 10
+last = 4294967295 * 2 ^ 32 + 7 * 2 ^ 28 + 2 ^ 16 + 2 ^ 10
 
 abbrev five-arrived : ℕ
-five-arrived = 5 * 2 ^ 32 + 2 ^ 16
+five-arrived = 5 * 2 ^ 32 + 2 * 2 ^ 28 + 2 ^ 16
 
 abbrev six-arrived : ℕ
-six-arrived = 6 * 2 ^ 32 + 2 ^ 16
+six-arrived = 6 * 2 ^ 32 + 4 * 2 ^ 28 + 2 ^ 16
 
 -- they are offered at node 0
 abbrev offered-three : List ℕ
-offered-three = offerWords (offerWords (offerWords (empty small) 0 1 5) 0 1 6) 0 1 4294967295
+offered-three = offerWords (offerWords (offerWords (empty small) 0 1 5 3) 0 1 6 5) 0 1 4294967295 8
 
--- R44 to R46, R60, R61, R69, R101, R102: every word then. Queue 0 of node 0 holds three and is full; the other 48 words of node 0 and the 52 of node 1 are 0
+-- R44 to R46, R60, R61, R69, R101, R102: every word then. Queue 0 of node 0 holds three and is full; the other 84 words of node 0 and the 88 of node 1 are 0
 abbrev pub WordsAfterOffers : Type 0
-WordsAfterOffers = offered-three ≡ 2 ∷ 1 ∷ 1 ∷ 4 ∷ 2 ∷ 3 ∷ 3 ∷ 0 ∷ 0 ∷ 3 ∷ five ∷ six ∷ last ∷ replicate 100 0
+WordsAfterOffers = offered-three ≡ 2 ∷ 1 ∷ 1 ∷ 4 ∷ 1 ∷ 3 ∷ 3 ∷ 0 ∷ 0 ∷ 3 ∷ five ∷ six ∷ last ∷ replicate 172 0
 
 words-after-offers : WordsAfterOffers
 unfolding definitions
@@ -169,34 +169,34 @@ words-after-offers = refl
 
 -- R42, R102, R111, R112: the header after three offers, a hop and a delivery
 abbrev pub HeaderAfter : Type 0
-HeaderAfter = take 9 (moveWords (moveWords offered-three 0 0 1) 1 1 0) ≡ 2 ∷ 1 ∷ 1 ∷ 4 ∷ 2 ∷ 3 ∷ 3 ∷ 1 ∷ 2 ∷ []
+HeaderAfter = take 9 (moveWords (moveWords offered-three 0 0 1) 1 1 0) ≡ 2 ∷ 1 ∷ 1 ∷ 4 ∷ 1 ∷ 3 ∷ 3 ∷ 1 ∷ 2 ∷ []
 
 header-after : HeaderAfter
 unfolding definitions
 header-after = refl
 
--- the same three packets by hand in that queue, and two hops to queue 1 of node 1
+-- the same three packets by hand in that queue, and two hops to queue 1 of node 1, which has eight chunks and so just room for both
 abbrev waiting : List ℕ
 waiting = holding (empty small) 0 0 (five ∷ six ∷ last ∷ [])
 
 abbrev two-hops : List ℕ
 two-hops = moveWords (moveWords waiting 0 0 1) 0 0 1
 
--- R44 to R46, R108 to R111: every word then. Node 0: queue 0 holds the last one, in front, and 50 words are 0; node 1: 4 words of queue 0, then queue 1 with
--- two packets whose dx is used up, then 45 words
+-- R44 to R46, R108 to R111: every word then. Node 0: queue 0 holds the last one, in front, and 86 words are 0; node 1: 4 words of queue 0, then queue 1 with
+-- two packets whose dx is used up, then 81 words
 abbrev pub WordsAfterHops : Type 0
 WordsAfterHops = two-hops
-    ≡ 2 ∷ 1 ∷ 1 ∷ 4 ∷ 2 ∷ 3 ∷ 3 ∷ 0 ∷ 2 ∷ 1 ∷ last ∷ (replicate 50 0 ++ (replicate 4 0 ++ (2 ∷ five-arrived ∷ six-arrived ∷ replicate 45 0)))
+    ≡ 2 ∷ 1 ∷ 1 ∷ 4 ∷ 1 ∷ 3 ∷ 3 ∷ 0 ∷ 2 ∷ 1 ∷ last ∷ (replicate 86 0 ++ (replicate 4 0 ++ (2 ∷ five-arrived ∷ six-arrived ∷ replicate 81 0)))
 
 words-after-hops : WordsAfterHops
 unfolding definitions
 words-after-hops = refl
 
--- R48: an Offer, a Move and a Drain leave the two words behind the last node, which begin at 113
+-- R48: an Offer, a Move and a Drain leave the two words behind the last node, which begin at 185
 abbrev pub RestAfterCalls : Type 0
-RestAfterCalls = (drop 113 (offerWords (waiting ++ (7 ∷ 7 ∷ [])) 1 0 5) ≡ 7 ∷ 7 ∷ [])
-    × (drop 113 (moveWords (waiting ++ (7 ∷ 7 ∷ [])) 0 0 7) ≡ 7 ∷ 7 ∷ [])
-    × (drop 113 (drainWords (waiting ++ (7 ∷ 7 ∷ [])) 9 9) ≡ 7 ∷ 7 ∷ [])
+RestAfterCalls = (drop 185 (offerWords (waiting ++ (7 ∷ 7 ∷ [])) 1 0 5 1) ≡ 7 ∷ 7 ∷ [])
+    × (drop 185 (moveWords (waiting ++ (7 ∷ 7 ∷ [])) 0 0 7) ≡ 7 ∷ 7 ∷ [])
+    × (drop 185 (drainWords (waiting ++ (7 ∷ 7 ∷ [])) 9 9) ≡ 7 ∷ 7 ∷ [])
 
 rest-after-calls : RestAfterCalls
 unfolding definitions
@@ -239,12 +239,12 @@ targets : Targets
 unfolding definitions
 targets = refl
 
--- R60, R62: the fields of a word with tag 1, the largest destination, bit 15 set, the largest dx, dy 0, and for dz the field 31
+-- R60, R62: the fields of a word with tag 1, bit 31 set, 8 chunks, the largest destination, bit 15 set, the largest dx, dy 0, and for dz the field 31
 abbrev widest : ℕ
-widest = 2 ^ 32 + 65535 * 2 ^ 16 + 2 ^ 15 + 15 * 2 ^ 10 + 31
+widest = 2 ^ 32 + 2 ^ 31 + 7 * 2 ^ 28 + 4095 * 2 ^ 16 + 2 ^ 15 + 15 * 2 ^ 10 + 31
 
 abbrev pub FieldsRead : Type 0
-FieldsRead = (tag widest ∷ destination widest ∷ spare widest ∷ [] ≡ 1 ∷ 65535 ∷ 1 ∷ [])
+FieldsRead = (tag widest ∷ upperSpare widest ∷ chunks widest ∷ destination widest ∷ spare widest ∷ [] ≡ 1 ∷ 1 ∷ 8 ∷ 4095 ∷ 1 ∷ [])
     × (offset 0 widest ∷ offset 1 widest ∷ offset 2 widest ∷ [] ≡ pos 15 ∷ pos 0 ∷ negsuc 0 ∷ [])
 
 fields-read : FieldsRead
@@ -253,15 +253,16 @@ fields-read = (refl, refl)
 
 -- R228: its label
 abbrev pub LabelRead : Type 0
-LabelRead = label widest ≡ 2 ^ 32 + 65535 * 2 ^ 16 + 2 ^ 15
+LabelRead = label widest ≡ 2 ^ 32 + 2 ^ 31 + 7 * 2 ^ 28 + 4095 * 2 ^ 16 + 2 ^ 15
 
 label-read : LabelRead
 unfolding definitions
 label-read = refl
 
--- R60, R61, R69: the word of an offer at node 0 to node 1 of the two, with the largest tag: dx = 1, half-way round from an even column, and bit 15 is 0
+-- R60, R61, R69: the word of an offer at node 0 to node 1 of the two, with the largest tag and six chunks: dx = 1, half-way round from an even column, and the
+-- bits 31 and 15 are 0
 abbrev pub OfferedWord : Type 0
-OfferedWord = offered small 0 1 4294967295 ≡ 4294967295 * 2 ^ 32 + 2 ^ 16 + 2 ^ 10
+OfferedWord = offered small 0 1 4294967295 6 ≡ 4294967295 * 2 ^ 32 + 5 * 2 ^ 28 + 2 ^ 16 + 2 ^ 10
 
 offered-word : OfferedWord
 unfolding definitions
@@ -269,8 +270,8 @@ offered-word = refl
 
 -- R67: dx of offers in a ring of five, from node 0 to nodes 1, 2, 3, 4, and from node 3 to nodes 0, 1, 2, 4
 abbrev pub ShorterWay : Type 0
-ShorterWay = (map (λ to. offset 0 (offered (shapeOf (sized 5 1 1 2 1 1)) 0 to 7)) (1 ∷ 2 ∷ 3 ∷ 4 ∷ []) ≡ pos 1 ∷ pos 2 ∷ negsuc 1 ∷ negsuc 0 ∷ [])
-    × (map (λ to. offset 0 (offered (shapeOf (sized 5 1 1 2 1 1)) 3 to 7)) (0 ∷ 1 ∷ 2 ∷ 4 ∷ []) ≡ pos 2 ∷ negsuc 1 ∷ negsuc 0 ∷ pos 1 ∷ [])
+ShorterWay = (map (λ to. offset 0 (offered (shapeOf (sized 5 1 1 2 1 1)) 0 to 7 1)) (1 ∷ 2 ∷ 3 ∷ 4 ∷ []) ≡ pos 1 ∷ pos 2 ∷ negsuc 1 ∷ negsuc 0 ∷ [])
+    × (map (λ to. offset 0 (offered (shapeOf (sized 5 1 1 2 1 1)) 3 to 7 1)) (0 ∷ 1 ∷ 2 ∷ 4 ∷ []) ≡ pos 2 ∷ negsuc 1 ∷ negsuc 0 ∷ pos 1 ∷ [])
 
 shorter-way : ShorterWay
 unfolding definitions
@@ -278,7 +279,7 @@ shorter-way = (refl, refl)
 
 -- R68: dz of offers half-way round a ring of six, from node 0 to 3, from 1 to 4, and so on round
 abbrev pub HalfWay : Type 0
-HalfWay = map (λ n. offset 2 (offered (shapeOf (sized 1 1 6 2 1 1)) n ((n + 3) % 6) 7)) (0 ∷ 1 ∷ 2 ∷ 3 ∷ 4 ∷ 5 ∷ [])
+HalfWay = map (λ n. offset 2 (offered (shapeOf (sized 1 1 6 2 1 1)) n ((n + 3) % 6) 7 1)) (0 ∷ 1 ∷ 2 ∷ 3 ∷ 4 ∷ 5 ∷ [])
     ≡ pos 3 ∷ negsuc 2 ∷ pos 3 ∷ negsuc 2 ∷ pos 3 ∷ negsuc 2 ∷ []
 
 half-way : HalfWay
@@ -294,7 +295,7 @@ headed s = s .x ∷ s .y ∷ s .z ∷ s .escape ∷ s .adaptive ∷ s .injection
 -- one below the least and one above the most are refused by 2; the least and the most are not: Make has words enough, and nine words are too few for Check
 abbrev Range : (ℕ → Sizes) → ℕ → ℕ → Type 0
 Range sizes least most =
-    (map (λ k. makeRefusal (shapeOf (sizes k)) (replicate 600 0)) ((least - 1) ∷ least ∷ most ∷ (most + 1) ∷ []) ≡ 2 ∷ 0 ∷ 0 ∷ 2 ∷ [])
+    (map (λ k. makeRefusal (shapeOf (sizes k)) (replicate 1200 0)) ((least - 1) ∷ least ∷ most ∷ (most + 1) ∷ []) ≡ 2 ∷ 0 ∷ 0 ∷ 2 ∷ [])
     × (map (λ k. networkRefusal (headed (sizes k))) ((least - 1) ∷ least ∷ most ∷ (most + 1) ∷ []) ≡ 2 ∷ 1 ∷ 1 ∷ 2 ∷ [])
 
 abbrev pub RangeOfX : Type 0
@@ -341,30 +342,50 @@ range-of-j = (refl, refl)
 
 -- The check --------------------------------------------------------------------------------------------------------------------------------
 
--- 2 by 1 by 1, E 2, A 1, J 1. A node has 13 + 1 + 6 + 12 = 32 words: two for queue 0 and for each adaptive queue, three for each escape queue. Node 0 begins
--- at 9, node 1 at 41, and there are 73 words
+-- 2 by 1 by 1, E 2, A 1, J 1. A node has 13 + 1 + 48 + 12 = 74 words: two for queue 0, nine for each adaptive queue, three for each escape queue. Node 0 begins
+-- at 9, node 1 at 83, and there are 157 words
 abbrev two : Shape
 two = shapeOf (sized 2 1 1 2 1 1)
 
--- a packet for node 0 that has arrived there, tag 7
+-- a packet for node 0 that has arrived there, tag 7, one chunk
 abbrev seven : ℕ
 seven = 7 * 2 ^ 32
 
--- R72: as many held as the queue has slots, and one more, at node 0: in queue 0, which begins at 9, in queue 1, at 11, and in queue 7, at 23
+-- R72: as many held as the queue has words for packets, and one more, at node 0: in queue 0, which begins at 9, in queue 1, at 11, and in queue 7, at 65
 abbrev pub OneTooMany : Type 0
-OneTooMany = (map (λ c. networkRefusal (set (set (counting (empty two) 1 0 0) 9 c) 10 seven)) (1 ∷ 2 ∷ []) ≡ 0 ∷ 3 ∷ [])
-    × (map (λ c. networkRefusal (set (set (counting (empty two) 1 0 0) 11 c) 12 seven)) (1 ∷ 2 ∷ []) ≡ 0 ∷ 3 ∷ [])
-    × (map (λ c. networkRefusal (set (set (set (counting (empty two) 2 0 0) 23 c) 24 seven) 25 seven)) (2 ∷ 3 ∷ []) ≡ 0 ∷ 3 ∷ [])
+OneTooMany = (map (λ c. networkRefusal (set (holding (empty two) 0 0 (seven ∷ [])) 9 c)) (1 ∷ 2 ∷ []) ≡ 0 ∷ 3 ∷ [])
+    × (map (λ c. networkRefusal (set (holding (empty two) 0 1 (replicate 8 seven)) 11 c)) (8 ∷ 9 ∷ []) ≡ 0 ∷ 3 ∷ [])
+    × (map (λ c. networkRefusal (set (holding (empty two) 0 7 (seven ∷ seven ∷ [])) 65 c)) (2 ∷ 3 ∷ []) ≡ 0 ∷ 3 ∷ [])
 
 one-too-many : OneTooMany
 unfolding definitions
 one-too-many = (refl, refl, refl)
 
--- R73, R48: the last word of a queue of node 1 that holds nothing: of queue 0, which has words 61 to 64, of queue 6, 80 to 82, and of queue 12, 108 to 112; the
+-- R27, R89, A 1, so eight chunks: what queue 1 of node 0 holds, by chunks: 8; 4 and 4; eight times 1; 4 and 5; seven times 1 and a 2. In queue 7, of two slots,
+-- 8 and 8
+abbrev pub LoadTooLarge : Type 0
+LoadTooLarge = (map (λ cs. networkRefusal (holding (empty two) 0 1 (map (λ c. ofChunks c seven) cs)))
+    ((8 ∷ []) ∷ (4 ∷ 4 ∷ []) ∷ replicate 8 1 ∷ (4 ∷ 5 ∷ []) ∷ (replicate 7 1 ++ (2 ∷ [])) ∷ [])
+    ≡ 0 ∷ 0 ∷ 0 ∷ 3 ∷ 3 ∷ [])
+    × (networkRefusal (holding (empty two) 0 7 (replicate 2 (ofChunks 8 seven))) ≡ 0)
+
+load-too-large : LoadTooLarge
+unfolding definitions
+load-too-large = (refl, refl)
+
+-- the same with A 8, so 64 chunks: 64 packets of one; 63 of one and one of two
+abbrev pub LoadOfSixtyFour : Type 0
+LoadOfSixtyFour = map (λ c. networkRefusal (holding (empty (shapeOf (sized 2 1 1 2 8 1))) 0 1 (replicate 63 seven ++ (ofChunks c seven ∷ [])))) (1 ∷ 2 ∷ []) ≡ 0 ∷ 3 ∷ []
+
+load-of-sixty-four : LoadOfSixtyFour
+unfolding definitions
+load-of-sixty-four = refl
+
+-- R73, R48: the last word of a queue of node 1 that holds nothing: of queue 0, which has words 97 to 100, of queue 6, 146 to 154, and of queue 12, 180 to 184; the
 -- last word of queue 0 behind a packet, and that packet alone; and a word behind the last node, of which nothing is asked
 abbrev pub LastWordSet : Type 0
-LastWordSet = (map (λ i. networkRefusal (set (empty small) i 1)) (64 ∷ 82 ∷ 112 ∷ []) ≡ 3 ∷ 3 ∷ 3 ∷ [])
-    × (networkRefusal (set (holding (empty small) 1 0 (here 1 ∷ [])) 64 1) ≡ 3)
+LastWordSet = (map (λ i. networkRefusal (set (empty small) i 1)) (100 ∷ 154 ∷ 184 ∷ []) ≡ 3 ∷ 3 ∷ 3 ∷ [])
+    × (networkRefusal (set (holding (empty small) 1 0 (here 1 ∷ [])) 100 1) ≡ 3)
     × (networkRefusal (holding (empty small) 1 0 (here 1 ∷ [])) ≡ 0)
     × (networkRefusal (empty small ++ (1 ∷ [])) ≡ 0)
 
@@ -469,6 +490,14 @@ spare-bit-set : SpareBitSet
 unfolding definitions
 spare-bit-set = refl
 
+-- R88: with bit 31 set
+abbrev pub UpperSpareBitSet : Type 0
+UpperSpareBitSet = networkRefusal (only two 0 (seven + 2 ^ 31)) ≡ 3
+
+upper-spare-bit-set : UpperSpareBitSet
+unfolding definitions
+upper-spare-bit-set = refl
+
 -- R81, E 4: of the ring x+, and of the ring x−, node 0 and node 1 hold 4 and 4, 4 and 3, 3 and 4
 abbrev ring-of : ℕ → ℕ → ℕ → List ℕ
 ring-of q a b = holding (holding (empty small) 0 q (replicate a (here 0))) 1 q (replicate b (here 1))
@@ -567,8 +596,8 @@ most-moves = refl
 -- The order of refusals --------------------------------------------------------------------------------------------------------------------
 
 -- 2 by 1 by 1 and E 2, A 1, J 1 again, crowded. Node 0 has in queue 0, which is full, a packet for node 1 with dx = 1, tag 9: its routes are outputs 1 and 7. Node 1
--- has one that has arrived in each of the queues 1, 2, 7 and 8, tags 1 to 4: for node 0, whose neighbour node 1 is in x+ and in x−, the targets of outputs 1 and 2
--- have no free slot and those of 7 and 8 have one
+-- has one that has arrived in each of the queues 1, 2, 7 and 8, tags 1 to 4, eight chunks each: for node 0, whose neighbour node 1 is in x+ and in x−, the
+-- targets of outputs 1 and 2 have no free chunk and those of 7 and 8 have one free slot
 abbrev nine : ℕ
 nine = 9 * 2 ^ 32 + 2 ^ 16 + 2 ^ 10
 
@@ -576,7 +605,7 @@ abbrev nine-arrived : ℕ
 nine-arrived = 9 * 2 ^ 32 + 2 ^ 16
 
 abbrev arrived : ℕ → ℕ
-arrived tag = tag * 2 ^ 32 + 2 ^ 16
+arrived tag = tag * 2 ^ 32 + 7 * 2 ^ 28 + 2 ^ 16
 
 abbrev crowded : List ℕ
 crowded =
@@ -591,10 +620,10 @@ abbrev no-network : List ℕ
 no-network = counting crowded 4294967295 0 0
 
 abbrev one-missing : List ℕ
-one-missing = take 72 no-network
+one-missing = take 156 no-network
 
 abbrev wrong-size : List ℕ
-wrong-size = take 72 (set no-network 0 17)
+wrong-size = take 156 (set no-network 0 17)
 
 abbrev no-header : List ℕ
 no-header = take 8 wrong-size
@@ -611,7 +640,7 @@ unfolding definitions
 make-2 = refl
 
 abbrev pub Make1 : Type 0
-Make1 = (makeRefusal two (replicate 72 0) ≡ 1) × (makeRefusal two (replicate 73 0) ≡ 0)
+Make1 = (makeRefusal two (replicate 156 0) ≡ 1) × (makeRefusal two (replicate 157 0) ≡ 0)
 
 make-1 : Make1
 unfolding definitions
@@ -647,9 +676,9 @@ unfolding definitions
 check-3 = refl
 
 -- R181, R182: every other call starts so, also where its arguments break all of its own rules that can be broken together: no node, no queue, no output; for Offer
--- the same number twice and a count that is spent
+-- the same number twice, a chunk number that there is not, and a count that is spent
 abbrev pub OfferAsCheck : Type 0
-OfferAsCheck = map (λ w. offerRefusal w 2 2) spoilt ≡ 1 ∷ 2 ∷ 1 ∷ 3 ∷ []
+OfferAsCheck = map (λ w. offerRefusal w 2 2 9) spoilt ≡ 1 ∷ 2 ∷ 1 ∷ 3 ∷ []
 
 offer-as-check : OfferAsCheck
 unfolding definitions
@@ -690,31 +719,41 @@ drain-as-check : DrainAsCheck
 unfolding definitions
 drain-as-check = refl
 
--- R188, Offer. 4: node and destination are no node and equal, with the count spent; the destination alone, from a full queue; the node alone. 14: with the count
--- spent and from a full queue. 8: from a full queue. 7: by itself; and an offer that is taken
+-- R189, Offer. 4: node and destination are no node and equal, with no such chunk number and the count spent; the destination alone, from a full queue; the node
+-- alone. 2: chunk number 0 and 9, to itself with the count spent and from a full queue, and to another node. 14: with the count spent and from a full queue. 8:
+-- from a full queue. 7: by itself, whatever the chunks; and offers of one chunk and of eight that are taken
 abbrev pub Offer4 : Type 0
-Offer4 = offerRefusal count-spent 2 2 ∷ offerRefusal count-spent 0 2 ∷ offerRefusal count-spent 2 0 ∷ [] ≡ 4 ∷ 4 ∷ 4 ∷ []
+Offer4 = offerRefusal count-spent 2 2 9 ∷ offerRefusal count-spent 0 2 9 ∷ offerRefusal count-spent 2 0 9 ∷ [] ≡ 4 ∷ 4 ∷ 4 ∷ []
 
 offer-4 : Offer4
 unfolding definitions
 offer-4 = refl
 
+abbrev pub Offer2 : Type 0
+Offer2 = offerRefusal count-spent 0 0 0 ∷ offerRefusal count-spent 0 0 9 ∷ offerRefusal crowded 1 0 0 ∷ offerRefusal crowded 1 0 9 ∷ []
+    ≡ 2 ∷ 2 ∷ 2 ∷ 2 ∷ []
+
+offer-2 : Offer2
+unfolding definitions
+offer-2 = refl
+
 abbrev pub Offer14 : Type 0
-Offer14 = offerRefusal count-spent 0 0 ≡ 14
+Offer14 = offerRefusal count-spent 0 0 1 ≡ 14
 
 offer-14 : Offer14
 unfolding definitions
 offer-14 = refl
 
 abbrev pub Offer8 : Type 0
-Offer8 = offerRefusal count-spent 0 1 ≡ 8
+Offer8 = offerRefusal count-spent 0 1 1 ≡ 8
 
 offer-8 : Offer8
 unfolding definitions
 offer-8 = refl
 
 abbrev pub Offer7 : Type 0
-Offer7 = (offerRefusal crowded 0 1 ≡ 7) × (offerRefusal crowded 1 0 ≡ 0)
+Offer7 = (offerRefusal crowded 0 1 1 ∷ offerRefusal crowded 0 1 8 ∷ [] ≡ 7 ∷ 7 ∷ [])
+    × (offerRefusal crowded 1 0 1 ∷ offerRefusal crowded 1 0 8 ∷ [] ≡ 0 ∷ 0 ∷ [])
 
 offer-7 : Offer7
 unfolding definitions
@@ -722,7 +761,7 @@ offer-7 = (refl, refl)
 
 -- R168: of an empty network, with accepted 2^32 − 2, 2^32 − 1 and 2^32
 abbrev pub CountSpent : Type 0
-CountSpent = map (λ a. offerRefusal (counting (empty two) a a 0) 0 1) (4294967294 ∷ 4294967295 ∷ 4294967296 ∷ []) ≡ 0 ∷ 8 ∷ 3 ∷ []
+CountSpent = map (λ a. offerRefusal (counting (empty two) a a 0) 0 1 1) (4294967294 ∷ 4294967295 ∷ 4294967296 ∷ []) ≡ 0 ∷ 8 ∷ 3 ∷ []
 
 count-is-spent : CountSpent
 unfolding definitions
@@ -829,7 +868,7 @@ text-numbers = refl
 
 -- What refused calls leave (R120, R193, R194) ------------------------------------------------------------------------------------------------
 
--- Make, refused by 2 for E 1, and by 1, since `small` needs 113 words
+-- Make, refused by 2 for E 1, and by 1, since `small` needs 185 words
 abbrev pub RefusedMake : Type 0
 RefusedMake = (makeWords (shapeOf (sized 2 1 1 1 1 1)) crowded ≡ crowded) × (makeWords small crowded ≡ crowded)
 
@@ -839,7 +878,7 @@ refused-make = (refl, refl)
 
 -- Offer, refused by 7 and by 3
 abbrev pub RefusedOffer : Type 0
-RefusedOffer = (offerWords crowded 0 1 5 ≡ crowded) × (offerWords no-network 1 0 5 ≡ no-network)
+RefusedOffer = (offerWords crowded 0 1 5 1 ≡ crowded) × (offerWords no-network 1 0 5 1 ≡ no-network)
 
 refused-offer : RefusedOffer
 unfolding definitions
@@ -887,10 +926,10 @@ abbrev credit-answers : List Credit
 credit-answers = creditAnswer crowded 0 13 ∷ creditAnswer crowded 0 7 ∷ []
 
 abbrev pub CreditTold : Type 0
-CreditTold = (map creditNumber credit-answers ≡ 6 ∷ 0 ∷ []) × (map creditSlots credit-answers ≡ 0 ∷ 1 ∷ [])
+CreditTold = (map creditNumber credit-answers ≡ 6 ∷ 0 ∷ []) × (map creditFree credit-answers ≡ 0 ∷ 1 ∷ [])
 
 credit-told : CreditTold
-unfolding definitions creditNumber creditSlots
+unfolding definitions creditNumber creditFree
 credit-told = (refl, refl)
 
 -- First: refused by 3; the delivery from queue 1 of node 1; none. The number, and the move
@@ -950,18 +989,21 @@ escape-of-heads = refl
 
 -- Flow -------------------------------------------------------------------------------------------------------------------------------------
 
--- 4 by 1 by 1, A 2, J 1: at node 0 a packet for node 1 with dx = 1 in the escape queue x+ (7), in the injection queue and in the adaptive queue x+ (1), and in the
--- given queue of node 1 so many that have arrived
+-- 4 by 1 by 1, A 1, J 1: at node 0 a packet of three chunks for node 1 with dx = 1 in the escape queue x+ (7), in the injection queue and in the adaptive queue
+-- x+ (1), and in the given queue of node 1 packets that have arrived, by their chunks
+abbrev one-hop-of : ℕ → ℕ
+one-hop-of c = ofChunks c (packet 1 (pos 1) (pos 0) (pos 0))
+
 abbrev one-hop : ℕ
-one-hop = packet 1 (pos 1) (pos 0) (pos 0)
+one-hop = one-hop-of 3
 
-abbrev ahead : ℕ → ℕ → ℕ → List ℕ
-ahead slots q count =
-    holding (holding (holding (only (shapeOf (sized 4 1 1 slots 2 1)) 7 one-hop) 0 0 (one-hop ∷ [])) 0 1 (one-hop ∷ [])) 1 q (replicate count (here 1))
+abbrev ahead : ℕ → ℕ → List ℕ → List ℕ
+ahead slots q chunks =
+    holding (holding (holding (only (shapeOf (sized 4 1 1 slots 1 1)) 7 one-hop) 0 0 (one-hop ∷ [])) 0 1 (one-hop ∷ [])) 1 q (map (λ c. ofChunks c (here 1)) chunks)
 
--- Move from a queue of node 0 to that queue of node 1, by how many stand there
+-- Move from a queue of node 0 to that queue of node 1, by how many of eight chunks stand there
 abbrev into : ℕ → ℕ → ℕ → List ℕ → List ℕ
-into slots from to counts = map (λ count. moveRefusal (ahead slots to count) 0 from to) counts
+into slots from to counts = map (λ count. moveRefusal (ahead slots to (replicate count 8)) 0 from to) counts
 
 -- R151, E 3, with 0, 1, 2, 3 ahead: along the ring while a slot is free
 abbrev pub AlongTheRing : Type 0
@@ -994,13 +1036,41 @@ into-the-ring-of-eight : IntoTheRingOfEight
 unfolding definitions
 into-the-ring-of-eight = (refl, refl)
 
--- R150, A 2, with 0, 1, 2 ahead: into an adaptive queue while a slot is free, from a ring, from the injection queue and from an adaptive queue
+-- R150, R171, eight chunks, with none taken, 5 by one packet, 5 by two, 6 by two and 8 by one: into an adaptive queue while three are free, from a ring, from the
+-- injection queue and from an adaptive queue
 abbrev pub IntoAnAdaptiveQueue : Type 0
-IntoAnAdaptiveQueue = map (λ from. into 3 from 1 (0 ∷ 1 ∷ 2 ∷ [])) (7 ∷ 0 ∷ 1 ∷ []) ≡ (0 ∷ 0 ∷ 11 ∷ []) ∷ (0 ∷ 0 ∷ 11 ∷ []) ∷ (0 ∷ 0 ∷ 11 ∷ []) ∷ []
+IntoAnAdaptiveQueue = map (λ from. map (λ cs. moveRefusal (ahead 3 1 cs) 0 from 1) ([] ∷ (5 ∷ []) ∷ (2 ∷ 3 ∷ []) ∷ (1 ∷ 5 ∷ []) ∷ (8 ∷ []) ∷ [])) (7 ∷ 0 ∷ 1 ∷ [])
+    ≡ replicate 3 (0 ∷ 0 ∷ 0 ∷ 11 ∷ 11 ∷ [])
 
 into-an-adaptive-queue : IntoAnAdaptiveQueue
 unfolding definitions
 into-an-adaptive-queue = refl
+
+-- 4 by 1 by 1, E 2, A 1, J 1, as in the listing
+abbrev four : Shape
+four = shapeOf (sized 4 1 1 2 1 1)
+
+-- R150, R171, R172: a packet of 1 to 8 chunks in queue 0 of node 0, and in queue 1 of node 1 one of seven: it goes there if it has one chunk, and else there is no
+-- 12 but 11; with nothing there, one of eight goes. Into queue 7, where one of eight chunks stands and a slot is free, none may
+abbrev pub OneChunkFree : Type 0
+OneChunkFree = (map (λ c. moveRefusal (holding (only four 0 (one-hop-of c)) 1 1 (ofChunks 7 (here 1) ∷ [])) 0 0 1) (1 ∷ 2 ∷ 3 ∷ 4 ∷ 5 ∷ 6 ∷ 7 ∷ 8 ∷ [])
+    ≡ 0 ∷ replicate 7 11)
+    × (moveRefusal (only four 0 (one-hop-of 8)) 0 0 1 ≡ 0)
+    × (map (λ c. moveRefusal (holding (only four 0 (one-hop-of c)) 1 7 (ofChunks 8 (here 1) ∷ [])) 0 0 7) (1 ∷ 8 ∷ []) ≡ 12 ∷ 12 ∷ [])
+
+one-chunk-free : OneChunkFree
+unfolding definitions
+one-chunk-free = (refl, refl, refl)
+
+-- R151, R152, R172, E 2, one packet of one chunk in the escape queue x+ of node 1: the packets of three chunks at node 0 go there along the ring, and lack the
+-- bubble from the injection queue and from the adaptive queue; Credit tells of one slot
+abbrev pub OneSlotFree : Type 0
+OneSlotFree = (map (λ from. moveRefusal (ahead 2 7 (1 ∷ [])) 0 from 7) (7 ∷ 0 ∷ 1 ∷ []) ≡ 0 ∷ 12 ∷ 12 ∷ [])
+    × (creditAnswer (ahead 2 7 (1 ∷ [])) 0 7 ≡ Credit.Free 1)
+
+one-slot-free : OneSlotFree
+unfolding definitions
+one-slot-free = (refl, refl)
 
 -- R153: a delivery at node 0, with the injection queue of its neighbour full
 abbrev pub DeliveryNeedsNoSlot : Type 0
@@ -1034,15 +1104,15 @@ both-arrived = holding (empty small) 1 1 (five-arrived ∷ six-arrived ∷ [])
 
 abbrev pub OldestOut : Type 0
 OldestOut = (moveAnswer both-arrived 1 1 0 ≡ Moved.Delivered five-arrived)
-    × (moveWords both-arrived 1 1 0 ≡ 2 ∷ 1 ∷ 1 ∷ 4 ∷ 2 ∷ 3 ∷ 2 ∷ 1 ∷ 1 ∷ (replicate 56 0 ++ (1 ∷ six-arrived ∷ replicate 46 0)))
+    × (moveWords both-arrived 1 1 0 ≡ 2 ∷ 1 ∷ 1 ∷ 4 ∷ 1 ∷ 3 ∷ 2 ∷ 1 ∷ 1 ∷ (replicate 92 0 ++ (1 ∷ six-arrived ∷ replicate 82 0)))
 
 oldest-out : OldestOut
 unfolding definitions
 oldest-out = (refl, refl)
 
--- R119: where Look's part begins: behind word 9, behind word 65 and behind word 108
+-- R119: where Look's part begins: behind word 9, behind word 101 and behind word 180
 abbrev pub LookBegins : Type 0
-LookBegins = lookAt offered-three 0 0 ∷ lookAt offered-three 1 1 ∷ lookAt offered-three 1 12 ∷ [] ≡ 10 ∷ 66 ∷ 109 ∷ []
+LookBegins = lookAt offered-three 0 0 ∷ lookAt offered-three 1 1 ∷ lookAt offered-three 1 12 ∷ [] ≡ 10 ∷ 102 ∷ 181 ∷ []
 
 look-begins : LookBegins
 unfolding definitions
@@ -1056,35 +1126,47 @@ look-by-queue : LookByQueue
 unfolding definitions
 look-by-queue = refl
 
--- R110: one hop along x, from dx = 2, 1, −1, −2, with dy = 3 and dz = −4; and one along z
+-- R110: one hop along x, from dx = 2, 1, −1, −2, with dy = 3 and dz = −4; one along z; and one along x of the word with all fields, whose dx is 15
 abbrev pub OneHopNearer : Type 0
 OneHopNearer = (map (λ dx. hop 0 (packet 1 dx (pos 3) (negsuc 3))) (pos 2 ∷ pos 1 ∷ negsuc 0 ∷ negsuc 1 ∷ [])
     ≡ map (λ dx. packet 1 dx (pos 3) (negsuc 3)) (pos 1 ∷ pos 0 ∷ pos 0 ∷ negsuc 0 ∷ []))
     × (hop 2 (packet 1 (pos 2) (pos 3) (negsuc 3)) ≡ packet 1 (pos 2) (pos 3) (negsuc 2))
+    × (hop 0 widest ≡ 2 ^ 32 + 2 ^ 31 + 7 * 2 ^ 28 + 4095 * 2 ^ 16 + 2 ^ 15 + 14 * 2 ^ 10 + 31)
 
 one-hop-nearer : OneHopNearer
 unfolding definitions
-one-hop-nearer = (refl, refl)
+one-hop-nearer = (refl, refl, refl)
 
 -- Credit -----------------------------------------------------------------------------------------------------------------------------------
 
--- packets that have arrived, so many in queues 1, 2, 7 and 8: at node 0 there are 1, 0, 1, 2, at node 1 there are 2, 1, 0, 4. Of A 2 and E 4 slots, what is ahead of
--- node 0 leaves 0, 1, 4, 0 and what is ahead of node 1 leaves 1, 2, 3, 2
+-- packets of three chunks that have arrived, so many in queues 1, 2, 7 and 8: at node 0 there are 1, 0, 1, 2, at node 1 there are 2, 1, 0, 4. Of eight chunks and E 4
+-- slots, what is ahead of node 0 leaves 2 and 5 chunks, 4 and 0 slots, and what is ahead of node 1 leaves 5 and 8 chunks, 3 and 2 slots
+abbrev three-chunks : ℕ → ℕ
+three-chunks n = ofChunks 3 (here n)
+
 abbrev so-many : List ℕ → ℕ → ℕ → ℕ → ℕ → ℕ → List ℕ
 so-many w n a b c d =
-    holding (holding (holding (holding w n 1 (replicate a (here n))) n 2 (replicate b (here n))) n 7 (replicate c (here n))) n 8 (replicate d (here n))
+    holding (holding (holding (holding w n 1 (replicate a (three-chunks n))) n 2 (replicate b (three-chunks n))) n 7 (replicate c (three-chunks n))) n 8 (replicate d (three-chunks n))
 
 abbrev lopsided : List ℕ
 lopsided = so-many (so-many (empty small) 0 1 0 1 2) 1 2 1 0 4
 
--- R20, R116: for adaptive outputs
+-- R27, R116: for adaptive outputs
 abbrev pub CreditAdaptive : Type 0
 CreditAdaptive = creditAnswer lopsided 0 1 ∷ creditAnswer lopsided 0 2 ∷ creditAnswer lopsided 1 1 ∷ creditAnswer lopsided 1 2 ∷ []
-    ≡ Credit.Free 0 ∷ Credit.Free 1 ∷ Credit.Free 1 ∷ Credit.Free 2 ∷ []
+    ≡ Credit.Free 2 ∷ Credit.Free 5 ∷ Credit.Free 5 ∷ Credit.Free 8 ∷ []
 
 credit-adaptive : CreditAdaptive
 unfolding definitions
 credit-adaptive = refl
+
+-- and where the target, one of four nodes, has one packet of seven chunks, or none
+abbrev pub CreditByChunks : Type 0
+CreditByChunks = creditAnswer (holding (empty four) 1 1 (ofChunks 7 (here 1) ∷ [])) 0 1 ∷ creditAnswer (empty four) 0 1 ∷ [] ≡ Credit.Free 1 ∷ Credit.Free 8 ∷ []
+
+credit-by-chunks : CreditByChunks
+unfolding definitions
+credit-by-chunks = refl
 
 -- for escape outputs
 abbrev pub CreditEscape : Type 0
@@ -1151,13 +1233,13 @@ first-none = refl
 -- of tags 2, 3 and 4, from queues 2, 7 and 8. Six moves, five deliveries
 
 -- every word after two of them: accepted 5, delivered 1, moves made 2; node 0 is empty; node 1 has its 2 words of queue 0, one packet in each of the
--- queues 1, 2, 7 and 8, and 8 and 12 words of the queues between and behind
+-- queues 1, 2, 7 and 8, and 36 and 12 words of the queues between and behind
 abbrev after-two : List ℕ
 after-two =
     2 ∷ 1 ∷ 1 ∷ 2 ∷ 1 ∷ 1 ∷ 5 ∷ 1 ∷ 2
-    ∷ (replicate 32 0
+    ∷ (replicate 74 0
     ++ (replicate 2 0
-    ++ (1 ∷ nine-arrived ∷ 1 ∷ arrived 2 ∷ (replicate 8 0 ++ (1 ∷ arrived 3 ∷ 0 ∷ 1 ∷ arrived 4 ∷ 0 ∷ replicate 12 0)))))
+    ++ (1 ∷ nine-arrived ∷ (replicate 7 0 ++ (1 ∷ arrived 2 ∷ (replicate 7 0 ++ (replicate 36 0 ++ (1 ∷ arrived 3 ∷ 0 ∷ 1 ∷ arrived 4 ∷ 0 ∷ replicate 12 0))))))))
 
 -- R127, R111: with a budget of 2
 abbrev pub DrainWords : Type 0
@@ -1296,12 +1378,13 @@ run-ledgers : RunLedgers
 unfolding running
 run-ledgers = (refl, refl, refl)
 
--- R215, R226, R234, R235: every word afterwards: accepted 6, delivered 3, moves made 4; node 0 is empty; node 1 has one packet in each of the queues 2, 7
--- and 8
+-- R215, R226, R234, R235: every word afterwards: accepted 6, delivered 3, moves made 4; node 0 is empty, 74 words; node 1 has 2 and 9 words of queues 0 and 1,
+-- then one packet in each of the queues 2, 7 and 8, with 7 words behind the first of them, and 36 and 12 words of the queues between and behind
 abbrev pub RunWords : Type 0
 RunWords = ran .words
     ≡ 2 ∷ 1 ∷ 1 ∷ 2 ∷ 1 ∷ 1 ∷ 6 ∷ 3 ∷ 4
-    ∷ (replicate 32 0 ++ (replicate 4 0 ++ (1 ∷ arrived 2 ∷ (replicate 8 0 ++ (1 ∷ arrived 3 ∷ 0 ∷ 1 ∷ arrived 4 ∷ 0 ∷ replicate 12 0)))))
+    ∷ (replicate 74 0
+    ++ (replicate 11 0 ++ (1 ∷ arrived 2 ∷ (replicate 7 0 ++ (replicate 36 0 ++ (1 ∷ arrived 3 ∷ 0 ∷ 1 ∷ arrived 4 ∷ 0 ∷ replicate 12 0))))))
 
 run-words : RunWords
 unfolding running
@@ -1315,10 +1398,10 @@ run-work : RunWork
 unfolding running
 run-work = refl
 
--- R228, R232: how many packets are held with a label, where 1 + 0 + 1 + 2 have arrived at node 0 and 2 + 1 + 0 + 4 at node 1 (`lopsided`); one with a hop
--- left counts for its label, and for no other; and how many of those handed out have it
+-- R228, R232: how many packets are held with a label, where 1 + 0 + 1 + 2 have arrived at node 0 and 2 + 1 + 0 + 4 at node 1, of three chunks each
+-- (`lopsided`): those of one chunk are others; one with a hop left counts for its label, and for no other; and how many of those handed out have it
 abbrev pub LabelsCounted : Type 0
-LabelsCounted = (map (λ l. heldWith l small lopsided) (here 0 ∷ here 1 ∷ arrived 1 ∷ []) ≡ 4 ∷ 7 ∷ 0 ∷ [])
+LabelsCounted = (map (λ l. heldWith l small lopsided) (three-chunks 0 ∷ three-chunks 1 ∷ here 1 ∷ arrived 1 ∷ []) ≡ 4 ∷ 7 ∷ 0 ∷ 0 ∷ [])
     × (map (λ l. heldWith l two crowded) (nine-arrived ∷ nine ∷ []) ≡ 1 ∷ 0 ∷ [])
     × (map (λ l. handedWith l (ran .handedOut)) (seven ∷ nine-arrived ∷ nine ∷ []) ≡ 1 ∷ 1 ∷ 0 ∷ [])
 
@@ -1383,6 +1466,8 @@ pub record KeptRows : Type 0 where
   pub range-of-a : RangeOfA
   pub range-of-j : RangeOfJ
   pub one-too-many : OneTooMany
+  pub load-too-large : LoadTooLarge
+  pub load-of-sixty-four : LoadOfSixtyFour
   pub last-word-set : LastWordSet
   pub leads-there : LeadsThere
   pub where-offsets-lead : WhereOffsetsLead
@@ -1393,6 +1478,7 @@ pub record KeptRows : Type 0 where
   pub last-node-checked : LastNodeChecked
   pub own-node-held : OwnNodeHeld
   pub spare-bit-set : SpareBitSet
+  pub upper-spare-bit-set : UpperSpareBitSet
   pub full-ring : FullRing
   pub full-ring-of-z : FullRingOfZ
   pub ring-of-a-column : RingOfAColumn
@@ -1415,6 +1501,7 @@ pub record KeptRows : Type 0 where
   pub first-as-check : FirstAsCheck
   pub drain-as-check : DrainAsCheck
   pub offer-4 : Offer4
+  pub offer-2 : Offer2
   pub offer-14 : Offer14
   pub offer-8 : Offer8
   pub offer-7 : Offer7
@@ -1449,6 +1536,8 @@ pub record KeptRows : Type 0 where
   pub along-the-ring-of-eight : AlongTheRingOfEight
   pub into-the-ring-of-eight : IntoTheRingOfEight
   pub into-an-adaptive-queue : IntoAnAdaptiveQueue
+  pub one-chunk-free : OneChunkFree
+  pub one-slot-free : OneSlotFree
   pub delivery-needs-no-slot : DeliveryNeedsNoSlot
   pub newest-last-by-offer : NewestLastByOffer
   pub newest-last-by-hop : NewestLastByHop
@@ -1457,6 +1546,7 @@ pub record KeptRows : Type 0 where
   pub look-by-queue : LookByQueue
   pub one-hop-nearer : OneHopNearer
   pub credit-adaptive : CreditAdaptive
+  pub credit-by-chunks : CreditByChunks
   pub credit-escape : CreditEscape
   pub first-permitted : FirstPermitted
   pub first-by-node : FirstByNode
@@ -1517,6 +1607,8 @@ keptRows =
       range-of-a = range-of-a;
       range-of-j = range-of-j;
       one-too-many = one-too-many;
+      load-too-large = load-too-large;
+      load-of-sixty-four = load-of-sixty-four;
       last-word-set = last-word-set;
       leads-there = leads-there;
       where-offsets-lead = where-offsets-lead;
@@ -1527,6 +1619,7 @@ keptRows =
       last-node-checked = last-node-checked;
       own-node-held = own-node-held;
       spare-bit-set = spare-bit-set;
+      upper-spare-bit-set = upper-spare-bit-set;
       full-ring = full-ring;
       full-ring-of-z = full-ring-of-z;
       ring-of-a-column = ring-of-a-column;
@@ -1549,6 +1642,7 @@ keptRows =
       first-as-check = first-as-check;
       drain-as-check = drain-as-check;
       offer-4 = offer-4;
+      offer-2 = offer-2;
       offer-14 = offer-14;
       offer-8 = offer-8;
       offer-7 = offer-7;
@@ -1583,6 +1677,8 @@ keptRows =
       along-the-ring-of-eight = along-the-ring-of-eight;
       into-the-ring-of-eight = into-the-ring-of-eight;
       into-an-adaptive-queue = into-an-adaptive-queue;
+      one-chunk-free = one-chunk-free;
+      one-slot-free = one-slot-free;
       delivery-needs-no-slot = delivery-needs-no-slot;
       newest-last-by-offer = newest-last-by-offer;
       newest-last-by-hop = newest-last-by-hop;
@@ -1591,6 +1687,7 @@ keptRows =
       look-by-queue = look-by-queue;
       one-hop-nearer = one-hop-nearer;
       credit-adaptive = credit-adaptive;
+      credit-by-chunks = credit-by-chunks;
       credit-escape = credit-escape;
       first-permitted = first-permitted;
       first-by-node = first-by-node;

@@ -13,9 +13,9 @@ use lib.Seq.{length-take-le, getD-take, take-add, ext-getD}
 use Rattle.base.specs.Tests.{allOf, EachBelow, each-at}
 use Rattle.base.specs.Sums.{sumBelow}
 use Rattle.network.specs.Sizes.{Shape, nodes, queues, capacity}
-use Rattle.network.specs.Layout.{headerWords, shape, accepted, delivered, movesMade, raised, taken, queueLength, nodeWords, queueStart, queueEnd, need, queueWords, queuePart, countOf, unusedOf, held, putQueue}
-use Rattle.network.specs.LayoutLaws.{header-long, taken-length, node-words, start-end, end-next, Fits, countOf-queueWords, unused-zero, length-packetsOf, queueWords-packetsOf, length-queuePart, part-put-same, part-put-other, length-put, length-raised, part-raised}
-use Rattle.network.specs.CheckLaws.{QueueFits, Network}
+use Rattle.network.specs.Layout.{headerWords, shape, accepted, delivered, movesMade, raised, queueLength, nodeWords, queueStart, queueEnd, need, queueWords, queuePart, countOf, unusedOf, held, putQueue}
+use Rattle.network.specs.LayoutLaws.{header-long, node-words, start-end, end-next, Fits, countOf-queueWords, unused-zero, length-packetsOf, queueWords-packetsOf, length-queuePart, part-put-same, part-put-other, length-put, length-raised, part-raised}
+use Rattle.network.specs.CheckLaws.{Network}
 
 -- queue q of node n is another one than queue r of node m; and two queues are the same one or not
 abbrev pub OtherQueue : ℕ → ℕ → ℕ → ℕ → Type 0
@@ -45,13 +45,6 @@ queue-stored S v n q ps e h = record { few = rw (e, countOf-queueWords (capacity
 pub stored-few : (S : Shape) (w : List ℕ) (n q : ℕ) → Fits S w n q → QueueStored S w n q → length (held S w n q) ≤ capacity S q
 unfolding held queueLength
 stored-few S w n q at l = rw (length-packetsOf (capacity S q) (queuePart S w n q) (length-queuePart S w n q at) (l .few)) (l .few)
-
--- no more of a queue that fits is taken than its capacity
-pub taken-few : (S : Shape) (w : List ℕ) (n q : ℕ) → Fits S w n q → QueueFits S w n q → taken S w n q ≤ capacity S q
-taken-few S w n q at f =
-    let e = taken-length S w n q in
-    let l = stored-few S w n q at (record { few = f .few; unused = f .unused }) in
-    omega arith
 
 -- every queue is so stored
 pub record QueuesStored (S : Shape) (w : List ℕ) : Type 0 where

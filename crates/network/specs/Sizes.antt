@@ -1,6 +1,6 @@
--- R1, R20 to R25 and R31 to R34: what a network is made of. The constants of src/lib.rt are these numbers for the code.
+-- R1, R21 to R28 and R31 to R34: what a network is made of. The constants of src/lib.rt are these numbers for the code.
 -- Order: dimensions and directions; the sizes of a network and their ranges; the thirteen queues and their capacities. Assumes nothing.
-use mathlib.Core.Bool.{Bool, cond, _&&_}
+use mathlib.Core.Bool.{Bool, cond, not, _&&_, _||_}
 use mathlib.Core.List.{List, [], _∷_}
 use Prim.Native.Nat.{ℕ, _+_, _*_, _-_, _/_, _%_, _^_}
 use lib.Dec.{leb, ltb, eqb}
@@ -29,7 +29,7 @@ dimensionOf d = d / 2
 abbrev pub isPlus : ℕ → Bool
 isPlus d = eqb (d % 2) 0
 
--- R20, R25: X, Y and Z, and the slots E, A and J of a queue of each kind, one number for all nodes
+-- R25: X, Y and Z, and E, A and J, by which a queue of each kind is long, one number for all nodes
 pub record Shape : Type 0 where
   pub sizes : List ℕ
   pub escape : ℕ
@@ -66,6 +66,10 @@ sizesInRange S =
     && (within fewestEscape mostSlots (S .escape)
     && (within 1 mostSlots (S .adaptive) && within 1 mostSlots (S .injection)))
 
+-- R26: a packet has 1 to 8 chunks
+abbrev pub mostChunks : ℕ
+mostChunks = 8
+
 -- R30: nodes are numbered 0 to X × Y × Z − 1
 unfoldable pub nodes : Shape → ℕ
 nodes S = product (S .sizes)
@@ -94,9 +98,14 @@ directionOf q = (q - 1) % directions
 abbrev pub isEscape : ℕ → Bool
 isEscape q = ltb directions q
 
+-- R33: an adaptive queue is neither an escape queue nor the injection queue
+abbrev pub isAdaptive : ℕ → Bool
+isAdaptive q = not (isEscape q || eqb q injectionQueue)
+
+-- R22 to R24, R28: the most load that a queue takes, and its words for packets: J and E slots, and A times the chunks of the largest packet
 unfoldable pub capacity : Shape → ℕ → ℕ
-capacity S q = cond (eqb q injectionQueue) (S .injection) (cond (isEscape q) (S .escape) (S .adaptive))
+capacity S q = cond (eqb q injectionQueue) (S .injection) (cond (isEscape q) (S .escape) (mostChunks * S .adaptive))
 
 -- no queue of a network has a larger one, and so no more words for packets
 abbrev pub largestCapacity : ℕ
-largestCapacity = mostSlots
+largestCapacity = mostChunks * mostSlots

@@ -1,13 +1,15 @@
--- Sizes in range as facts, and back; then the capacities of the queues and their bounds. Assumes nothing.
-use mathlib.Core.Path.{_≡_}
-use mathlib.Core.Bool.{Bool, true, false, cond}
+-- Sizes in range as facts, and back; then the kinds of the queues, their capacities and the bounds of these. Assumes nothing.
+use mathlib.Core.Path.{_≡_, sym, _∙_}
+use mathlib.Core.Bool.{Bool, true, false, cond, true≢false}
+use mathlib.Core.Logic.{_≢_}
 use mathlib.Core.List.{List, [], _∷_}
-use Prim.Native.Nat.{ℕ, _<_, _≤_}
+use Prim.Native.Nat.{ℕ, _*_, _<_, _≤_}
+use native.Mathlib.Decide.{ℕ-discrete, decLe}
 use native.Mathlib.Omega.{arith}
-use borrow.Author.Tests.{ne-eqb, lt-ltb}
+use borrow.Author.Tests.{ne-eqb, lt-ltb, le-ltb}
 use lib.Dec.{T, leb, eqb, leb→le, le→leb}
 use Rattle.base.specs.Tests.{allOf, allPass, EachPasses, clauses-of, clauses-by}
-use Rattle.network.specs.Sizes.{Shape, within, sizesInRange, injectionQueue, escapeQueue, isEscape, directions, capacity, largestRing, fewestEscape, mostSlots, largestCapacity}
+use Rattle.network.specs.Sizes.{Shape, within, sizesInRange, injectionQueue, escapeQueue, isEscape, isAdaptive, directions, capacity, largestRing, fewestEscape, mostSlots, mostChunks, largestCapacity}
 
 pub record Between (least most n : ℕ) : Type 0 where
   pub low : least ≤ n
@@ -57,24 +59,46 @@ range-by S r =
       ),
     )
 
--- every queue has a slot, an escape queue two, and none more than eight
+-- the kind of a queue by its number
+pub injection-slots : (q : ℕ) → q ≡ injectionQueue → isAdaptive q ≡ false
+injection-slots q e = rw (e, le-ltb directions injectionQueue (omega arith))
+
+pub escape-slots : (q : ℕ) → directions < q → isAdaptive q ≡ false
+escape-slots q h = rw (lt-ltb directions q h)
+
+pub adaptive-chunks : (q : ℕ) → q ≢ injectionQueue → q ≤ directions → isAdaptive q ≡ true
+adaptive-chunks q ne h = rw (le-ltb directions q h, ne-eqb q injectionQueue ne)
+
+pub adaptive-of : (q : ℕ) → isAdaptive q ≡ true → (0 < q) × (q ≤ directions)
+adaptive-of q e = go (ℕ-discrete q injectionQueue) (decLe q directions)
+  where
+    go : Dec (q ≡ injectionQueue) → Dec (q ≤ directions) → (0 < q) × (q ≤ directions)
+    go (yes z) l = absurd (true≢false (sym e ∙ injection-slots q z))
+    go (no ne) (no l) = absurd (true≢false (sym e ∙ escape-slots q (omega arith)))
+    go (no ne) (yes l) = (omega arith, l)
+
+-- every queue takes a packet, an escape queue two, and none more than is the most
 pub capacity-most : (S : Shape) (q : ℕ) → InRange S → capacity S q ≤ largestCapacity
 unfolding capacity
 capacity-most S q r = go (eqb q injectionQueue) (isEscape q)
   where
-    go : (a b : Bool) → cond a (S .injection) (cond b (S .escape) (S .adaptive)) ≤ largestCapacity
-    go true b = r .injection .high
-    go false true = r .escape .high
-    go false false = r .adaptive .high
+    go : (a b : Bool) → cond a (S .injection) (cond b (S .escape) (mostChunks * S .adaptive)) ≤ largestCapacity
+    go true b = let l = r .injection .high in omega arith
+    go false true = let l = r .escape .high in omega arith
+    go false false = let l = r .adaptive .high in omega arith
 
 pub capacity-pos : (S : Shape) (q : ℕ) → InRange S → 0 < capacity S q
 unfolding capacity
 capacity-pos S q r = go (eqb q injectionQueue) (isEscape q)
   where
-    go : (a b : Bool) → 0 < cond a (S .injection) (cond b (S .escape) (S .adaptive))
+    go : (a b : Bool) → 0 < cond a (S .injection) (cond b (S .escape) (mostChunks * S .adaptive))
     go true b = r .injection .low
     go false true = let e : 2 ≤ S .escape = r .escape .low in omega arith
-    go false false = r .adaptive .low
+    go false false = let l = r .adaptive .low in omega arith
+
+pub adaptive-capacity : (S : Shape) (q : ℕ) → q ≢ injectionQueue → q ≤ directions → capacity S q ≡ mostChunks * S .adaptive
+unfolding capacity
+adaptive-capacity S q ne h = rw (ne-eqb q injectionQueue ne, le-ltb directions q h)
 
 pub escape-capacity : (S : Shape) (d : ℕ) → capacity S (escapeQueue d) ≡ S .escape
 unfolding capacity

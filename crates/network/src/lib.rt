@@ -3,10 +3,10 @@
 // of the numbers, under the same names, Selection.antt what follows from a sign, and Calls.antt when a call gives which answer, and what is read of it.
 ghost use mathlib.Core.Path.{_≡_};
 ghost use Prim.Native.Nat.{_<_};
-ghost use Rattle.network.specs.Sizes.{sized, directionOf};
+ghost use Rattle.network.specs.Sizes.{sized, directionOf, isAdaptive};
 ghost use Rattle.network.specs.Calls.{drainedNumber, drainedMoves, drainedDelivered};
 
-// R20, R25: the nodes along x, y and z, and the slots of a queue of each kind: the sizes of a network, in the order of its first words.
+// R25, R28: the nodes along x, y and z, and by how much a queue of each kind is long: the sizes of a network, in the order of its first words.
 pub struct Sizes {
     pub x: u64,
     pub y: u64,
@@ -55,6 +55,19 @@ pub fn direction_of(q: u64) -> u64
     (q - 1) % DIRECTIONS
 }
 
+// R27, R33: whether a queue is an adaptive one, of which a packet takes its chunks.
+pub fn is_adaptive(q: u64) -> bool
+    ensures { λ r. ⌜ r ≡ isAdaptive q ⌝ }
+{
+    if q == INJECTION_QUEUE {
+        return false;
+    }
+    if DIRECTIONS < q {
+        return false;
+    }
+    true
+}
+
 // R21 to R24: the ranges of the sizes. Every ring and every queue has at least one node or slot, an escape queue two.
 pub const LARGEST_RING: u64 = 16;
 
@@ -78,17 +91,24 @@ pub const DELIVERED_AT: usize = 7;
 
 pub const MOVES_AT: usize = 8;
 
-// R60: the fields of a packet word: how many values an offset has, the spare bit above the offsets, and how many destinations can be named; and by
-// how much the word grows when the spare bit, the destination or the tag is one more.
+// R26: the chunks of the largest packet.
+pub const MOST_CHUNKS: u64 = 8;
+
+// R60: the fields of a packet word: how many values an offset has and a spare bit, and how many destinations can be named; the chunks minus one have as
+// many as there are chunks; and by how much the word grows when the lower spare bit, the destination, the chunks, the upper spare bit or the tag is one more.
 pub const OFFSET_VALUES: u64 = 32;
 
 pub const SPARE_VALUES: u64 = 2;
 
-pub const DESTINATION_VALUES: u64 = 65536;
+pub const DESTINATION_VALUES: u64 = 4096;
 
 pub const SPARE_AT: u64 = 32768;
 
 pub const DESTINATION_AT: u64 = 65536;
+
+pub const CHUNKS_AT: u64 = 268435456;
+
+pub const UPPER_SPARE_AT: u64 = 2147483648;
 
 pub const TAG_AT: u64 = 4294967296;
 
@@ -159,7 +179,7 @@ pub enum Moved {
     Delivered(u64),
 }
 
-// Credit: refused by a rule, or the free slots of the target.
+// Credit: refused by a rule, or how much is free of the target, in chunks or in slots.
 pub enum Credit {
     Refused(u64),
     Free(u64),

@@ -6,12 +6,12 @@ use native.Mathlib.Numerals.{add-one}
 use native.Mathlib.Omega.{arith}
 use lib.Dec.{T}
 use lib.IntN.{ℤ}
-use Rattle.network.specs.Sizes.{shapeOf, sizesInRange, dimensions}
+use Rattle.network.specs.Sizes.{shapeOf, sizesInRange, dimensions, mostChunks}
 use Rattle.network.specs.declared.Sizes.{Sizes}
 use Rattle.network.specs.PacketLaws.{OffsetRange, fields-positive, offset-values, offset-field-lt, tag-is, tag-with}
-use Rattle.base.specs.Digits.{product, digit, putDigit, weight, weight-pos, digit-weight, put-weight}
+use Rattle.base.specs.Digits.{product, digit, putDigit, weight, weight-pos, digit-multiple, digit-put-other, digit-weight, put-weight}
 use native.Mathlib.Nat.{zero-mul}
-use Rattle.network.specs.Packet.{offsetValues, fields, offsetField, destinationField, unsigned, withOffset, withOffsets}
+use Rattle.network.specs.Packet.{offsetValues, fields, offsetField, destinationField, chunkField, unsigned, withOffset, withOffsets}
 use Rattle.network.specs.TorusLaws.{sizes-torus, inRange-size}
 use Rattle.network.specs.Calls.{offeredWay}
 use Rattle.network.specs.OfferLaws.{offered-range}
@@ -65,11 +65,25 @@ module _ (i p w : ℕ) (h : i < dimensions) (e : w ≡ weight fields (offsetFiel
 pub sizes-way : (s : Sizes) (n destination i : ℕ) → T (sizesInRange (shapeOf s)) → i < dimensions → OffsetRange (offeredWay (shapeOf s) n destination i)
 sizes-way s n destination i t h = offered-range (shapeOf s) n destination i (sizes-torus s t) (λ j k. inRange-size (shapeOf s) j t) h
 
--- the word of a tag and a destination, before any offset
-pub word-start : (t dest : ℕ) (offs : ℕ → ℤ) → dest < 65536
-    → t * 4294967296 + dest * 65536 ≡ withOffsets 0 offs (putDigit fields destinationField dest (t * product fields))
-unfolding withOffsets putDigit product
-word-start t dest offs h = omega arith
+-- the word of a tag, chunks and a destination, before any offset
+abbrev pub wordStart : ℕ → ℕ → ℕ → ℕ
+wordStart t c dest = putDigit fields destinationField dest (putDigit fields chunkField (c - 1) (t * product fields))
+
+pub word-start : (t c dest : ℕ) (offs : ℕ → ℤ) → 1 ≤ c → c ≤ mostChunks → dest < 4096
+    → t * 4294967296 + (c - 1) * 268435456 + dest * 65536 ≡ withOffsets 0 offs (wordStart t c dest)
+unfolding withOffsets weight product
+word-start t c dest offs l m h =
+    let base : ℕ = t * product fields in
+    let e : base ≡ t * 4294967296 = refl in
+    let chunked : ℕ = putDigit fields chunkField (c - 1) base in
+    let a : chunked + digit fields chunkField base * 268435456 ≡ base + (c - 1) * 268435456 = put-weight fields chunkField (c - 1) base (omega arith) in
+    let b : wordStart t c dest + digit fields destinationField chunked * 65536 ≡ chunked + dest * 65536 =
+    put-weight fields destinationField dest chunked (omega arith) in
+    let none : digit fields chunkField base ≡ 0 = digit-multiple fields chunkField t fields-positive in
+    let none′ : digit fields destinationField chunked ≡ 0 =
+    digit-put-other fields chunkField destinationField (c - 1) base fields-positive (λ e. omega arith) (omega arith)
+    ∙ digit-multiple fields destinationField t fields-positive in
+    omega arith
 
 -- one offset more
 pub word-more : (i p r w : ℕ) (z : ℤ) (offs : ℕ → ℤ) → r ≡ withOffset i z p → z ≡ offs i → p ≡ withOffsets i offs w → r ≡ withOffsets (i + 1) offs w

@@ -1,23 +1,30 @@
 // The packet word in code: its offsets as signed numbers, its fields, a hop, and the packet of an offer. Every function equals the definition of
 // its name in the crate `network` (specs/Packet.antt, Calls.antt). The torus that packets cross is the crate `torus`.
+use network::CHUNKS_AT;
 use network::DESTINATION_AT;
 use network::DESTINATION_VALUES;
 use network::DIMENSIONS;
+use network::MOST_CHUNKS;
 use network::OFFSET_VALUES;
 use network::SPARE_AT;
 use network::SPARE_VALUES;
 use network::Sign;
 use network::Sizes;
 use network::TAG_AT;
+use network::UPPER_SPARE_AT;
+use network::is_adaptive;
 use torus::coordinate;
 use torus::size;
 ghost use mathlib.Core.Path.{_≡_};
+ghost use mathlib.Core.Bool.{_&&_};
 ghost use Prim.Native.Nat.{_<_, _≤_};
 ghost use lib.Dec.{T};
 ghost use lib.IntN.{natAbs};
 ghost use Rattle.base.specs.Digits.{digit, weight};
-ghost use Rattle.network.specs.Sizes.{shapeOf, sizesInRange, dimensions, largestRing, nodes};
-ghost use Rattle.network.specs.Packet.{offsetValues, fields, offsetField, signed, unsigned, offset, withOffset, shrunk, hop, destination, spare, shorterWay};
+ghost use Rattle.network.specs.Sizes.{shapeOf, sizesInRange, dimensions, largestRing, mostChunks, nodes};
+ghost use Rattle.network.specs.Packet.{offsetValues, fields, offsetField, signed, unsigned, offset, withOffset, shrunk, hop, destination, chunks, spare, upperSpare, shorterWay};
+ghost use Rattle.network.specs.Layout.{load};
+ghost use Rattle.network.specs.Check.{spareClear, upperSpareClear};
 ghost use Rattle.network.specs.PacketLaws.{OffsetRange};
 ghost use Rattle.network.specs.Selection.{sign};
 ghost use Rattle.network.specs.Calls.{offeredWay, offered};
@@ -77,11 +84,44 @@ pub fn destination(p: u64) -> u64
     p / DESTINATION_AT % DESTINATION_VALUES
 }
 
-// The bit above the offsets, of which nothing is made.
+// How many chunks the packet has. The word has one less.
+pub fn chunks(p: u64) -> u64
+    ensures { λ r. ⌜ r ≡ chunks p ⌝ }
+{
+    p / CHUNKS_AT % MOST_CHUNKS + 1
+}
+
+// The bits above the offsets and above the chunks, of which nothing is made.
 pub fn spare(p: u64) -> u64
     ensures { λ r. ⌜ r ≡ spare p ⌝ }
 {
     p / SPARE_AT % SPARE_VALUES
+}
+
+pub fn upper_spare(p: u64) -> u64
+    ensures { λ r. ⌜ r ≡ upperSpare p ⌝ }
+{
+    p / UPPER_SPARE_AT % SPARE_VALUES
+}
+
+// Whether both are 0.
+pub fn spares_clear(p: u64) -> bool
+    ensures { λ r. ⌜ r ≡ (spareClear p && upperSpareClear p) ⌝ }
+{
+    if spare(p) != 0 {
+        return false;
+    }
+    upper_spare(p) == 0
+}
+
+// What the packet takes of queue q: its chunks in an adaptive queue, one slot in any other.
+pub fn load(q: u64, p: u64) -> u64
+    ensures { λ r. ⌜ r ≡ load q p ⌝ }
+{
+    if !is_adaptive(q) {
+        return 1;
+    }
+    chunks(p)
 }
 
 // By how much a word grows when the offset of dimension i is one more: that of the last dimension stands lowest. All are powers of two, so that no
@@ -175,11 +215,11 @@ fn way(s: Sizes, i: u64, n: u64, destination: u64) -> i64
 }
 
 // The packet word of an offer.
-pub fn offered(s: Sizes, n: u64, destination: u64, tag: u32) -> u64
-    requires { ⌜ T (sizesInRange (shapeOf s)) × (n < nodes (shapeOf s)) × (destination < nodes (shapeOf s)) ⌝ }
-    ensures { λ r. ⌜ r ≡ offered (shapeOf s) n destination tag ⌝ }
+pub fn offered(s: Sizes, n: u64, destination: u64, tag: u32, chunks: u64) -> u64
+    requires { ⌜ T (sizesInRange (shapeOf s)) × (n < nodes (shapeOf s)) × (destination < nodes (shapeOf s)) × (1 ≤ chunks) × (chunks ≤ mostChunks) ⌝ }
+    ensures { λ r. ⌜ r ≡ offered (shapeOf s) n destination tag chunks ⌝ }
 {
-    let mut p = (tag as u64) * TAG_AT + destination * DESTINATION_AT;
+    let mut p = (tag as u64) * TAG_AT + (chunks - 1) * CHUNKS_AT + destination * DESTINATION_AT;
     let mut i = 0;
     while i < DIMENSIONS {
         p = with_offset(i, way(s, i, n, destination), p);

@@ -14,16 +14,16 @@ use Rattle.base.specs.Bits.{bit}
 use Rattle.base.specs.Digits.{weight}
 use Rattle.base.specs.Sums.{sumBelow, sum-next, sum-most}
 use Rattle.network.specs.Sizes.{shapeOf, sizesInRange, size, dimensions, dimensionOf, queues, mostNodes, plus, minus}
-use Rattle.network.specs.Packet.{offsetValues, destination, spare, distance, hops, hopsLeft, work}
+use Rattle.network.specs.Packet.{offsetValues, destination, distance, hops, hopsLeft, work}
 use Rattle.network.specs.PacketLaws.{halfOffsets, one-way, distance-is, distance-most}
 use Rattle.network.specs.Torus.{movedBy}
 use Rattle.network.specs.TorusLaws.{sizes-torus}
-use Rattle.network.specs.Check.{spareClear, packetFits}
+use Rattle.network.specs.Check.{packetFits}
 use Rattle.network.specs.declared.Sizes.{Sizes}
 use Rattle.torus.specs.declared.Place.{Place}
 use Rattle.torus.specs.Geometry.{nodeAt, OnTorus}
 use Rattle.torus.specs.GeometryLaws.{place-node}
-use Rattle.packet_check.specs.PacketLimits.{limit, belowBoth, belowAlong, belowLimits}
+use Rattle.packet_check.specs.PacketLimits.{sparesClear, limit, belowBoth, belowAlong, belowLimits}
 use Rattle.packet_check.specs.LimitLaws.{limit-size, fits-is}
 use Rattle.packet_check.specs.Tables.{ringWords, dimensionWords, firstDistance, Tables}
 use Rattle.packet_check.proofs.Offsets.{passing-is, distance-of}
@@ -113,21 +113,16 @@ module _ (s : Sizes) (place : Place) (q p : ℕ) where
   answer = cond (packetFits (shapeOf s) (nodeAt s place) q p) (work p) 0
 
   module _ (on : OnTorus s place) where
-    fits : packetFits (shapeOf s) (nodeAt s place) q p ≡ spareClear p && (belowLimits (shapeOf s) q p && eqb (destination p) (movedBy (shapeOf s) p (nodeAt s place)))
+    fits : packetFits (shapeOf s) (nodeAt s place) q p ≡ sparesClear p && (belowLimits (shapeOf s) q p && eqb (destination p) (movedBy (shapeOf s) p (nodeAt s place)))
     fits = fits-is (shapeOf s) (nodeAt s place) q p (sizes-torus s (on .sizes)) (place-node on)
 
     no-answer : packetFits (shapeOf s) (nodeAt s place) q p ≡ false → 0 ≡ answer
     no-answer e = ap (λ (t : Bool). cond t (work p) 0) (sym e)
 
-    pub spare-set : spare p ≢ 0 → 0 ≡ answer
-    unfolding spareClear
-    spare-set n = no-answer (fits ∙ and-stop _ _ (ne-eqb (spare p) 0 n))
+    pub spare-set : sparesClear p ≡ false → 0 ≡ answer
+    spare-set e = no-answer (fits ∙ and-stop _ _ e)
 
-    module _ (clear : spare p ≡ 0) where
-      cleared : spareClear p ≡ true
-      unfolding spareClear
-      cleared = eq-eqb (spare p) 0 clear
-
+    module _ (cleared : sparesClear p ≡ true) where
       pub limit-reached : (i : ℕ) → i < dimensions → belowAlong (shapeOf s) q p i ≡ false → 0 ≡ answer
       unfolding belowLimits
       limit-reached i h e = no-answer (fits ∙ and-on _ _ cleared ∙ and-stop _ _ (fails-at dimensions (belowAlong (shapeOf s) q p) i h e))

@@ -12,14 +12,14 @@ use lib.Dec.{T, ltb, eqb, ltb→lt, lt→ltb, eqb→eq}
 use Rattle.base.specs.Tests.{allPass, EachPasses, clauses-of, clauses-by, all-at, all-by, and-l, and-r, and-i, T-true, passed?, T-false}
 use Rattle.base.specs.Bools.{same-test}
 use Rattle.network.specs.Sizes.{Shape, shapeOf, sizesInRange, size, nodes, dimensions, directions, dimensionOf, directionOf, isEscape, isPlus, plus, minus, injectionQueue}
-use Rattle.network.specs.Packet.{destination, spare, distance, hops}
+use Rattle.network.specs.Packet.{destination, spare, upperSpare, distance, hops}
 use Rattle.network.specs.PacketLaws.{halfOffsets, one-way, distance-is, hops-le, dimension-lt}
 use Rattle.network.specs.Torus.{movedBy}
 use Rattle.network.specs.TorusLaws.{Torus, sizes-torus, size-pos, inRange-size, movedBy-lt}
-use Rattle.network.specs.Check.{longest, isQueueOf, reach, opposite, spareClear, packetFits}
+use Rattle.network.specs.Check.{longest, isQueueOf, reach, opposite, spareClear, upperSpareClear, packetFits}
 use Rattle.network.specs.CheckLaws.{PacketFits, packet-of, packet-by, eq-T, reach-least, reach-other, opposite-dimension, opposite-lt}
 use Rattle.network.specs.declared.Sizes.{Sizes}
-use Rattle.packet_check.specs.PacketLimits.{limit, belowBoth, belowAlong, belowLimits}
+use Rattle.packet_check.specs.PacketLimits.{sparesClear, limit, belowBoth, belowAlong, belowLimits}
 
 -- The limits by the queue's direction -------------------------------------------------------------------------------------------------
 
@@ -251,10 +251,12 @@ module _ (S : Shape) (n q p : ℕ) where
       go (inl z) e = omega arith
       go (inr z) e = omega arith
 
-  clauses : Torus S → n < nodes S → ((d : ℕ) → d < directions → hops d p < limit S q d) → spare p ≡ 0 → movedBy S p n ≡ destination p → PacketFits S n q p
-  clauses torus hn h clear e =
+  clauses : Torus S → n < nodes S → ((d : ℕ) → d < directions → hops d p < limit S q d) → spare p ≡ 0 → upperSpare p ≡ 0 → movedBy S p n ≡ destination p
+      → PacketFits S n q p
+  clauses torus hn h clear upper e =
       record {
         clear = clear;
+        upper-clear = upper;
         addressed = let l = movedBy-lt S n p torus hn in omega arith;
         arrives = e;
         near = λ i k. near i k (ℕ-discrete q injectionQueue) (ℕ-discrete (dimensionOf (directionOf q)) i);
@@ -318,16 +320,24 @@ module _ (S : Shape) (n q p : ℕ) where
               omega arith
 
   -- the check of a packet is that of its limits
-  pub fits-is : Torus S → n < nodes S → packetFits S n q p ≡ spareClear p && (belowLimits S q p && eqb (destination p) (movedBy S p n))
-  unfolding spareClear allPass EachPasses
+  pub fits-is : Torus S → n < nodes S → packetFits S n q p ≡ sparesClear p && (belowLimits S q p && eqb (destination p) (movedBy S p n))
+  unfolding spareClear upperSpareClear allPass EachPasses
   fits-is torus hn =
       same-test (packetFits S n q p) (allPass tests)
       (λ t.
       let f = packet-of S n q p t in
-      clauses-by tests (eq-T (spare p) 0 (f .clear), (below-by S q p (hops-below f), eq-T (destination p) (movedBy S p n) (sym (f .arrives)))))
+      clauses-by tests (
+        clauses-by spares (eq-T (spare p) 0 (f .clear), eq-T (upperSpare p) 0 (f .upper-clear)),
+        (below-by S q p (hops-below f), eq-T (destination p) (movedBy S p n) (sym (f .arrives))),
+      ))
       (λ t.
-      let (clear, (near, there)) = clauses-of tests t in
-      packet-by S n q p (clauses torus hn (below-of S q p near) (eqb→eq (spare p) 0 clear) (sym (eqb→eq (destination p) (movedBy S p n) there))))
+      let (both, (near, there)) = clauses-of tests t in
+      let (clear, upper) = clauses-of spares both in
+      packet-by S n q p
+      (clauses torus hn (below-of S q p near) (eqb→eq (spare p) 0 clear) (eqb→eq (upperSpare p) 0 upper) (sym (eqb→eq (destination p) (movedBy S p n) there))))
     where
+      spares : List Bool
+      spares = eqb (spare p) 0 ∷ eqb (upperSpare p) 0 ∷ []
+
       tests : List Bool
-      tests = eqb (spare p) 0 ∷ belowLimits S q p ∷ eqb (destination p) (movedBy S p n) ∷ []
+      tests = sparesClear p ∷ belowLimits S q p ∷ eqb (destination p) (movedBy S p n) ∷ []

@@ -182,7 +182,7 @@ pub fn work_if_fits(tables: &[u64], s: Sizes, place: Place, q: u64, p: u64) -> u
     requires { ⌜ OnTorus s place × Tables s (now tables) × (q < queues) ⌝ }
     ensures { λ r. ⌜ r ≡ cond (packetFits (shapeOf s) (nodeAt s place) q p) (work p) 0 ⌝ }
 {
-    if packet::spare(p) != 0 {
+    if !packet::spares_clear(p) {
         return 0;
     }
     let at = place.at;

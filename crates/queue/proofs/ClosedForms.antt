@@ -9,7 +9,7 @@ use borrow.Author.Tests.{ne-eqb, lt-ltb, le-ltb}
 use Rattle.base.specs.Sums.{sumBelow, sum-fewer, sum-most}
 use lib.Dec.{T}
 use Rattle.network.specs.declared.Sizes.{Sizes}
-use Rattle.network.specs.Sizes.{Shape, shapeOf, sizesInRange, nodes, mostNodes, largestCapacity, queues, directions, injectionQueue, adaptiveQueue, escapeQueue, capacity}
+use Rattle.network.specs.Sizes.{Shape, shapeOf, sizesInRange, nodes, mostNodes, mostChunks, largestCapacity, queues, directions, injectionQueue, adaptiveQueue, escapeQueue, capacity}
 use Rattle.network.specs.SizesLaws.{range-of, capacity-most}
 use Rattle.network.specs.TorusLaws.{sizes-nodes}
 use Rattle.network.specs.Layout.{headerWords, queueLength, nodeWords, queueEnd}
@@ -23,12 +23,12 @@ capacity-injection S q e = ap (λ (k : ℕ). capacity S k) e
 pub capacity-escape : (S : Shape) (q : ℕ) → directions < q → capacity S q ≡ S .escape
 unfolding capacity
 capacity-escape S q h =
-    ap₂ (λ (b c : Bool). cond b (S .injection) (cond c (S .escape) (S .adaptive))) (ne-eqb q 0 (omega arith)) (lt-ltb directions q h)
+    ap₂ (λ (b c : Bool). cond b (S .injection) (cond c (S .escape) (mostChunks * S .adaptive))) (ne-eqb q 0 (omega arith)) (lt-ltb directions q h)
 
-pub capacity-adaptive : (S : Shape) (q : ℕ) → 0 < q → q ≤ directions → capacity S q ≡ S .adaptive
+pub capacity-adaptive : (S : Shape) (q : ℕ) → 0 < q → q ≤ directions → capacity S q ≡ mostChunks * S .adaptive
 unfolding capacity
 capacity-adaptive S q p h =
-    ap₂ (λ (b c : Bool). cond b (S .injection) (cond c (S .escape) (S .adaptive))) (ne-eqb q 0 (omega arith)) (le-ltb directions q h)
+    ap₂ (λ (b c : Bool). cond b (S .injection) (cond c (S .escape) (mostChunks * S .adaptive))) (ne-eqb q 0 (omega arith)) (le-ltb directions q h)
 
 -- queues of one kind have one capacity
 adaptive-alike : (S : Shape) (q : ℕ) → 0 < q → q ≤ directions → capacity S q ≡ capacity S (adaptiveQueue 0)

@@ -1,17 +1,18 @@
--- The words of a checked network that the code reads of a queue: the number held and the head, which stand where the queue starts. Order: the two
--- words; the same at the place that the code computes. Assumes nothing.
-use mathlib.Core.Path.{_≡_, ap, sym, _∙_}
-use mathlib.Core.List.{List}
-use Prim.Native.Nat.{ℕ, _+_, _-_, _<_, _≤_}
+-- The words of a checked network that the code reads of a queue: the number held and the head, which stand where the queue starts, and all packets. Order:
+-- the two words; the packets; the words at the place that the code computes. Assumes nothing.
+use mathlib.Core.Path.{_≡_, refl, ap, ap₂, sym, _∙_}
+use mathlib.Core.List.{List, [], _∷_}
+use Prim.Native.Nat.{ℕ, zero, suc, _+_, _-_, _<_, _≤_}
 use native.Mathlib.Omega.{arith}
 use lib.Dec.{T}
-use lib.ListN.{length, getD, drop}
-use lib.Seq.{getD-take, getD-drop}
+use lib.ListN.{length, getD, take, drop}
+use lib.Seq.{getD-take, getD-drop, take-take, drop-drop}
 use Rattle.base.specs.Parts.{getD-span}
 use Rattle.network.specs.Sizes.{Shape, shapeOf, sizesInRange, nodes, queues, capacity}
 use Rattle.network.specs.SizesLaws.{range-of, capacity-pos}
 use Rattle.network.specs.Layout.{queueStart, queueEnd, queueLength, queuePart, countOf, packetsOf, held}
-use Rattle.network.specs.LayoutLaws.{end-start, end-length, count-word}
+use Rattle.network.specs.LayoutLaws.{Fits, end-start, end-length, length-queuePart, length-packetsOf, count-word}
+use Rattle.network.specs.CheckLaws.{QueueFits}
 use Rattle.network.specs.Refusals.{head}
 use Rattle.network.specs.declared.Sizes.{Sizes}
 use Rattle.queue.specs.Queue.{CheckedQueue}
@@ -40,6 +41,52 @@ head-word S w n q k h =
     sym (getD-span w (queueStart S n q) (queueEnd S n q) 1 (wide S n q 1 (omega arith)))
     ∙ sym (getD-drop 1 part 0 0)
     ∙ sym (getD-take (countOf part) (drop 1 part) 0 0 some)
+
+-- The packets as a part of the words ---------------------------------------------------------------------------------------------------
+
+-- a part of a part
+part-of : (start count a b c : ℕ) (w : List ℕ) → start ≡ a → count ≡ b → b ≤ c - 1
+    → take (start + 1 + count - (start + 1)) (drop (start + 1) w) ≡ take b (drop 1 (take (a + c - a) (drop a w)))
+part-of start count a b c w es ec h =
+    let n : start + 1 + count - (start + 1) ≡ b = omega arith in
+    let m : a + c - a ≡ c = omega arith in
+    ap₂ (λ (x y : ℕ). take x (drop y w)) n (ap (λ (x : ℕ). x + 1) es)
+    ∙ ap (take b) (sym (drop-drop 1 a w))
+    ∙ sym (take-inside b c (drop a w) h)
+    ∙ ap (λ (x : ℕ). take b (drop 1 (take x (drop a w)))) (sym m)
+  where
+    take-inside : (b c : ℕ) (l : List ℕ) → b ≤ c - 1 → take b (drop 1 (take c l)) ≡ take b (drop 1 l)
+    take-inside b zero l h = nothing b (omega arith)
+      where
+        nothing : (b : ℕ) → b ≡ 0 → take b (drop 1 (take 0 l)) ≡ take b (drop 1 l)
+        nothing b z = rw z
+    take-inside b (suc c) [] h = refl
+    take-inside b (suc c) (x ∷ l) h = take-take b c l (omega arith)
+
+-- the held words of a queue as a part of the words
+pub held-part : (S : Shape) (w : List ℕ) (n q start count : ℕ) → QueueOf S w n q → start ≡ queueStart S n q → count ≡ length (held S w n q)
+    → take (start + 1 + count - (start + 1)) (drop (start + 1) w) ≡ held S w n q
+unfolding held packetsOf queuePart queueLength queueEnd
+held-part S w n q start count k es ec =
+    let fits : Fits S w n q = record { node = k .node; queue = k .queue; long = k .network .long } in
+    let f : QueueFits S w n q = k .network .queue n q (k .node) (k .queue) in
+    let l : length (queuePart S w n q) ≡ 1 + capacity S q = length-queuePart S w n q fits in
+    let c : length (packetsOf (queuePart S w n q)) ≡ countOf (queuePart S w n q) = length-packetsOf (capacity S q) (queuePart S w n q) l (f .few) in
+    part-of start count (queueStart S n q) (countOf (queuePart S w n q)) (1 + capacity S q) w es (ec ∙ c) (within (countOf (queuePart S w n q)) (capacity S q) (f .few))
+  where
+    within : (x k : ℕ) → x ≤ k → x ≤ 1 + k - 1
+    within x k h = omega arith
+
+pub held-end : (S : Shape) (w : List ℕ) (n q start count : ℕ) → QueueOf S w n q → start ≡ queueStart S n q → count ≡ length (held S w n q) → start + 1 + count ≤ length w
+unfolding held queueLength queueEnd
+held-end S w n q start count k es ec =
+    let fits : Fits S w n q = record { node = k .node; queue = k .queue; long = k .network .long } in
+    let f : QueueFits S w n q = k .network .queue n q (k .node) (k .queue) in
+    let l : length (queuePart S w n q) ≡ 1 + capacity S q = length-queuePart S w n q fits in
+    let c : length (packetsOf (queuePart S w n q)) ≡ countOf (queuePart S w n q) = length-packetsOf (capacity S q) (queuePart S w n q) l (f .few) in
+    let few : countOf (queuePart S w n q) ≤ capacity S q = f .few in
+    let e : queueStart S n q + (1 + capacity S q) ≤ length w = end-length S w n q fits in
+    omega arith
 
 -- At the place that the code computes -------------------------------------------------------------------------------------------------
 

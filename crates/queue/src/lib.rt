@@ -6,17 +6,20 @@ use network::FIRST_ADAPTIVE;
 use network::FIRST_ESCAPE;
 use network::HEADER_WORDS;
 use network::INJECTION_QUEUE;
+use network::MOST_CHUNKS;
 use network::QUEUES;
 use network::Sizes;
+use network::is_adaptive;
 ghost use mathlib.Core.Path.{_≡_};
 ghost use mathlib.Core.List.{[], _∷_, _++_};
-ghost use Prim.Native.Nat.{_<_};
+ghost use Prim.Native.Nat.{_<_, _≤_};
 ghost use lib.Dec.{T};
 ghost use lib.ListN.{length, drop};
-ghost use Rattle.base.specs.Sums.{sumBelow};
+ghost use Rattle.base.specs.Sums.{sumBelow, sumOf};
 ghost use Rattle.base.specs.Parts.{span, splice};
-ghost use Rattle.network.specs.Sizes.{shapeOf, sizesInRange, nodes, queues, capacity};
-ghost use Rattle.network.specs.Layout.{queueLength, nodeWords, queueStart, queueEnd, need, queueWords, packetsOf, countOf, held};
+ghost use Rattle.network.specs.Sizes.{shapeOf, sizesInRange, nodes, queues, capacity, largestCapacity};
+ghost use Rattle.network.specs.Packet.{chunks};
+ghost use Rattle.network.specs.Layout.{queueLength, nodeWords, queueStart, queueEnd, need, queueWords, packetsOf, countOf, held, taken};
 ghost use Rattle.network.specs.Refusals.{head};
 ghost use Rattle.network.specs.Calls.{packetArrives, headLeaves};
 ghost use Rattle.queue.specs.Queue.{IsQueue, QueueAt, CheckedQueue, slots};
@@ -75,6 +78,7 @@ pub fn remove_at(words: &mut [u64], start: usize, end: usize) -> u64
 
 // Where the queues of a network of these sizes stand.
 pub fn capacity(s: Sizes, q: u64) -> u64
+    requires { ⌜ T (sizesInRange (shapeOf s)) ⌝ }
     ensures { λ r. ⌜ r ≡ capacity (shapeOf s) q ⌝ }
 {
     if q == INJECTION_QUEUE {
@@ -83,7 +87,7 @@ pub fn capacity(s: Sizes, q: u64) -> u64
     if DIRECTIONS < q {
         return s.escape;
     }
-    s.adaptive
+    MOST_CHUNKS * s.adaptive
 }
 
 pub fn node_words(s: Sizes) -> u64
@@ -148,6 +152,33 @@ pub fn held_count(words: &[u64], s: Sizes, n: u64, q: u64) -> u64
 {
     let start = queue_start(s, n, q);
     words[start]
+}
+
+// The chunks of packets, no more than a queue has words for.
+pub fn chunks_of(packets: &[u64]) -> u64
+    requires { ⌜ length (now packets) ≤ largestCapacity ⌝ }
+    ensures { λ r. ⌜ r ≡ sumOf chunks (now (packets .entry)) ⌝ }
+{
+    let mut sum = 0;
+    let mut i = 0;
+    while i < packets.len() {
+        sum += packet::chunks(packets[i]);
+        i += 1;
+    }
+    sum
+}
+
+// How much of queue q of node n is taken: the chunks of its packets where it is adaptive, else their number.
+pub fn taken(words: &[u64], s: Sizes, n: u64, q: u64) -> u64
+    requires { ⌜ QueueOf (shapeOf s) (now words) n q ⌝ }
+    ensures { λ r. ⌜ r ≡ taken (shapeOf s) (now (words .entry)) n q ⌝ }
+{
+    let count = held_count(words, s, n, q);
+    if !is_adaptive(q) {
+        return count;
+    }
+    let first = queue_start(s, n, q) + 1;
+    chunks_of(&words[first..first + count as usize])
 }
 
 // The oldest packet of queue q of node n, which holds one.

@@ -11,7 +11,7 @@ use native.Mathlib.Omega.{arith}
 use lib.ListN.{length, getD, drop, drop-of-length-le}
 use lib.Seq.{drop-cons, getD-take, getD-drop}
 use Rattle.base.specs.Tests.{allBelow, allOf}
-use Rattle.base.specs.Sums.{sumBelow, sumOf}
+use Rattle.base.specs.Sums.{sumBelow, sumOf, sum-from, sum-end}
 use Rattle.base.specs.Bools.{and-stop, and-on, fails-at}
 use Rattle.network.specs.Sizes.{dimensions, largestCapacity}
 use Rattle.network.specs.Packet.{work}
@@ -29,17 +29,9 @@ pub all-from : (f : ℕ → Bool) (l : List ℕ) (i : ℕ) → i < length l → 
 unfolding allOf
 all-from f l i h = ap (allOf f) (drop-cons l i 0 h) ∙ ap (λ (j : ℕ). f (getD l i 0) && allOf f (drop j l)) (sym (add-one i))
 
-pub sum-from : (g : ℕ → ℕ) (l : List ℕ) (i : ℕ) → i < length l → sumOf g (drop i l) ≡ g (getD l i 0) + sumOf g (drop (i + 1) l)
-unfolding sumOf
-sum-from g l i h = ap (sumOf g) (drop-cons l i 0 h) ∙ ap (λ (j : ℕ). g (getD l i 0) + sumOf g (drop j l)) (sym (add-one i))
-
 pub all-end : (f : ℕ → Bool) (l : List ℕ) (i : ℕ) → length l ≤ i → allOf f (drop i l) ≡ true
 unfolding allOf
 all-end f l i h = ap (allOf f) (drop-of-length-le l h)
-
-sum-end : (g : ℕ → ℕ) (l : List ℕ) (i : ℕ) → length l ≤ i → sumOf g (drop i l) ≡ 0
-unfolding sumOf
-sum-end g l i h = ap (sumOf g) (drop-of-length-le l h)
 
 -- the first i have passed, and the sum of theirs is `sum`
 pub record Left (f : ℕ → Bool) (g : ℕ → ℕ) (l : List ℕ) (i sum : ℕ) : Type 0 where

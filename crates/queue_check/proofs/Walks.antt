@@ -15,7 +15,7 @@ use Rattle.base.specs.Parts.{span}
 use Rattle.network.specs.Sizes.{Shape, shapeOf, sizesInRange, dimensions, nodes, mostNodes, queues, capacity, largestCapacity}
 use Rattle.network.specs.SizesLaws.{range-of, capacity-most}
 use Rattle.network.specs.Packet.{work}
-use Rattle.network.specs.Layout.{headerWords, need, nodeWords, queueStart, queueEnd, queueLength, queuePart, countOf, packetsOf, held, total}
+use Rattle.network.specs.Layout.{headerWords, need, nodeWords, queueStart, queueEnd, queueLength, queuePart, countOf, packetsOf, held, total, taken}
 use Rattle.network.specs.LayoutLaws.{Fits, end-next, end-length, length-queuePart}
 use Rattle.network.specs.Check.{queueFits, queuesFit, packetsHeld, workLeft}
 use Rattle.network.specs.TorusLaws.{sizes-nodes}
@@ -114,7 +114,7 @@ module _ (S : Shape) (w : List ℕ) (n : ℕ) where
   -- what its words come to is what it comes to
   pub node-tally : (q : ℕ) (part : List ℕ) (t : Tally) → part ≡ queuePart S w n q
       → t ≡ tally (partFits S n q part) (length (packetsOf part)) (sumOf work (packetsOf part)) → t ≡ tally (fits S w n q) (holds S w n q) (works S w n q)
-  unfolding queueFits partFits held
+  unfolding queueFits partFits held taken
   node-tally q part t e f = f ∙ ap (λ (l : List ℕ). tally (partFits S n q l) (length (packetsOf l)) (sumOf work (packetsOf l))) e
 
   pub node-more : (q at held work c : ℕ) (t : Tally) → NodeWalk S w n q at held work → c ≡ capacity S q → t ≡ tally (fits S w n q) (holds S w n q) (works S w n q)

@@ -10,7 +10,7 @@ use Rattle.base.specs.Tests.{allBelow, allOf}
 use Rattle.base.specs.Sums.{sumBelow, sumOf}
 use Rattle.network.specs.Sizes.{Shape, queues, capacity}
 use Rattle.network.specs.Packet.{work}
-use Rattle.network.specs.Layout.{countOf, packetsOf, unusedOf, held}
+use Rattle.network.specs.Layout.{countOf, packetsOf, unusedOf, held, load}
 use Rattle.network.specs.Check.{packetFits, queueFits}
 use Rattle.queue_check.specs.declared.Tally.{Tally}
 
@@ -22,7 +22,8 @@ tally false held work = record { ok = false; held = 0; work = 0 }
 -- the clauses of queue q of node n, whose words these are: `queueFits S w n q` where they are the queue's part of w
 unfoldable pub partFits : Shape → ℕ → ℕ → List ℕ → Bool
 partFits S n q part =
-    leb (countOf part) (capacity S q) && (allOf (eqb 0) (unusedOf part) && allOf (packetFits S n q) (packetsOf part))
+    leb (countOf part) (capacity S q)
+    && (allOf (eqb 0) (unusedOf part) && (leb (sumOf (load q) (packetsOf part)) (capacity S q) && allOf (packetFits S n q) (packetsOf part)))
 
 -- the queues of node n
 unfoldable pub nodeTally : Shape → List ℕ → ℕ → Tally

@@ -3,6 +3,7 @@ use network::DIMENSIONS;
 use network::HEADER_WORDS;
 use network::QUEUES;
 use network::Sizes;
+use network::is_adaptive;
 use packet_check::TABLE_WORDS;
 use packet_check::fill_tables;
 use packet_check::work_if_fits;
@@ -11,16 +12,16 @@ use torus::next_place;
 ghost use mathlib.Core.Path.{_≡_};
 ghost use mathlib.Core.Bool.{false};
 ghost use Prim.Native.Nat.{ℕ, _+_, _<_, _≤_};
-ghost use lib.Dec.{eqb};
+ghost use lib.Dec.{eqb, leb};
 ghost use lib.ListN.{length, drop};
 ghost use Rattle.base.specs.Tests.{allOf};
 ghost use Rattle.base.specs.Sums.{sumOf};
 ghost use Rattle.network.specs.Sizes.{shapeOf, queues, largestCapacity};
 ghost use Rattle.network.specs.Packet.{work};
-ghost use Rattle.network.specs.Layout.{countOf, packetsOf, queueStart, queueLength};
+ghost use Rattle.network.specs.Layout.{countOf, packetsOf, queueStart, queueLength, load};
 ghost use Rattle.network.specs.Check.{packetFits, queuesFit, packetsHeld, workLeft};
 ghost use Rattle.torus.specs.Geometry.{nodeAt, OnTorus};
-ghost use Rattle.queue.specs.Queue.{EnoughWords};
+ghost use Rattle.queue.specs.Queue.{EnoughWords, slots};
 ghost use Rattle.packet_check.specs.Tables.{Tables};
 ghost use Rattle.queue_check.specs.QueueTally.{tally, partFits, nodeTally};
 
@@ -61,7 +62,7 @@ fn pairs_zero(part: &[u64], from: usize) -> bool
     true
 }
 
-// The same, eight at a time, as many as an empty queue can have, and then the rest: a network is mostly unused words, and an empty one nothing else.
+// The same, eight at a time, and then the rest: a network is mostly unused words, and an empty one nothing else.
 fn all_zero(part: &[u64], from: usize) -> bool
     requires { ⌜ from ≤ length (now part) ⌝ }
     ensures { λ r. ⌜ r ≡ allOf (eqb 0) (drop from (now (part .entry))) ⌝ }
@@ -77,6 +78,18 @@ fn all_zero(part: &[u64], from: usize) -> bool
         i += 8;
     }
     pairs_zero(part, i)
+}
+
+// Whether the packets of a queue's words take no more than its capacity. Where each takes one slot, their number has been tested.
+fn load_fits(part: &[u64], q: u64) -> bool
+    requires { ⌜ (countOf (now part) < length (now part)) × (length (now part) ≤ largestCapacity + 1) ⌝ }
+    ensures { λ r. ⌜ r ≡ leb (sumOf (load q) (packetsOf (now (part .entry)))) (slots (now (part .entry))) ⌝ }
+{
+    if !is_adaptive(q) {
+        return true;
+    }
+    let count = part[0] as usize;
+    queue::chunks_of(&part[1..count + 1]) < part.len() as u64
 }
 
 // The packets of a queue's words, which hold no more than they have room for.
@@ -124,6 +137,9 @@ fn queue_fits(part: &[u64], tables: &[u64], s: Sizes, place: Place, q: u64) -> T
             held: 0,
             work: 0,
         };
+    }
+    if !load_fits(part, q) {
+        return unfit();
     }
     packets_fit(part, tables, s, place, q)
 }

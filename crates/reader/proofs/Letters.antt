@@ -24,9 +24,9 @@ module _ {letter count : ℕ} {v : List ℕ} (n : List ℕ) (c : count ≡ lengt
   unfolding commandWith firstNumbers
   make l k = rw (l, f, eq-eqb (length n) 6 (sym c ∙ k)) refl
 
-  pub offer : letter ≡ 79 → count ≡ 3 → Command.Offer (getD v 0 0) (getD v 1 0) (getD v 2 0) ≡ commandWith letter n
+  pub offer : letter ≡ 79 → count ≡ 4 → Command.Offer (getD v 0 0) (getD v 1 0) (getD v 2 0) (getD v 3 0) ≡ commandWith letter n
   unfolding commandWith firstNumbers
-  offer l k = rw (l, f, eq-eqb (length n) 3 (sym c ∙ k)) refl
+  offer l k = rw (l, f, eq-eqb (length n) 4 (sym c ∙ k)) refl
 
   pub move : letter ≡ 77 → count ≡ 3 → Command.Move (getD v 0 0) (getD v 1 0) (getD v 2 0) ≡ commandWith letter n
   unfolding commandWith firstNumbers
@@ -40,9 +40,9 @@ module _ {letter count : ℕ} {v : List ℕ} (n : List ℕ) (c : count ≡ lengt
   unfolding commandWith
   no-make l k = rw (l, ne-eqb (length n) 6 (λ e. k (c ∙ e))) refl
 
-  pub no-offer : letter ≡ 79 → (count ≡ 3 → ⊥) → Command.Bad ≡ commandWith letter n
+  pub no-offer : letter ≡ 79 → (count ≡ 4 → ⊥) → Command.Bad ≡ commandWith letter n
   unfolding commandWith
-  no-offer l k = rw (l, ne-eqb (length n) 3 (λ e. k (c ∙ e))) refl
+  no-offer l k = rw (l, ne-eqb (length n) 4 (λ e. k (c ∙ e))) refl
 
   pub no-move : letter ≡ 77 → (count ≡ 3 → ⊥) → Command.Bad ≡ commandWith letter n
   unfolding commandWith

@@ -143,11 +143,12 @@ fn command_with(letter: u8, numbers: Numbers) -> Command
         return Command::Bad;
     }
     if letter == b'O' {
-        if count == 3 {
+        if count == 4 {
             return Command::Offer {
                 node: v[0],
                 destination: v[1],
                 tag: v[2],
+                chunks: v[3],
             };
         }
         return Command::Bad;

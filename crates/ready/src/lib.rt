@@ -1,5 +1,5 @@
 // The set of heads that may have a permitted move (specs/ReadyHeads.antt), as a Drain keeps it: what a move adds to it, and First's move found from it. The
-// set is words of the crate `headset`; the neighbours come out of a table (crate `near`).
+// set is words of the crate `headset`; the neighbours and the loads come out of tables (crates `near` and `loads`).
 use network::DELIVER;
 use network::Found;
 use network::INJECTION_QUEUE;
@@ -12,6 +12,7 @@ ghost use Rattle.network.specs.Sizes.{shapeOf, nodes, queues, sizesInRange};
 ghost use Rattle.network.specs.CheckLaws.{Network};
 ghost use Rattle.network.specs.Calls.{firstMove};
 ghost use Rattle.near.specs.Table.{Near};
+ghost use Rattle.loads.specs.Loads.{Loads};
 ghost use Rattle.headset.specs.Set.{IsSet};
 ghost use Rattle.ready.specs.ReadyHeads.{Covered, Marked, SourceMarked, ArrivalMarked, FeederMarked};
 
@@ -67,9 +68,10 @@ pub fn mark(ready: &mut [u64], s: Sizes, near: &[u16], n: u64, q: u64, o: u64)
 }
 
 // First's move, found from the lowest head of the set on. Heads of the set that have none are taken out of it.
-pub fn next_move(words: &[u64], s: Sizes, near: &[u16], ready: &mut [u64]) -> Found
+pub fn next_move(words: &[u64], s: Sizes, near: &[u16], loads: &[u8], ready: &mut [u64]) -> Found
     requires { ⌜ Network (shapeOf s) (now words) ⌝ }
     requires { ⌜ Near (shapeOf s) (now near) ⌝ }
+    requires { ⌜ Loads (shapeOf s) (now words) (now loads) ⌝ }
     requires { ⌜ Covered (shapeOf s) (now words) (now ready) ⌝ }
     ensures answer { λ r. ⌜ r ≡ firstMove (shapeOf s) (now (words .entry)) ⌝ }
     ensures set { λ _. ⌜ Covered (shapeOf s) (now (words .entry)) (now (ready .exit)) ⌝ }
@@ -80,6 +82,7 @@ pub fn next_move(words: &[u64], s: Sizes, near: &[u16], ready: &mut [u64]) -> Fo
             words,
             s,
             near,
+            loads,
             h / headset::NODE_HEADS,
             h % headset::NODE_HEADS,
         );

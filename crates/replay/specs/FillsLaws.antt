@@ -69,9 +69,12 @@ whole-tells first w v list page later is =
 command-follows : (c : Command) (w : List ℕ) → changed c w ≡ true → beginsDump c ≡ false → Follows w (carriedOut c w)
 unfolding changed beginsDump carriedOut perform offerRefusal run outcome Demand3
 command-follows (Command.Make x y z e a j) w t f = absurd (true≢false f)
-command-follows (Command.Offer node destination tag) w t f =
+command-follows (Command.Offer node destination tag chunks) w t f =
     let z = eqb-true _ 0 t in
-    record { network = neither (networkRefusal w) (offerRules (shape w) w node destination) z .0; same-shape = offer-call w node destination tag z .kept .same-shape }
+    record {
+      network = neither (networkRefusal w) (offerRules (shape w) w node destination chunks) z .0;
+      same-shape = offer-call w node destination tag chunks z .kept .same-shape;
+    }
 command-follows (Command.Move node queue output) w t f =
     let z = moved-network w node queue output (eqb-true _ 0 t) in
     record { network = z; same-shape = demand3 w (move (moveOf node queue output) ∷ []) z .same-shape }
@@ -81,7 +84,7 @@ command-follows Command.Bad w t f = absurd (true≢false (sym t))
 command-idle : (c : Command) (w : List ℕ) → changed c w ≡ false → carriedOut c w ≡ w
 unfolding changed carriedOut perform makeWords offerWords moveWords
 command-idle (Command.Make x y z e a j) w f = rw f refl
-command-idle (Command.Offer node destination tag) w f = rw f refl
+command-idle (Command.Offer node destination tag chunks) w f = rw f refl
 command-idle (Command.Move node queue output) w f = rw f refl
 command-idle (Command.Drain budget) w f = refl
 command-idle Command.Bad w f = refl

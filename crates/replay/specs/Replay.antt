@@ -39,7 +39,7 @@ shownIf changed first w list page = cond changed (stepShown first w list page) (
 -- what a command does at once: all that the bench does, but for a D, whose moves come one by one
 unfoldable pub carriedOut : Command → List ℕ → List ℕ
 carriedOut (Command.Make x y z e a j) w = perform (Command.Make x y z e a j) w .store
-carriedOut (Command.Offer node destination tag) w = perform (Command.Offer node destination tag) w .store
+carriedOut (Command.Offer node destination tag chunks) w = perform (Command.Offer node destination tag chunks) w .store
 carriedOut (Command.Move node queue output) w = perform (Command.Move node queue output) w .store
 carriedOut (Command.Drain budget) w = w
 carriedOut Command.Bad w = perform Command.Bad w .store
@@ -47,7 +47,7 @@ carriedOut Command.Bad w = perform Command.Bad w .store
 -- whether that changes something: a T, an O or an M that is answered 0
 unfoldable pub changed : Command → List ℕ → Bool
 changed (Command.Make x y z e a j) w = eqb (makeRefusal (shapeOf (sized x y z e a j)) w) 0
-changed (Command.Offer node destination tag) w = eqb (offerRefusal w node destination) 0
+changed (Command.Offer node destination tag chunks) w = eqb (offerRefusal w node destination chunks) 0
 changed (Command.Move node queue output) w = eqb (moveRefusal w node queue output) 0
 changed (Command.Drain budget) w = false
 changed Command.Bad w = false
@@ -55,7 +55,7 @@ changed Command.Bad w = false
 -- R424: a T begins a new dump
 unfoldable pub beginsDump : Command → Bool
 beginsDump (Command.Make x y z e a j) = true
-beginsDump (Command.Offer node destination tag) = false
+beginsDump (Command.Offer node destination tag chunks) = false
 beginsDump (Command.Move node queue output) = false
 beginsDump (Command.Drain budget) = false
 beginsDump Command.Bad = false
@@ -66,7 +66,7 @@ commandShown c w list page = shownIf (changed c w) (beginsDump c) (carriedOut c 
 -- the moves that a command asks for besides
 unfoldable pub movesAsked : Command → ℕ
 movesAsked (Command.Make x y z e a j) = 0
-movesAsked (Command.Offer node destination tag) = 0
+movesAsked (Command.Offer node destination tag chunks) = 0
 movesAsked (Command.Move node queue output) = 0
 movesAsked (Command.Drain budget) = budget
 movesAsked Command.Bad = 0

@@ -223,7 +223,7 @@ drain-replayed (suc budget) room w = by (move-told w room) (drain-replayed budge
 pub command-drained : (c : Command) (w : List ℕ) → drainWords (carriedOut c w) (movesAsked c) ledgerWords ≡ perform c w .store
 unfolding movesAsked carriedOut perform
 command-drained (Command.Make x y z e a j) w = drain-unspent (perform (Command.Make x y z e a j) w .store) ledgerWords
-command-drained (Command.Offer node destination tag) w = drain-unspent (perform (Command.Offer node destination tag) w .store) ledgerWords
+command-drained (Command.Offer node destination tag chunks) w = drain-unspent (perform (Command.Offer node destination tag chunks) w .store) ledgerWords
 command-drained (Command.Move node queue output) w = drain-unspent (perform (Command.Move node queue output) w .store) ledgerWords
 command-drained (Command.Drain budget) w = refl
 command-drained Command.Bad w = drain-unspent w ledgerWords

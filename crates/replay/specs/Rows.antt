@@ -24,7 +24,7 @@ computed = tt
 -- 2 by 1 by 1, J 1: a T; an O that is taken, one that is refused by 7, and a line that is none; a D. The header has 21 + 27 bytes before the variables; of
 -- these 10 lines have 24 bytes, 10 have 25 and 6 have 26; then 14 + 21, 3 for the stamp, 10, the values, 10 lines of 5 bytes and 16 of 6, and 5: 893 bytes
 abbrev sheet : List ℕ
-sheet = text "T,2,1,1,2,1,1\nO,0,1,7\nO,0,1,8\nx\nD,9\n"
+sheet = text "T,2,1,1,2,1,1\nO,0,1,7,1\nO,0,1,8,1\nx\nD,9\n"
 
 -- R423: behind the header a step for the O that is taken, at which queue 0 of node 0 holds one packet; and one for each of the two moves of the D: the hop
 -- to queue 1 of node 1, which is variable 14, and the delivery
@@ -47,9 +47,9 @@ next-dump = (refl, refl)
 
 -- R423: where a packet waits in the one slot of queue 0, an O is refused by 7, a T with E 1 by 2, and neither writes anything
 abbrev one-waiting : List ℕ
-one-waiting = offerWords (empty (shapeOf (sized 2 1 1 2 1 1))) 0 1 7
+one-waiting = offerWords (empty (shapeOf (sized 2 1 1 2 1 1))) 0 1 7 1
 
-pub offer-refused : commandBytes (Command.Offer 0 1 8) one-waiting ≡ []
+pub offer-refused : commandBytes (Command.Offer 0 1 8 1) one-waiting ≡ []
 unfolding computed
 offer-refused = refl
 

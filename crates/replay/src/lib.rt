@@ -84,7 +84,8 @@ fn apply(store: &mut [u64], command: Command) -> bool
             node,
             destination,
             tag,
-        } => calls::offer(store, node as u64, destination as u64, tag) == 0,
+            chunks,
+        } => calls::offer(store, node as u64, destination as u64, tag, chunks as u64) == 0,
         Command::Move {
             node,
             queue,
@@ -112,6 +113,7 @@ fn begins_dump(command: Command) -> bool
             node: _,
             destination: _,
             tag: _,
+            chunks: _,
         } => false,
         Command::Move {
             node: _,
@@ -151,6 +153,7 @@ pub fn moves_asked(command: Command) -> u32
             node: _,
             destination: _,
             tag: _,
+            chunks: _,
         } => 0,
         Command::Move {
             node: _,

@@ -14,8 +14,8 @@ use Rattle.base.specs.Tests.{allBelow, someBelow, all-at, all-by, some-at, some
 use Rattle.base.specs.Parts.{getD-span}
 use Rattle.base.specs.Bools.{same-test, fails-at, passes-at}
 use Rattle.base.specs.Digits.{product, digit, putDigit, weight, rotate, digit-lt, product-pos, weight-pos, above, product-weight, around, digit-around, put-around, around-lt, is-around, above-lt}
-use Rattle.network.specs.Sizes.{Shape, shapeOf, size, nodes, dimensions, directions, dimensionOf, isPlus, queues, escapeQueue, capacity}
-use Rattle.network.specs.SizesLaws.{escape-capacity}
+use Rattle.network.specs.Sizes.{Shape, shapeOf, size, nodes, dimensions, directions, dimensionOf, isPlus, queues, escapeQueue, capacity, isAdaptive}
+use Rattle.network.specs.SizesLaws.{escape-slots, escape-capacity}
 use Rattle.network.specs.PacketLaws.{dimension-lt}
 use Rattle.network.specs.Torus.{stride, along}
 use Rattle.network.specs.TorusLaws.{Torus, size-pos, sizes-torus}
@@ -180,9 +180,9 @@ ltb-same : (a b c : ℕ) → (a < c → b < c) → (b < c → a < c) → ltb a c
 ltb-same a b c f g = same-test (ltb a c) (ltb b c) (λ h. lt→ltb b c (f (ltb→lt a c h))) (λ h. lt→ltb a c (g (ltb→lt b c h)))
 
 -- the first word of a queue tells whether it has room, even if it says too much
-room-is : (S : Shape) (w : List ℕ) (n q : ℕ) → Fits S w n q → ltb (getD w (queueStart S n q) 0) (capacity S q) ≡ hasRoom S w n q
+room-is : (S : Shape) (w : List ℕ) (n q : ℕ) → Fits S w n q → isAdaptive q ≡ false → ltb (getD w (queueStart S n q) 0) (capacity S q) ≡ hasRoom S w n q
 unfolding held packetsOf countOf queuePart queueLength
-room-is S w n q fits =
+room-is S w n q fits slots =
     let part : List ℕ = queuePart S w n q in
     let e : getD part 0 0 ≡ getD w (queueStart S n q + 0) 0 = getD-span w (queueStart S n q) (queueEnd S n q) 0 (let e = end-start S n q in omega arith) in
     let z : getD w (queueStart S n q + 0) 0 ≡ getD w (queueStart S n q) 0 = ap (λ (m : ℕ). getD w m 0) (add-zero (queueStart S n q)) in
@@ -190,7 +190,7 @@ room-is S w n q fits =
     let l = length-drop 1 part in
     let m : length part ≡ 1 + capacity S q = length-queuePart S w n q fits in
     ltb-same (getD w (queueStart S n q) 0) (length (take (getD part 0 0) (drop 1 part))) (capacity S q) (omega arith) (omega arith)
-    ∙ sym (has-room-held S w n q)
+    ∙ sym (has-room-held S w n q slots)
 
 module _ (S : Shape) (w : List ℕ) (d : ℕ) (enough : EnoughWords S w) (torus : Torus S) (hd : d < directions) where
   hi : dimensionOf d < dimensions
@@ -229,6 +229,7 @@ module _ (S : Shape) (w : List ℕ) (d : ℕ) (enough : EnoughWords S w) (torus 
       ap₂ (λ (m c : ℕ). ltb (getD w m 0) c) (place-is b j a) (sym (escape-capacity S d))
       ∙ room-is S w (node b j a) (escapeQueue d)
       (record { node = around-lt (S .sizes) (dimensionOf d) inList b j a hb hj ha; queue = omega arith; long = enough .long })
+      (escape-slots (escapeQueue d) (omega arith))
 
   -- a queue with room in each ring
   Each : Type 0

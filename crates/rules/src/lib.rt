@@ -1,4 +1,4 @@
-// The tests that each call makes after the check, in the order of R184 to R186 and R188: the number of the first that applies, or 0. Every
+// The tests that each call makes after the check, in the order of R184 to R186 and R189: the number of the first that applies, or 0. Every
 // function equals the definition of its name in the crate `network` (specs/Refusals.antt).
 use flow::flow_rules;
 use network::ACCEPTED_AT;
@@ -7,6 +7,7 @@ use network::DELIVER;
 use network::INJECTION_FULL;
 use network::INJECTION_QUEUE;
 use network::MOST_ACCEPTED;
+use network::MOST_CHUNKS;
 use network::NO_ROUTE;
 use network::NO_SUCH_NODE;
 use network::NO_SUCH_OUTPUT;
@@ -15,6 +16,7 @@ use network::OWN_NODE;
 use network::QUEUE_EMPTY;
 use network::QUEUES;
 use network::Sizes;
+use network::WRONG_SIZE;
 use queue::capacity;
 use queue::head;
 use queue::held_count;
@@ -24,19 +26,33 @@ ghost use mathlib.Core.Path.{_≡_};
 ghost use lib.Dec.{T};
 ghost use Rattle.network.specs.Sizes.{shapeOf, sizesInRange};
 ghost use Rattle.network.specs.CheckLaws.{Network};
-ghost use Rattle.network.specs.Refusals.{offerRules, moveRules, creditRules, lookRules};
+ghost use Rattle.network.specs.Refusals.{wrongChunks, offerRules, moveRules, creditRules, lookRules};
 
-pub fn offer_rules(words: &[u64], s: Sizes, n: u64, destination: u64) -> u64
+// No packet has so many chunks.
+fn wrong_chunks(chunks: u64) -> bool
+    ensures { λ r. ⌜ r ≡ wrongChunks chunks ⌝ }
+{
+    if chunks == 0 {
+        return true;
+    }
+    MOST_CHUNKS < chunks
+}
+
+pub fn offer_rules(words: &[u64], s: Sizes, n: u64, destination: u64, chunks: u64) -> u64
     requires { ⌜ Network (shapeOf s) (now words) ⌝ }
-    ensures { λ r. ⌜ r ≡ offerRules (shapeOf s) (now (words .entry)) n destination ⌝ }
+    ensures { λ r. ⌜ r ≡ offerRules (shapeOf s) (now (words .entry)) n destination chunks ⌝ }
 {
     let count = nodes(s);
     let accepted = words[ACCEPTED_AT];
+    let wrong = wrong_chunks(chunks);
     if count <= n {
         return NO_SUCH_NODE;
     }
     if count <= destination {
         return NO_SUCH_NODE;
+    }
+    if wrong {
+        return WRONG_SIZE;
     }
     if n == destination {
         return OWN_NODE;

@@ -23,8 +23,8 @@ use Rattle.network.specs.Layout.{held, taken}
 use Rattle.network.specs.LayoutLaws.{taken-none, taken-some, some-held}
 use Rattle.network.specs.Check.{packetsHeld, opposite}
 use Rattle.network.specs.CheckLaws.{PacketFits, Network, both-zero}
-use Rattle.network.specs.Routes.{deliver, target, slotsNeeded, freeSlots}
-use Rattle.network.specs.RoutesLaws.{EscapeRoute, escape-route, arrived-route, free-slots-is, needed-escape}
+use Rattle.network.specs.Routes.{deliver, target, loadNeeded, freeLoad}
+use Rattle.network.specs.RoutesLaws.{EscapeRoute, escape-route, arrived-route, free-load-is, needed-escape}
 use Rattle.network.specs.Refusals.{head}
 use Rattle.network.specs.RefusalLaws.{Permitted}
 use Rattle.network.specs.AfterLaws.{head-fits}
@@ -115,10 +115,10 @@ one-more S d i n tor hd = along-add S d 1 i n tor hd ∙ ap (λ (x : ℕ). along
 
 -- along its own ring a packet needs one slot
 fits-one : (S : Shape) (w : List ℕ) (n d p : ℕ) → d < directions → Room S w (neighbour S d n) (escapeQueue d)
-    → slotsNeeded (escapeQueue d) (escapeQueue d) p ≤ freeSlots S w n (escapeQueue d)
+    → loadNeeded (escapeQueue d) (escapeQueue d) p ≤ freeLoad S w n (escapeQueue d)
 unfolding target Room
 fits-one S w n d p hd room =
-    rw (needed-escape (escapeQueue d) d p, eq-eqb (escapeQueue d) (escapeQueue d) refl, free-slots-is S w n (escapeQueue d), escape-direction d hd) (omega arith)
+    rw (needed-escape (escapeQueue d) d p, eq-eqb (escapeQueue d) (escapeQueue d) refl, free-load-is S w n (escapeQueue d), escape-direction d hd) (omega arith)
 
 -- in an escape queue of direction d a packet goes on along that dimension in that direction
 the-sign : (S : Shape) (n d p : ℕ) → d < directions → PacketFits S n (escapeQueue d) p → (i : ℕ) → i ≡ dimensionOf d → distance i p ≢ 0 → heading i p ≡ d
@@ -158,8 +158,8 @@ module _ (S : Shape) (w : List ℕ) (tor : Torus S) (N : Network S w) where
 
   -- a head may take its escape route e where the target has as many free slots as it needs
   escapes : (n q : ℕ) → n < nodes S → q < queues → length (held S w n q) ≢ 0 → (r : EscapeRoute q (head (held S w n q)))
-      → slotsNeeded q (escapeQueue (heading (r .dimension) (head (held S w n q)))) (head (held S w n q))
-      ≤ freeSlots S w n (escapeQueue (heading (r .dimension) (head (held S w n q)))) → PermittedMove S w
+      → loadNeeded q (escapeQueue (heading (r .dimension) (head (held S w n q)))) (head (held S w n q))
+      ≤ freeLoad S w n (escapeQueue (heading (r .dimension) (head (held S w n q)))) → PermittedMove S w
   escapes n q hn hq holds r flow =
       record {
         node = n;
@@ -177,14 +177,14 @@ module _ (S : Shape) (w : List ℕ) (tor : Torus S) (N : Network S w) where
       }
 
   -- an empty ring takes anybody
-  into-empty : (n q e p : ℕ) → n < nodes S → e < directions → Empty S w e → slotsNeeded q (escapeQueue e) p ≤ freeSlots S w n (escapeQueue e)
+  into-empty : (n q e p : ℕ) → n < nodes S → e < directions → Empty S w e → loadNeeded q (escapeQueue e) p ≤ freeLoad S w n (escapeQueue e)
   unfolding target Empty
   into-empty n q e p hn he z =
       let a : taken S w (target S n (escapeQueue e)) (escapeQueue e) ≡ 0 =
       taken-none S w (target S n (escapeQueue e)) (escapeQueue e)
       (z (target S n (escapeQueue e)) (neighbour-lt S (directionOf (escapeQueue e)) n tor (rw (escape-direction e he) he) hn)) in
       let b : 2 ≤ capacity S (escapeQueue e) = two-slots e in
-      rw (needed-escape q e p, free-slots-is S w n (escapeQueue e))
+      rw (needed-escape q e p, free-load-is S w n (escapeQueue e))
       (go (eqb q (escapeQueue e)) (capacity S (escapeQueue e)) (taken S w (target S n (escapeQueue e)) (escapeQueue e)) a b)
     where
       go : (own : Bool) (c l : ℕ) → l ≡ 0 → 2 ≤ c → cond own 1 2 ≤ c - l

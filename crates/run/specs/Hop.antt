@@ -7,7 +7,7 @@ use native.Mathlib.Decide.{ℕ-discrete}
 use native.Mathlib.Omega.{arith}
 use lib.Dec.{T, ltb→lt}
 use Rattle.network.specs.Sizes.{Shape, nodes, directions, dimensions, dimensionOf, directionOf, isEscape, injectionQueue, adaptiveQueue, escapeQueue}
-use Rattle.network.specs.Packet.{spareField, destinationField, destination, spare, distance, hops, heading, hop}
+use Rattle.network.specs.Packet.{spareField, destinationField, upperSpareField, destination, spare, upperSpare, distance, hops, heading, hop}
 use Rattle.network.specs.PacketLaws.{dimension-lt, field-hop, distance-hop-same, distance-hop-other, hops-hop-same, hops-le, heading-dimension, heading-lt, hops-heading}
 use Rattle.network.specs.Torus.{neighbour}
 use Rattle.network.specs.TorusLaws.{Torus, movedBy-hop}
@@ -72,10 +72,11 @@ going p o r = go (r .by)
 -- the packet after its hop fits the queue o of the neighbour
 pub hopped-fits : (S : Shape) (n q p o d : ℕ) → Torus S → n < nodes S → PacketFits S n q p → Going p o d
     → PacketFits S (neighbour S d n) o (hop (dimensionOf d) p)
-unfolding destination spare
+unfolding destination spare upperSpare
 hopped-fits S n q p o d tor hn f g =
     record {
       clear = field-hop spareField i p (omega arith) hi ∙ f .clear;
+      upper-clear = field-hop upperSpareField i p (omega arith) hi ∙ f .upper-clear;
       addressed = rw same (f .addressed);
       arrives = movedBy-hop S d n p tor (g .direction) hn (g .left) ∙ f .arrives ∙ sym same;
       near = λ j hj. close j hj (ℕ-discrete j i);

@@ -17,8 +17,8 @@ use Rattle.network.specs.TorusLaws.{Torus, neighbour-lt}
 use Rattle.network.specs.Layout.{held, taken}
 use Rattle.network.specs.Check.{opposite}
 use Rattle.network.specs.CheckLaws.{Network, neighbour-back}
-use Rattle.network.specs.Routes.{routes, deliver, target, freeSlots, slotsNeeded}
-use Rattle.network.specs.RoutesLaws.{free-slots-fewer}
+use Rattle.network.specs.Routes.{routes, deliver, target, freeLoad, loadNeeded}
+use Rattle.network.specs.RoutesLaws.{free-load-fewer}
 use Rattle.network.specs.Refusals.{head}
 use Rattle.network.specs.RefusalLaws.{Permitted}
 use Rattle.network.specs.FirstLaws.{Finds, nothing, named, Its, queue-finds, queue-nothing, search-at, search-nowhere}
@@ -58,7 +58,7 @@ permitted-before S w n q o tor N P k r t u p =
       route = subst (λ (ps : List ℕ). T (elem t (routes r (head ps)))) same (p .route);
       room =
           λ ne.
-          subst (λ (ps : List ℕ). slotsNeeded r t (head ps) ≤ freeSlots S w k t) same (le-trans (p .room ne) (free-slots-fewer S w v k t (grown ne)));
+          subst (λ (ps : List ℕ). loadNeeded r t (head ps) ≤ freeLoad S w k t) same (le-trans (p .room ne) (free-load-fewer S w v k t (grown ne)));
     }
   where
     v : List ℕ

@@ -5,7 +5,7 @@ use mathlib.Core.Path.{_≡_, refl, ap, sym, subst, _∙_}
 use mathlib.Core.Logic.{_≢_}
 use mathlib.Core.Bool.{Bool, true, false, not}
 use mathlib.Core.List.{List, [], _∷_, _++_}
-use Prim.Native.Nat.{ℕ, suc, _+_, _*_, _-_, _^_, _<_, _≤_}
+use Prim.Native.Nat.{ℕ, suc, _+_, _*_, _-_, _<_, _≤_}
 use native.Mathlib.Decide.{ℕ-discrete}
 use native.Mathlib.Omega.{arith}
 use borrow.Author.Tests.{eq-eqb, ne-eqb, ltb-false}
@@ -16,13 +16,13 @@ use Rattle.base.specs.Tests.{allOf}
 use Rattle.base.specs.Sums.{sumOf, sumBelow, sum-zero, sumOf-append, sumOf-one}
 use Rattle.base.specs.Parts.{span, length-span, getD-span}
 use Rattle.network.specs.declared.Sizes.{Sizes}
-use Rattle.network.specs.Sizes.{Shape, shapeOf, sized, size, sizesInRange, nodes, queues, directions, dimensions, injectionQueue, escapeQueue, capacity, mostNodes}
+use Rattle.network.specs.Sizes.{Shape, shapeOf, sized, size, sizesInRange, nodes, queues, directions, dimensions, injectionQueue, escapeQueue, capacity, mostChunks}
 use Rattle.network.specs.SizesLaws.{range-of, capacity-pos}
-use Rattle.network.specs.Packet.{spareField, destinationField, destination, spare, hopsLeft, work}
+use Rattle.network.specs.Packet.{destinationValues, spareField, destinationField, upperSpareField, destination, spare, upperSpare, hopsLeft, work}
 use Rattle.network.specs.Torus.{along}
 use Rattle.network.specs.TorusLaws.{Torus, inRange-torus, inRange-size, inRange-nodes, along-lt}
 use Rattle.network.specs.Layout.{headerWords, shape, need, nodeWords, queueStart, queueEnd, queueWords, queuePart, packetsOf, held, taken, total, accepted, delivered, movesMade}
-use Rattle.network.specs.LayoutLaws.{start-header, start-end, end-start, end-need, packetsOf-queueWords, taken-none, taken-same, total-change}
+use Rattle.network.specs.LayoutLaws.{start-header, start-end, end-start, end-need, packetsOf-queueWords, load-one, taken-none, taken-same, taken-joined, total-change}
 use Rattle.network.specs.Check.{reach, isQueueOf, packetFits, ringHasRoom, packetsHeld, workLeft, mostAccepted, mostWork}
 use Rattle.network.specs.CheckLaws.{PacketFits, packet-by, Network}
 use Rattle.network.specs.SameWords.{same?, queue-stored}
@@ -31,7 +31,7 @@ use Rattle.network.specs.RefusalLaws.{not-refused, neither, network-passed, net
 use Rattle.network.specs.OfferLaws.{ShortRings, field-offered, distance-offered, work-offered, movedBy-offered, hops-offered}
 use Rattle.network.specs.Calls.{emptyHeader, emptyNetwork, makeWords, offered, afterOffer, offerWords}
 use Rattle.network.specs.AfterLaws.{OfferTaken}
-use Rattle.network.specs.CallLaws.{torus, Accepting, accepting, accepted-taken, offer-call, empty-length}
+use Rattle.network.specs.CallLaws.{torus, Accepting, accepting, few-chunks, accepted-taken, offer-call, empty-length}
 use Rattle.run.specs.Queues.{fits-by, one, packets-sum, allOf-newest}
 use Rattle.run.specs.Rings.{Room, RingRoom, ring-of, ring-by, escape-lt}
 
@@ -76,6 +76,9 @@ module _ (S : Shape) (w : List ℕ) (tor : Torus S) (B : Blank S w) where
       sum-zero (nodes S) (λ n. sumBelow queues (λ q. f (held S w n q)))
       (λ n hn. sum-zero queues (λ q. f (held S w n q)) (λ q hq. ap f (blank-held n q hn hq) ∙ z))
 
+  blank-light : (n q : ℕ) → n < nodes S → q < queues → taken S w n q ≤ capacity S q
+  blank-light n q hn hq = let e = taken-none S w n q (ap length (blank-held n q hn hq)) in omega arith
+
   blank-ring : (d n : ℕ) → d < directions → n < nodes S → T (ringHasRoom S w d n)
   unfolding Room
   blank-ring d n hd hn =
@@ -95,7 +98,7 @@ module _ (S : Shape) (w : List ℕ) (tor : Torus S) (B : Blank S w) where
       record {
         in-range = B .in-range;
         long = B .long;
-        queue = λ n q hn hq. fits-by S w n q (queue-stored S w n q [] (blank-part n q hn hq) (omega arith)) (rw (blank-held n q hn hq) tt);
+        queue = λ n q hn hq. fits-by S w n q (queue-stored S w n q [] (blank-part n q hn hq) (omega arith)) (blank-light n q hn hq) (rw (blank-held n q hn hq) tt);
         ring = blank-ring;
         few-accepted = omega arith;
         counted = omega arith;
@@ -201,26 +204,27 @@ make-length S w all-dimensions e =
 
 -- The packet of an offer ----------------------------------------------------------------------------------------------------------------
 
-module _ (S : Shape) (w v : List ℕ) (n dest tag : ℕ) (tor : Torus S) (N : Network S w) (hn : n < nodes S) (hd : dest < nodes S)
-    (fewer : accepted w < mostAccepted) (O : OfferTaken S w v n (offered S n dest tag)) where
+module _ (S : Shape) (w v : List ℕ) (n dest tag chunks : ℕ) (tor : Torus S) (N : Network S w) (hn : n < nodes S) (hd : dest < nodes S)
+    (few : chunks ≤ mostChunks) (fewer : accepted w < mostAccepted) (room : taken S w n injectionQueue < capacity S injectionQueue) (O : OfferTaken S w v n (offered S n dest tag chunks)) where
   abbrev p : ℕ
-  p = offered S n dest tag
+  p = offered S n dest tag chunks
 
-  few-nodes : nodes S ≤ 2 ^ 16
-  few-nodes = let l = inRange-nodes S (N .in-range) (tor .dims) in omega arith
+  few-nodes : nodes S ≤ destinationValues
+  few-nodes = inRange-nodes S (N .in-range) (tor .dims)
 
   small : ShortRings S
   small i h = inRange-size S i (N .in-range)
 
   offered-fits : PacketFits S n injectionQueue p
-  unfolding reach isQueueOf spare destination
+  unfolding reach isQueueOf spare upperSpare destination
   offered-fits =
-      let there : destination p ≡ dest = field-offered S n dest tag tor hn hd few-nodes small destinationField (omega arith) in
+      let there : destination p ≡ dest = field-offered S n dest tag chunks tor hn hd few-nodes few small destinationField (omega arith) in
       record {
-        clear = field-offered S n dest tag tor hn hd few-nodes small spareField (omega arith);
+        clear = field-offered S n dest tag chunks tor hn hd few-nodes few small spareField (omega arith);
+        upper-clear = field-offered S n dest tag chunks tor hn hd few-nodes few small upperSpareField (omega arith);
         addressed = rw there hd;
-        arrives = movedBy-offered S n dest tag tor hn hd few-nodes small ∙ sym there;
-        near = λ i h. distance-offered S n dest tag tor hn hd few-nodes small i h;
+        arrives = movedBy-offered S n dest tag chunks tor hn hd few-nodes few small ∙ sym there;
+        near = λ i h. distance-offered S n dest tag chunks tor hn hd few-nodes few small i h;
         sign = λ ne. absurd (ne refl);
         lower = λ t. absurd t;
       }
@@ -232,6 +236,15 @@ module _ (S : Shape) (w v : List ℕ) (n dest tag : ℕ) (tor : Torus S) (N : Ne
       rw (← e .0, ← e .1, O .newest)
       (allOf-newest (packetFits S n injectionQueue) (held S w n injectionQueue) p (N .queue n injectionQueue hn (omega arith) .packets) (packet-by S n injectionQueue p offered-fits))
   packets-fit m r hm hr (no ne) = rw (O .others m r hm hr ne) (N .queue m r hm hr .packets)
+
+  -- the injection queue has a slot for it, whatever its chunks
+  offer-light : (m r : ℕ) → m < nodes S → r < queues → Dec ((n ≡ m) × (injectionQueue ≡ r)) → taken S v m r ≤ capacity S r
+  offer-light m r hm hr (yes e) =
+      let a = taken-joined S w v n injectionQueue p (O .newest) in
+      let b = load-one injectionQueue p refl in
+      let c : taken S v n injectionQueue ≤ capacity S injectionQueue = omega arith in
+      rw (← e .0, ← e .1) c
+  offer-light m r hm hr (no ne) = rw (taken-same S w v m r (O .others m r hm hr ne)) (N .queue m r hm hr .light)
 
   -- the escape queues hold what they held
   offer-ring : (d m : ℕ) → d < directions → m < nodes S → T (ringHasRoom S v d m)
@@ -263,13 +276,15 @@ module _ (S : Shape) (w v : List ℕ) (n dest tag : ℕ) (tor : Torus S) (N : Ne
       let z : movesMade v ≡ movesMade w = O .same-moves in
       let h : packetsHeld S v ≡ packetsHeld S w + 1 = packets-sum S v ∙ offer-sum one ∙ ap (λ (k : ℕ). k + 1) (sym (packets-sum S w)) in
       let k : total S v (sumOf work) ≡ total S w (sumOf work) + work p = offer-sum work in
-      let most : work p ≤ mostWork = work-offered S n dest tag tor hn hd few-nodes small in
+      let most : work p ≤ mostWork = work-offered S n dest tag chunks tor hn hd few-nodes few small in
       let c : delivered w + packetsHeld S w ≡ accepted w = N .counted in
       let b : movesMade w + total S w (sumOf work) ≤ mostWork * accepted w = N .bounded in
       record {
         in-range = N .in-range;
         long = O .kept .stored .long;
-        queue = λ m r hm hr. fits-by S v m r (O .kept .stored .queue m r hm hr) (packets-fit m r hm hr (same? n injectionQueue m r));
+        queue =
+            λ m r hm hr.
+            fits-by S v m r (O .kept .stored .queue m r hm hr) (offer-light m r hm hr (same? n injectionQueue m r)) (packets-fit m r hm hr (same? n injectionQueue m r));
         ring = offer-ring;
         few-accepted = omega arith;
         counted = omega arith;
@@ -277,51 +292,51 @@ module _ (S : Shape) (w v : List ℕ) (n dest tag : ℕ) (tor : Torus S) (N : Ne
       }
 
 -- R86: words that such a packet has joined pass the check, one for the very node where it stands too, which no Offer takes any more (R174)
-pub joined-passes : (w : List ℕ) (n dest tag : ℕ) → networkRefusal w ≡ 0 → Accepting (shape w) w n dest
-    → networkRefusal (afterOffer (shape w) w n dest tag) ≡ 0
-joined-passes w n dest tag e A =
+pub joined-passes : (w : List ℕ) (n dest tag chunks : ℕ) → networkRefusal w ≡ 0 → Accepting (shape w) w n dest chunks
+    → networkRefusal (afterOffer (shape w) w n dest tag chunks) ≡ 0
+joined-passes w n dest tag chunks e A =
     let N : Network (shape w) w = network-passed w e in
-    let v : List ℕ = afterOffer (shape w) w n dest tag in
-    let O : OfferTaken (shape w) w v n (offered (shape w) n dest tag) = accepted-taken (shape w) w n dest tag N A in
-    let M : Network (shape w) v = taken-network (shape w) w v n dest tag (torus w N) N (A .node) (A .addressed) (A .fewer) O in
+    let v : List ℕ = afterOffer (shape w) w n dest tag chunks in
+    let O : OfferTaken (shape w) w v n (offered (shape w) n dest tag chunks) = accepted-taken (shape w) w n dest tag chunks N A in
+    let M : Network (shape w) v = taken-network (shape w) w v n dest tag chunks (torus w N) N (A .node) (A .addressed) (few-chunks A) (A .fewer) (A .free) O in
     network-passes v (subst (λ (S : Shape). Network S v) (sym (O .kept .same-shape)) M)
 
 -- R101, R102: an offer that is not refused keeps the check
-pub offer-passes : (w : List ℕ) (n dest tag : ℕ) → offerRefusal w n dest ≡ 0 → networkRefusal (offerWords w n dest tag) ≡ 0
+pub offer-passes : (w : List ℕ) (n dest tag chunks : ℕ) → offerRefusal w n dest chunks ≡ 0 → networkRefusal (offerWords w n dest tag chunks) ≡ 0
 unfolding offerWords offerRefusal
-offer-passes w n dest tag e =
-    let (network, rules) = neither (networkRefusal w) (offerRules (shape w) w n dest) e in
-    let A : Accepting (shape w) w n dest = accepting (shape w) w n dest (network-passed w network) rules in
-    rw (eq-eqb (offerRefusal w n dest) 0 e) (joined-passes w n dest tag network A)
+offer-passes w n dest tag chunks e =
+    let (network, rules) = neither (networkRefusal w) (offerRules (shape w) w n dest chunks) e in
+    let A : Accepting (shape w) w n dest chunks = accepting (shape w) w n dest chunks (network-passed w network) rules in
+    rw (eq-eqb (offerRefusal w n dest chunks) 0 e) (joined-passes w n dest tag chunks network A)
 
 -- and leaves the store as long as it was
-pub offer-length : (w : List ℕ) (n dest tag : ℕ) → offerRefusal w n dest ≡ 0 → length (offerWords w n dest tag) ≡ length w
-offer-length w n dest tag e = offer-call w n dest tag e .kept .same-length
+pub offer-length : (w : List ℕ) (n dest tag chunks : ℕ) → offerRefusal w n dest chunks ≡ 0 → length (offerWords w n dest tag chunks) ≡ length w
+offer-length w n dest tag chunks e = offer-call w n dest tag chunks e .kept .same-length
 
 -- refused or not, an offer leaves a network where there was one, and makes no move
-pub offer-network : (w : List ℕ) (n dest tag : ℕ) → networkRefusal w ≡ 0 → networkRefusal (offerWords w n dest tag) ≡ 0
+pub offer-network : (w : List ℕ) (n dest tag chunks : ℕ) → networkRefusal w ≡ 0 → networkRefusal (offerWords w n dest tag chunks) ≡ 0
 unfolding offerWords
-offer-network w n dest tag z = go (ℕ-discrete (offerRefusal w n dest) 0)
+offer-network w n dest tag chunks z = go (ℕ-discrete (offerRefusal w n dest chunks) 0)
   where
-    go : Dec (offerRefusal w n dest ≡ 0) → networkRefusal (offerWords w n dest tag) ≡ 0
-    go (yes e) = offer-passes w n dest tag e
-    go (no ne) = rw (ne-eqb (offerRefusal w n dest) 0 ne) z
+    go : Dec (offerRefusal w n dest chunks ≡ 0) → networkRefusal (offerWords w n dest tag chunks) ≡ 0
+    go (yes e) = offer-passes w n dest tag chunks e
+    go (no ne) = rw (ne-eqb (offerRefusal w n dest chunks) 0 ne) z
 
-pub offer-moves : (w : List ℕ) (n dest tag : ℕ) → movesMade (offerWords w n dest tag) ≡ movesMade w
+pub offer-moves : (w : List ℕ) (n dest tag chunks : ℕ) → movesMade (offerWords w n dest tag chunks) ≡ movesMade w
 unfolding offerWords
-offer-moves w n dest tag = go (ℕ-discrete (offerRefusal w n dest) 0)
+offer-moves w n dest tag chunks = go (ℕ-discrete (offerRefusal w n dest chunks) 0)
   where
-    go : Dec (offerRefusal w n dest ≡ 0) → movesMade (offerWords w n dest tag) ≡ movesMade w
-    go (yes e) = offer-call w n dest tag e .same-moves
-    go (no ne) = rw (ne-eqb (offerRefusal w n dest) 0 ne) refl
+    go : Dec (offerRefusal w n dest chunks ≡ 0) → movesMade (offerWords w n dest tag chunks) ≡ movesMade w
+    go (yes e) = offer-call w n dest tag chunks e .same-moves
+    go (no ne) = rw (ne-eqb (offerRefusal w n dest chunks) 0 ne) refl
 
 -- R174: the packet of an offer that is not refused has a hop to make: where it is handed out, it has crossed a link
-pub offer-hops : (w : List ℕ) (n dest tag : ℕ) → offerRefusal w n dest ≡ 0 → hopsLeft (offered (shape w) n dest tag) ≢ 0
+pub offer-hops : (w : List ℕ) (n dest tag chunks : ℕ) → offerRefusal w n dest chunks ≡ 0 → hopsLeft (offered (shape w) n dest tag chunks) ≢ 0
 unfolding offerRefusal
-offer-hops w n dest tag e =
-    let (network, rules) = neither (networkRefusal w) (offerRules (shape w) w n dest) e in
+offer-hops w n dest tag chunks e =
+    let (network, rules) = neither (networkRefusal w) (offerRules (shape w) w n dest chunks) e in
     let N : Network (shape w) w = network-passed w network in
-    let A : Accepting (shape w) w n dest = accepting (shape w) w n dest N rules in
-    let few : nodes (shape w) ≤ mostNodes = inRange-nodes (shape w) (N .in-range) (torus w N .dims) in
-    hops-offered (shape w) n dest tag (torus w N) (A .node) (A .addressed) (omega arith) (λ i h. inRange-size (shape w) i (N .in-range))
-    (λ same. let told = own-node-exactly (shape w) w n dest .1 (A .node, same) in omega arith)
+    let A : Accepting (shape w) w n dest chunks = accepting (shape w) w n dest chunks N rules in
+    hops-offered (shape w) n dest tag chunks (torus w N) (A .node) (A .addressed) (inRange-nodes (shape w) (N .in-range) (torus w N .dims)) (few-chunks A)
+    (λ i h. inRange-size (shape w) i (N .in-range))
+    (λ same. let told = own-node-exactly (shape w) w n dest chunks .1 (A .node, same, A .right) in omega arith)

@@ -20,8 +20,8 @@ use Rattle.network.specs.LayoutLaws.{load-escape}
 use Rattle.network.specs.Check.{hasRoom, ringHasRoom}
 use Rattle.network.specs.CheckLaws.{has-room-of, has-room-by}
 use Rattle.network.specs.SameWords.{same?}
-use Rattle.network.specs.Routes.{deliver, slotsNeeded, freeSlots, target}
-use Rattle.network.specs.RoutesLaws.{free-slots-is, needed-escape}
+use Rattle.network.specs.Routes.{deliver, loadNeeded, freeLoad, target}
+use Rattle.network.specs.RoutesLaws.{free-load-is, needed-escape}
 use Rattle.network.specs.AfterLaws.{NotTarget}
 
 -- a free slot in one queue
@@ -85,12 +85,12 @@ pub escape-lt : (d : ℕ) → d < directions → escapeQueue d < queues
 escape-lt d h = omega arith
 
 -- R151, R152
-needs-two : (q d p : ℕ) → q ≢ escapeQueue d → slotsNeeded q (escapeQueue d) p ≡ 2
+needs-two : (q d p : ℕ) → q ≢ escapeQueue d → loadNeeded q (escapeQueue d) p ≡ 2
 needs-two q d p ne = needed-escape q d p ∙ ap (λ (own : Bool). cond own 1 2) (ne-eqb q (escapeQueue d) ne)
 
 -- a ring keeps a free slot: where the move enters it, one of two stays free at the target; where it travels along it, it frees one at the source
 pub ring-kept : (S : Shape) (w v : List ℕ) (n q o p : ℕ) → Torus S → n < nodes S → taken S w n q ≤ capacity S q
-    → (o ≢ deliver → slotsNeeded q o p ≤ freeSlots S w n o) → Shifted S w v n q o
+    → (o ≢ deliver → loadNeeded q o p ≤ freeLoad S w n o) → Shifted S w v n q o
     → (d m : ℕ) → d < directions → m < nodes S → T (ringHasRoom S w d m) → T (ringHasRoom S v d m)
 unfolding Room target
 ring-kept S w v n q o p tor hn few flow sh d m hd hm t = go (same? (target S n o) o a (escapeQueue d))
@@ -115,12 +115,12 @@ ring-kept S w v n q o p tor hn few flow sh d m hd hm t = go (same? (target S n o
         let freed : Room S v n q = native.Mathlib.Nat.lt-of-lt-of-le (sh .source) few in
         ring-by S v d m (old .steps + (size S (dimensionOf d) - 1)) tor hd (rw (before, ← eq) freed)
     travels eo et (no ne) =
-        let two : 2 ≤ freeSlots S w n o = rw (ap (λ (r : ℕ). slotsNeeded q r p) eo ∙ needs-two q d p ne) at (flow away) in
-        let free : freeSlots S w n o ≡ capacity S o - taken S w (target S n o) o = free-slots-is S w n o in
+        let two : 2 ≤ freeLoad S w n o = rw (ap (λ (r : ℕ). loadNeeded q r p) eo ∙ needs-two q d p ne) at (flow away) in
+        let free : freeLoad S w n o ≡ capacity S o - taken S w (target S n o) o = free-load-is S w n o in
         let more : taken S v (target S n o) o ≡ taken S w (target S n o) o + load o (sh .packet) = sh .newest away in
         let one : load o (sh .packet) ≡ 1 = load-escape o (sh .packet) (omega arith) in
         let still : Room S v (target S n o) o =
-        roomy (capacity S o) (taken S w (target S n o) o) (taken S v (target S n o) o) (load o (sh .packet)) (freeSlots S w n o) two free more one in
+        roomy (capacity S o) (taken S w (target S n o) o) (taken S v (target S n o) o) (load o (sh .packet)) (freeLoad S w n o) two free more one in
         ring-by S v d m (old .steps) tor hd (rw (← et, ← eo) still)
       where
         transit : (d : ℕ) → escapeQueue d ≡ deliver → ⊥

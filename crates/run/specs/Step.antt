@@ -1,5 +1,5 @@
 -- What a permitted move does to the words, as one fact that adds up over many moves. Order: the fact, of no move and of moves one after the other;
--- what follows from what a move does to each queue (network/specs/AfterLaws.antt): how much of each is taken, the check, the fact; a permitted move.
+-- what follows from what a move does to each queue (network/specs/AfterLaws.antt): the check, the fact; a permitted move.
 -- Assumes nothing.
 use mathlib.Core.Path.{_≡_, refl, ap, sym, _∙_, subst}
 use mathlib.Core.Logic.{_⊎_, inl, inr, _≢_}
@@ -13,22 +13,22 @@ use lib.Dec.{T, eqb}
 use lib.ListN.{length, drop, length-append}
 use Rattle.base.specs.Tests.{allOf, allOf-append, and-i}
 use Rattle.base.specs.Sums.{sumOf, sumOf-append, sumOf-one}
-use Rattle.network.specs.Sizes.{Shape, nodes, queues, dimensions, directions, dimensionOf, capacity}
+use Rattle.network.specs.Sizes.{Shape, nodes, queues, dimensions, directions, dimensionOf, directionOf, capacity}
 use Rattle.network.specs.Packet.{destination, hops, heading, hop, label, hopsLeft, work}
 use Rattle.network.specs.PacketLaws.{arrived-label, label-hop, hops-hop-le, work-hop}
 use Rattle.network.specs.Torus.{neighbour}
 use Rattle.network.specs.TorusLaws.{Torus, movedBy-here}
-use Rattle.network.specs.Layout.{shape, need, held, load, taken, total, accepted, delivered, movesMade}
-use Rattle.network.specs.LayoutLaws.{load-pos, taken-same, taken-joined, taken-left}
+use Rattle.network.specs.Layout.{shape, need, held, taken, total, accepted, delivered, movesMade}
+use Rattle.network.specs.LayoutLaws.{load-pos, load-hop, taken-same}
 use Rattle.network.specs.Check.{packetFits, packetsHeld, workLeft, mostWork}
 use Rattle.network.specs.CheckLaws.{PacketFits, packet-by, Network, eq-T}
 use Rattle.network.specs.Routes.{deliver, target}
 use Rattle.network.specs.RoutesLaws.{Onward, route-of}
 use Rattle.network.specs.Refusals.{head}
-use Rattle.network.specs.RefusalLaws.{Permitted}
+use Rattle.network.specs.RefusalLaws.{Permitted, target-takes}
 use Rattle.network.specs.Calls.{Delivery, afterMove}
-use Rattle.network.specs.SameWords.{OtherQueue, taken-few}
-use Rattle.network.specs.AfterLaws.{first-rest, head-fits, onward-along, hopped, NotTarget, MoveMade, move-made, Role, is-source, is-target, is-neither, role, move-sum}
+use Rattle.network.specs.SameWords.{OtherQueue}
+use Rattle.network.specs.AfterLaws.{head-fits, onward-along, hopped, NotTarget, MoveMade, move-made, Role, is-source, is-target, is-neither, role, source-taken, target-taken, move-sum}
 use Rattle.network.specs.Run.{isLabelled, heldWith, handedWith, hopsOf, hopsWith, atDestination}
 use Rattle.run.specs.Queues.{fits-by, one, packets-sum, allOf-rest, allOf-newest}
 use Rattle.run.specs.Rings.{Shifted, ring-kept}
@@ -141,24 +141,17 @@ module _ (S : Shape) (w v : List ℕ) (n q o : ℕ) (tor : Torus S) (N : Network
   abbrev h : ℕ
   h = hopped S w n q o
 
-  -- how much of each queue is taken
-  source-taken : taken S w n q ≡ load q p + taken S v n q
-  source-taken = taken-left S w v n q p (first-rest (held S w n q) (P .holds) ∙ ap (λ (ps : List ℕ). p ∷ ps) (sym (M .source)))
-
-  target-taken : o ≢ deliver → taken S v (target S n o) o ≡ taken S w (target S n o) o + load o h
-  target-taken away = taken-joined S w v (target S n o) o h (M .arrival away)
-
   shifted : Shifted S w v n q o
   shifted =
       record {
         packet = h;
         others = λ m r hm hr ne. less m r hm hr ne (role S n q o m r);
-        newest = target-taken;
-        source = let a = source-taken in let b = load-pos q p in omega arith;
+        newest = target-taken S w v n q o P M;
+        source = let a = source-taken S w v n q o P M in let b = load-pos q p in omega arith;
       }
     where
       less : (m r : ℕ) → m < nodes S → r < queues → NotTarget S n o m r → Role S n q o m r → taken S v m r ≤ taken S w m r
-      less m r hm hr ne (is-source e) = let b : taken S v n q ≤ taken S w n q = (let a = source-taken in omega arith) in rw (← e .0, ← e .1) b
+      less m r hm hr ne (is-source e) = let b : taken S v n q ≤ taken S w n q = (let a = source-taken S w v n q o P M in omega arith) in rw (← e .0, ← e .1) b
       less m r hm hr ne (is-target away e) = absurd (ne away e)
       less m r hm hr ne (is-neither a b) = le-of-eq (taken-same S w v m r (M .others m r hm hr a b))
 
@@ -168,8 +161,23 @@ module _ (S : Shape) (w v : List ℕ) (n q o : ℕ) (tor : Torus S) (N : Network
       more : (m r : ℕ) → m < nodes S → r < queues → OtherQueue n q m r → Role S n q o m r → taken S w m r ≤ taken S v m r
       more m r hm hr ne (is-source e) = absurd (ne e)
       more m r hm hr ne (is-target away e) =
-          let b : taken S w (target S n o) o ≤ taken S v (target S n o) o = (let a = target-taken away in omega arith) in rw (← e .0, ← e .1) b
+          let b : taken S w (target S n o) o ≤ taken S v (target S n o) o = (let a = target-taken S w v n q o P M away in omega arith) in rw (← e .0, ← e .1) b
       more m r hm hr ne (is-neither a b) = le-of-eq (sym (taken-same S w v m r (M .others m r hm hr a b)))
+
+  -- no queue takes more load than its capacity: the source takes less, the target what there was room for
+  light : (m r : ℕ) → m < nodes S → r < queues → Role S n q o m r → taken S v m r ≤ capacity S r
+  light m r hm hr (is-source e) =
+      let a = source-taken S w v n q o P M in
+      let b = N .queue n q (P .node) (P .queue) .light in
+      let c : taken S v n q ≤ capacity S q = omega arith in
+      rw (← e .0, ← e .1) c
+  light m r hm hr (is-target away e) =
+      let a = target-taken S w v n q o P M away in
+      let b = load-hop o (dimensionOf (directionOf o)) p (omega arith) in
+      let c = target-takes S w n q o p (P .room away) in
+      let d : taken S v (target S n o) o ≤ capacity S o = omega arith in
+      rw (← e .0, ← e .1) d
+  light m r hm hr (is-neither a b) = rw (taken-same S w v m r (M .others m r hm hr a b)) (N .queue m r hm hr .light)
 
   -- every packet fits where it stands
   going-on : Onward p o → PacketFits S (target S n o) o h
@@ -203,15 +211,12 @@ module _ (S : Shape) (w v : List ℕ) (n q o : ℕ) (tor : Torus S) (N : Network
       record {
         in-range = N .in-range;
         long = M .kept .stored .long;
-        queue = λ m r hm hr. fits-by S v m r (M .kept .stored .queue m r hm hr) (packets-fit m r hm hr (role S n q o m r));
-        ring = λ e m he hm. ring-kept S w v n q o p tor (P .node) few (P .room) shifted e m he hm (N .ring e m he hm);
+        queue = λ m r hm hr. fits-by S v m r (M .kept .stored .queue m r hm hr) (light m r hm hr (role S n q o m r)) (packets-fit m r hm hr (role S n q o m r));
+        ring = λ e m he hm. ring-kept S w v n q o p tor (P .node) (N .queue n q (P .node) (P .queue) .light) (P .room) shifted e m he hm (N .ring e m he hm);
         few-accepted = rw (M .same-accepted) (N .few-accepted);
         counted = omega arith;
         bounded = omega arith;
       }
-    where
-      few : taken S w n q ≤ capacity S q
-      few = taken-few S w n q (record { node = P .node; queue = P .queue; long = N .long }) (N .queue n q (P .node) (P .queue))
 
   -- the packet has arrived, and is handed out
   handed-ran : o ≡ deliver → hopsLeft p ≡ 0 → Ran S w v (record { node = n; packet = p } ∷ []) 1

@@ -28,8 +28,8 @@ newLedger = replicate ledgerWords 0
 unfoldable pub perform : Command → List ℕ → Performed
 perform (Command.Make x y z e a j) w =
     record { store = makeWords (shapeOf (sized x y z e a j)) w; output = answerLine (code "T") (makeRefusal (shapeOf (sized x y z e a j)) w) }
-perform (Command.Offer node destination tag) w =
-    record { store = offerWords w node destination tag; output = answerLine (code "O") (offerRefusal w node destination) }
+perform (Command.Offer node destination tag chunks) w =
+    record { store = offerWords w node destination tag chunks; output = answerLine (code "O") (offerRefusal w node destination chunks) }
 perform (Command.Move node queue output) w = record { store = moveWords w node queue output; output = movedLines (moveAnswer w node queue output) }
 perform (Command.Drain budget) w =
     record {

@@ -167,12 +167,19 @@ fn run_make(
 }
 
 // O offers.
-fn run_offer(store: &mut [u64], node: u32, destination: u32, tag: u32, out: &mut [u8]) -> usize
+fn run_offer(
+    store: &mut [u64],
+    node: u32,
+    destination: u32,
+    tag: u32,
+    chunks: u32,
+    out: &mut [u8],
+) -> usize
     requires { ⌜ commandRoom ≤ length (now out) ⌝ }
-    ensures store { λ _. ⌜ now (store .exit) ≡ perform (Command.Offer node destination tag) (now (store .entry)) .store ⌝ }
-    ensures printed { λ r. ⌜ Put (now (out .entry)) 0 (perform (Command.Offer node destination tag) (now (store .entry)) .output) (now (out .exit)) r ⌝ }
+    ensures store { λ _. ⌜ now (store .exit) ≡ perform (Command.Offer node destination tag chunks) (now (store .entry)) .store ⌝ }
+    ensures printed { λ r. ⌜ Put (now (out .entry)) 0 (perform (Command.Offer node destination tag chunks) (now (store .entry)) .output) (now (out .exit)) r ⌝ }
 {
-    let refusal = calls::offer(store, node as u64, destination as u64, tag);
+    let refusal = calls::offer(store, node as u64, destination as u64, tag, chunks as u64);
     writer::put_answer(out, 0, b'O', refusal)
 }
 
@@ -209,7 +216,8 @@ fn run_command(store: &mut [u64], command: Command, out: &mut [u8]) -> usize
             node,
             destination,
             tag,
-        } => run_offer(store, node, destination, tag, out),
+            chunks,
+        } => run_offer(store, node, destination, tag, chunks, out),
         Command::Move {
             node,
             queue,

@@ -60,7 +60,7 @@ isNumber base most field = noLeadingZero field && (allOf (isDigit base) field &&
 unfoldable pub commandWith : ℕ → List ℕ → Command
 commandWith letter n =
     cond (eqb letter (code "T") && eqb (length n) 6) (Command.Make (getD n 0 0) (getD n 1 0) (getD n 2 0) (getD n 3 0) (getD n 4 0) (getD n 5 0))
-    (cond (eqb letter (code "O") && eqb (length n) 3) (Command.Offer (getD n 0 0) (getD n 1 0) (getD n 2 0))
+    (cond (eqb letter (code "O") && eqb (length n) 4) (Command.Offer (getD n 0 0) (getD n 1 0) (getD n 2 0) (getD n 3 0))
     (cond (eqb letter (code "M") && eqb (length n) 3) (Command.Move (getD n 0 0) (getD n 1 0) (getD n 2 0))
     (cond (eqb letter (code "D") && eqb (length n) 1) (Command.Drain (getD n 0 0))
     Command.Bad)))

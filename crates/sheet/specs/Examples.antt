@@ -95,15 +95,16 @@ make-line : MakeLine
 unfolding computed
 make-line = (refl, refl, refl, refl)
 
--- R244: O takes a node, a destination and a tag
+-- R244: O takes a node, a destination, a tag and a chunk number; the longest has 45 bytes
 abbrev pub OfferLine : Type 0
-OfferLine = (commandOf (text "O,0,2,7") ≡ Command.Offer 0 2 7)
-    × (commandOf (text "O,0,2") ≡ Command.Bad)
-    × (commandOf (text "O,0,2,7,1") ≡ Command.Bad)
+OfferLine = (commandOf (text "O,0,2,7,1") ≡ Command.Offer 0 2 7 1)
+    × (commandOf (text "O,4294967292,4294967293,4294967294,4294967295") ≡ Command.Offer 4294967292 4294967293 4294967294 4294967295)
+    × (commandOf (text "O,0,2,7") ≡ Command.Bad)
+    × (commandOf (text "O,0,2,7,1,1") ≡ Command.Bad)
 
 offer-line : OfferLine
 unfolding computed
-offer-line = (refl, refl, refl)
+offer-line = (refl, refl, refl, refl)
 
 -- R245: M takes a node, a queue and an output
 abbrev pub MoveLine : Type 0
@@ -212,9 +213,9 @@ bad-line : BadLine
 unfolding computed
 bad-line = refl
 
--- R255: a packet handed out by a Move: its tag and its destination, before the line of the M
+-- R255: a packet handed out by a Move, of eight chunks: its tag and its destination, and no chunks, before the line of the M
 abbrev pub HandedOut : Type 0
-HandedOut = movedLines (Moved.Delivered (7 * 2 ^ 32 + 2 * 2 ^ 16)) ≡ text "P,7,2\r\nM,0\r\n"
+HandedOut = movedLines (Moved.Delivered (7 * 2 ^ 32 + 7 * 2 ^ 28 + 2 * 2 ^ 16)) ≡ text "P,7,2\r\nM,0\r\n"
 
 handed-out : HandedOut
 unfolding computed

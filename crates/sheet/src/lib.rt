@@ -33,6 +33,7 @@ pub enum Command {
         node: u32,
         destination: u32,
         tag: u32,
+        chunks: u32,
     },
     Move {
         node: u32,

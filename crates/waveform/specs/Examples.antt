@@ -1,7 +1,7 @@
 -- Texts that the definitions give, written out line by line by hand from docs/WAVEFORM.md and docs/RULES.md, and computed: nothing else in this crate says which
 -- bytes a dump has. A must-fail edit of a definition names the row that it breaks; so each row is a law of its own, and small: the other edits of its file leave
--- it as it is. Order: single lines; what a step tells; the dump of one node; the dump that docs/WAVEFORM.md shows, written and read; what the
--- writer refuses and leaves; what the reader takes, refuses and leaves. Assumes nothing.
+-- it as it is. Order: single lines; what a step tells; the dump of one node; the dump that docs/WAVEFORM.md shows, written and read; the fullest queue; what
+-- the writer refuses and leaves; what the reader takes, refuses and leaves. Assumes nothing.
 use mathlib.Core.Path.{_≡_, refl}
 use mathlib.Core.Bool.{true, false}
 use mathlib.Core.List.{List, [], _∷_, _++_, map}
@@ -11,7 +11,7 @@ use Prim.Native.String.{String}
 use lib.ListN.{getD, take, drop, set, replicate}
 use Rattle.network.specs.Sizes.{Shape, shapeOf, sized}
 use Rattle.network.specs.Calls.{offerWords, moveWords}
-use Rattle.network.specs.ByHand.{here, empty, holding, definitions}
+use Rattle.network.specs.ByHand.{here, ofChunks, empty, holding, definitions}
 use Rattle.sheet.specs.Text.{text, lf}
 use Rattle.sheet.specs.Commands.{upTo, isDigit, valueFrom, value, noLeadingZero, isNumber}
 use Rattle.sheet.specs.Output.{numeralWithin, numeral}
@@ -79,9 +79,9 @@ stamp-lines = refl
 abbrev told : ℕ → ℕ → Change
 told v f = record { variable = v; fill = f }
 
--- R405, R410: an empty queue, three packets, ten, and the most that eight digits say
-value-lines : map valueLine (told 0 0 ∷ told 30 3 ∷ told 12 10 ∷ told 53247 255 ∷ [])
-    ≡ text "b0 0\n" ∷ text "b11 30\n" ∷ text "b1010 12\n" ∷ text "b11111111 53247\n" ∷ []
+-- R405, R410: an empty queue, three packets, ten, the most that a queue holds, and the most that eight digits say
+value-lines : map valueLine (told 0 0 ∷ told 30 3 ∷ told 12 10 ∷ told 1 64 ∷ told 53247 255 ∷ [])
+    ≡ text "b0 0\n" ∷ text "b11 30\n" ∷ text "b1010 12\n" ∷ text "b1000000 1\n" ∷ text "b11111111 53247\n" ∷ []
 unfolding dumped
 value-lines = refl
 
@@ -158,7 +158,7 @@ stamps-of-one = refl
 
 -- The dump of docs/WAVEFORM.md --------------------------------------------------------------------------------------------------------------
 
--- T,2,1,1,2,1,1 and O,0,1,7 and M,0,0,1
+-- T,2,1,1,2,1,1 and O,0,1,7,8 and M,0,0,1
 abbrev pair : Shape
 pair = shapeOf (sized 2 1 1 2 1 1)
 
@@ -166,7 +166,7 @@ abbrev made : List ℕ
 made = empty pair
 
 abbrev offered : List ℕ
-offered = offerWords made 0 1 7
+offered = offerWords made 0 1 7 8
 
 abbrev moved : List ℕ
 moved = moveWords offered 0 0 1
@@ -259,6 +259,26 @@ read-of-two : readAll (replicate 28 9) dump-of-two
     ∷ []
 unfolding dumped readAll
 read-of-two = refl
+
+-- The fullest queue ------------------------------------------------------------------------------------------------------------------------
+
+-- 2 by 1 by 1, E 2, A 8, J 1: in the adaptive queue x+ of node 0, which takes 64 chunks, 64 packets of one chunk; and eight of eight
+abbrev longest : Shape
+longest = shapeOf (sized 2 1 1 2 8 1)
+
+abbrev filled : ℕ → ℕ → List ℕ
+filled count chunks = holding (empty longest) 0 1 (replicate count (ofChunks chunks (here 0)))
+
+-- R406: packets are counted, whatever their chunks
+fullest : map (fills longest) (filled 64 1 ∷ filled 8 8 ∷ []) ≡ (0 ∷ 64 ∷ replicate 24 0) ∷ (0 ∷ 8 ∷ replicate 24 0) ∷ []
+unfolding dumped
+fullest = refl
+
+-- R405, R408, R416: the step of the first, written and read
+fullest-told : (writtenStep false (filled 64 1) zeros ≡ linesOf ("#0" ∷ "b1000000 1" ∷ []))
+    × (readList (linesOf ("#0" ∷ "b1000000 1" ∷ [])) zeros ≡ 0 ∷ 64 ∷ replicate 24 0)
+unfolding dumped
+fullest-told = (refl, refl)
 
 -- What the writer refuses and leaves --------------------------------------------------------------------------------------------------------
 

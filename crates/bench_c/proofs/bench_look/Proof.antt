@@ -8,7 +8,8 @@ use lib.ListN.{length}
 use Rattle.network.specs.Sizes.{shapeOf}
 use Rattle.checker.specs.Opened.{broken, is-open, is-shut}
 use Rattle.queue.specs.QueueOf.{QueueOf}
-use Rattle.calls.specs.Returns.{look-broken, look-rules, looks, held-end}
+use Rattle.queue.specs.HeldWords.{held-end}
+use Rattle.calls.specs.Returns.{look-broken, look-rules, looks}
 use Rattle.bench_c.specs.OutLaws.{look-cleared, look-told}
 use Rattle.bench_c.proofs.bench_look.Statement.{statement}
 use Rattle.bench_c.proofs.bench_look.Tie as tie

@@ -31,8 +31,8 @@ returns c =
     with-values
     (credit-refused (shapeOf (o .opened2 .given .0 .0)) (now (a .words)) (a .node) (a .output) (t .result) (k .passed) (k .sizes) (sym (t .ensures)) (c .if1 .taken))
 
-free-slots-requires : tie.Need-free-slots-requires
-free-slots-requires c κs =
+free-load-requires : tie.Need-free-load-requires
+free-load-requires c κs =
     let t = c .before .credit-rules in
     let o = c .before .before .before in
     let a = o .before .before .before .before .args in
@@ -55,8 +55,8 @@ returns-3 c =
     let a = o .before .before .before .before .args in
     let k = is-open (o .before .before .«open» .ensures) (o .opened2 .given .1) in
     with-values
-    (credit-free (shapeOf (o .opened2 .given .0 .0)) (now (a .words)) (a .node) (a .output) (c .free-slots .result) (k .passed) (k .sizes)
-    (sym (t .ensures) ∙ e .if1 .left) (c .free-slots .ensures))
+    (credit-free (shapeOf (o .opened2 .given .0 .0)) (now (a .words)) (a .node) (a .output) (c .free-load .result) (k .passed) (k .sizes)
+    (sym (t .ensures) ∙ e .if1 .left) (c .free-load .ensures))
 
 pub credit-spec : {M : Type 1} → statement M
 credit-spec =
@@ -67,6 +67,6 @@ credit-spec =
     (λ c. search needs)
     credit-rules-requires
     returns
-    free-slots-requires
+    free-load-requires
     returns-2
     returns-3)

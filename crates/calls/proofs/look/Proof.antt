@@ -9,7 +9,8 @@ use lib.ListN.{length}
 use Rattle.network.specs.Sizes.{shapeOf}
 use Rattle.network.specs.Refusals.{lookRefusal}
 use Rattle.queue.specs.QueueOf.{QueueOf}
-use Rattle.calls.specs.Returns.{look-broken, look-rules, look-refused, look-shown, looks, held-part, held-end}
+use Rattle.queue.specs.HeldWords.{held-part, held-end}
+use Rattle.calls.specs.Returns.{look-broken, look-rules, look-refused, look-shown, looks}
 use Rattle.calls.specs.Place.{place-refused, place-shown}
 use Rattle.checker.specs.Opened.{broken, is-open, is-shut}
 use Rattle.calls.proofs.look.Statement.{statement}

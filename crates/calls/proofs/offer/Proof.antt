@@ -2,7 +2,10 @@
 use borrow.Author.Needs.{needs}
 use mathlib.Core.Path.{sym, _∙_}
 use denote.Ref.{now}
-use Rattle.network.specs.Sizes.{shapeOf}
+use native.Mathlib.Omega.{arith}
+use Rattle.network.specs.Sizes.{shapeOf, injectionQueue, mostChunks}
+use Rattle.network.specs.SizesLaws.{between-of}
+use Rattle.network.specs.LayoutLaws.{length-taken}
 use Rattle.network.specs.CallLaws.{accepting}
 use Rattle.calls.specs.Returns.{offer-refused, offer-broken, offer-rules, offer-taken}
 use Rattle.checker.specs.Opened.{broken, is-open, is-shut}
@@ -25,8 +28,8 @@ returns c =
     let o = c .before .before .before .before in
     let a = start o .args in
     let k = is-open (o .before .before .«open» .ensures) (o .opened2 .given .1) in
-    let x = offer-refused (now (a .words)) (a .node) (a .destination) (a .tag) (t .result)
-    (offer-rules (shapeOf (o .opened2 .given .0 .0)) (now (a .words)) (a .node) (a .destination) (k .passed) (k .sizes) ∙ sym (t .ensures)) (c .if1 .taken) in
+    let x = offer-refused (now (a .words)) (a .node) (a .destination) (a .tag) (a .chunks) (t .result)
+    (offer-rules (shapeOf (o .opened2 .given .0 .0)) (now (a .words)) (a .node) (a .destination) (a .chunks) (k .passed) (k .sizes) ∙ sym (t .ensures)) (c .if1 .taken) in
     (x .says, x .leaves)
 
 accept-requires : tie.Need-accept-requires
@@ -35,16 +38,18 @@ accept-requires c κs =
     let o = c .before .before .before .before .before in
     let a = start o .args in
     let k = is-open (o .before .before .«open» .ensures) (o .opened2 .given .1) in
-    let p = accepting (shapeOf (o .opened2 .given .0 .0)) (now (a .words)) (a .node) (a .destination) (k .network) (sym (t .ensures) ∙ c .before .if1 .left) in
-    (k .network, (p .node, (p .addressed, p .free)))
+    let p = accepting (shapeOf (o .opened2 .given .0 .0)) (now (a .words)) (a .node) (a .destination) (a .chunks) (k .network) (sym (t .ensures) ∙ c .before .if1 .left) in
+    let b = between-of 1 mostChunks (a .chunks) (p .right) in
+    let l = length-taken (shapeOf (o .opened2 .given .0 .0)) (now (a .words)) (a .node) injectionQueue in
+    (k .network, (p .node, (p .addressed, ((b .low, b .high), omega (arith, l, p .free)))))
 
 returns-2 : tie.Need-returns-2
 returns-2 c =
     let o = c .before in
     let a = o .before .before .before .before .before .args in
     let k = is-shut (o .before .before .«open» .ensures) (o .opened .given .1) in
-    let x = offer-refused (now (a .words)) (a .node) (a .destination) (a .tag) (o .opened .given .0 .0)
-    (offer-broken (now (a .words)) (a .node) (a .destination) (broken k) ∙ k .says) (k .refused) in
+    let x = offer-refused (now (a .words)) (a .node) (a .destination) (a .tag) (a .chunks) (o .opened .given .0 .0)
+    (offer-broken (now (a .words)) (a .node) (a .destination) (a .chunks) (broken k) ∙ k .says) (k .refused) in
     (x .says, x .leaves)
 
 returns-3 : tie.Need-returns-3
@@ -54,7 +59,7 @@ returns-3 c =
     let o = e .before .before .before .before in
     let a = start o .args in
     let k = is-open (o .before .before .«open» .ensures) (o .opened2 .given .1) in
-    let x = offer-taken (shapeOf (o .opened2 .given .0 .0)) (now (a .words)) (a .node) (a .destination) (a .tag) (k .passed) (k .sizes) (sym (t .ensures) ∙ e .if1 .left) in
+    let x = offer-taken (shapeOf (o .opened2 .given .0 .0)) (now (a .words)) (a .node) (a .destination) (a .tag) (a .chunks) (k .passed) (k .sizes) (sym (t .ensures) ∙ e .if1 .left) in
     (x .says, c .before .before .accept .ensures ∙ x .leaves)
 
 pub offer-spec : {M : Type 1} → statement M

@@ -39,17 +39,17 @@ nodes-requires c κs = c .before .before .before .before .before .pre .in-range
 
 drain-with-requires : tie.Need-drain-with-requires
 drain-with-requires c κs =
-    let few = c .before .before .before in
+    let few = c .before .before .before .before in
     let a = few .before .before .before .before .before .before .before in
     let e = few .before .nodes .ensures in
     let h = few .if2 .taken in
-    (a .pre, omega arith)
+    (a .pre, (omega arith, omega arith))
 
 drain-with-requires-2 : tie.Need-drain-with-requires-2
 drain-with-requires-2 c κs =
-    let a = c .before .before .before .before .before .before .before .before .before .before in
+    let a = c .before .before .before .before .before .before .before .before .before .before .before in
     let m = sizes-nodes (a .args .s) (a .pre .in-range) in
-    (a .pre, omega arith)
+    (a .pre, (omega arith, omega arith))
 
 pub drain-network-spec : {M : Type 1} → statement M
 drain-network-spec =
@@ -60,7 +60,9 @@ drain-network-spec =
     returns
     nodes-requires
     (λ c. search needs)
+    (λ c. search needs)
     drain-with-requires
+    (λ c. search needs)
     (λ c. search needs)
     (λ c. search needs)
     (λ c. search needs)

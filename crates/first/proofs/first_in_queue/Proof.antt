@@ -15,10 +15,10 @@ use Rattle.first.proofs.first_in_queue.Statement.{statement}
 use Rattle.first.proofs.first_in_queue.Tie as tie
 
 abbrev Inv-loop : tie.InvT-loop
-Inv-loop words s near n q start p outputs k₀ k = AtLine s words n q outputs k
+Inv-loop words s near loads n q start p outputs k₀ k = AtLine s words n q outputs k
 
 abbrev μ-loop : tie.MeasureT-loop
-μ-loop words s near n q start p outputs k₀ k = selectionLines - k
+μ-loop words s near loads n q start p outputs k₀ k = selectionLines - k
 
 -- a test that says whether a rule's number is 0
 passed : (said : Bool) (number : ℕ) → said ≡ eqb number 0 → said ≡ true → number ≡ 0
@@ -29,7 +29,7 @@ failed said number e t = eqb-false number 0 (sym e ∙ t)
 
 -- where the function starts, and where the queue's words were sought
 abbrev start : tie.After-queue-start Inv-loop μ-loop → tie.Start Inv-loop μ-loop
-start c = c .before .before .before
+start c = c .before .before .before .before
 
 abbrev sought : tie.After-routes Inv-loop μ-loop → tie.After-queue-start Inv-loop μ-loop
 sought c = c .before .before .before .before
@@ -42,7 +42,7 @@ two-words c =
     inside-at (a .s) (a .words .now) (a .n) (a .q) (f .pre .0) (c .queue-start .result) (c .queue-start .ensures)
 
 routes-requires : tie.Need-routes-requires Inv-loop μ-loop
-routes-requires c κs = c .before .before .before .before .before .before .pre .0 .queue
+routes-requires c κs = c .before .before .before .before .before .before .before .pre .0 .queue
 
 -- what was read of the queue
 reading : (c : tie.After-routes Inv-loop μ-loop)
@@ -54,7 +54,7 @@ reading c =
 
 queue-start-requires : tie.Need-queue-start-requires Inv-loop μ-loop
 queue-start-requires c κs =
-    let f = c .before .before in
+    let f = c .before .before .before in
     let a = f .args in
     asked (a .s) (a .words .now) (a .n) (a .q) (f .pre .0)
 
@@ -93,7 +93,7 @@ may-flow-requires c κs =
         node = k .queue .node;
         queue = output-lt k (f .before .loop .k) (f .loop-test .taken) (sym (c .before .applies .ensures) ∙ c .if2 .taken);
       },
-      start (sought r) .pre .1,
+      (start (sought r) .pre .1 .0, start (sought r) .pre .1 .1),
     )
 
 returns-2 : tie.Need-returns-2 Inv-loop μ-loop

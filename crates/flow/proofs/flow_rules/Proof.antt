@@ -7,48 +7,58 @@ use borrow.Author.Needs.{needs}
 use borrow.Author.Tests.{eq-eqb, ne-eqb, lt-ltb, le-ltb}
 use lib.Dec.{ltb, eqb}
 use Rattle.network.specs.Sizes.{Shape, shapeOf}
-use Rattle.network.specs.Routes.{freeSlots, slotsNeeded}
+use Rattle.network.specs.Layout.{load}
+use Rattle.network.specs.Routes.{freeLoad, loadNeeded}
 use Rattle.network.specs.Refusals.{refuse, flowRules, noSlot, noBubble}
 use Rattle.flow.proofs.flow_rules.Statement.{statement}
 use Rattle.flow.proofs.flow_rules.Tie as tie
 
 -- by what the three tests said
-tested : (S : Shape) (w : List ℕ) (n q o p free needed : ℕ) (a b d : Bool) → free ≡ freeSlots S w n o → needed ≡ slotsNeeded q o p
-    → eqb o 0 ≡ a → eqb free 0 ≡ b → ltb free needed ≡ d → cond a 0 (refuse b noSlot (refuse d noBubble 0)) ≡ flowRules S w n q o p
+tested : (S : Shape) (w : List ℕ) (n q o p free taken needed : ℕ) (a b d : Bool) → free ≡ freeLoad S w n o → taken ≡ load o p → needed ≡ loadNeeded q o p
+    → eqb o 0 ≡ a → ltb free taken ≡ b → ltb free needed ≡ d → cond a 0 (refuse b noSlot (refuse d noBubble 0)) ≡ flowRules S w n q o p
 unfolding flowRules
-tested S w n q o p free needed a b d ef en ea eb ed = cc
+tested S w n q o p free taken needed a b d ef et en ea eb ed = cc
 
 returns : tie.Need-returns
 returns c =
     let a = c .before .before .args in
     let S = shapeOf (a .s) in
     let w = a .words .now in
-    tested S w (a .n) (a .q) (a .o) (a .p) (freeSlots S w (a .n) (a .o)) (slotsNeeded (a .q) (a .o) (a .p)) true _ _ refl refl (eq-eqb (a .o) 0 (c .if1 .taken)) refl refl
+    tested S w (a .n) (a .q) (a .o) (a .p) (freeLoad S w (a .n) (a .o)) (load (a .o) (a .p)) (loadNeeded (a .q) (a .o) (a .p)) true _ _
+    refl refl refl (eq-eqb (a .o) 0 (c .if1 .taken)) refl refl
 
 returns-2 : tie.Need-returns-2
 returns-2 c =
-    let a = c .before .before .before .before .args in
-    let free = c .before .free-slots in
-    tested (shapeOf (a .s)) (a .words .now) (a .n) (a .q) (a .o) (a .p) (free .result) (slotsNeeded (a .q) (a .o) (a .p)) false true _
-    (free .ensures) refl (ne-eqb (a .o) 0 (c .before .before .if1 .left)) (eq-eqb (free .result) 0 (c .if2 .taken)) refl
+    let takes = c .before .load in
+    let f = c .before .before in
+    let a = f .before .before .before .args in
+    let free = f .free-load in
+    tested (shapeOf (a .s)) (a .words .now) (a .n) (a .q) (a .o) (a .p) (free .result) (takes .result) (loadNeeded (a .q) (a .o) (a .p)) false true _
+    (free .ensures) (takes .ensures) refl (ne-eqb (a .o) 0 (f .before .if1 .left)) (lt-ltb (free .result) (takes .result) (c .if2 .taken)) refl
 
 returns-3 : tie.Need-returns-3
 returns-3 c =
-    let needed = c .before .slots-needed in
-    let f = c .before .before in
-    let free = f .before .free-slots in
-    let a = f .before .before .before .before .args in
-    tested (shapeOf (a .s)) (a .words .now) (a .n) (a .q) (a .o) (a .p) (free .result) (needed .result) false false true
-    (free .ensures) (needed .ensures) (ne-eqb (a .o) 0 (f .before .before .if1 .left)) (ne-eqb (free .result) 0 (f .if2 .left)) (lt-ltb (free .result) (needed .result) (c .if3 .taken))
+    let needed = c .before .load-needed in
+    let t = c .before .before in
+    let takes = t .before .load in
+    let f = t .before .before in
+    let free = f .free-load in
+    let a = f .before .before .before .args in
+    tested (shapeOf (a .s)) (a .words .now) (a .n) (a .q) (a .o) (a .p) (free .result) (takes .result) (needed .result) false false true
+    (free .ensures) (takes .ensures) (needed .ensures) (ne-eqb (a .o) 0 (f .before .if1 .left)) (le-ltb (free .result) (takes .result) (t .if2 .left))
+    (lt-ltb (free .result) (needed .result) (c .if3 .taken))
 
 returns-4 : tie.Need-returns-4
 returns-4 c =
-    let needed = c .before .slots-needed in
-    let f = c .before .before in
-    let free = f .before .free-slots in
-    let a = f .before .before .before .before .args in
-    tested (shapeOf (a .s)) (a .words .now) (a .n) (a .q) (a .o) (a .p) (free .result) (needed .result) false false false
-    (free .ensures) (needed .ensures) (ne-eqb (a .o) 0 (f .before .before .if1 .left)) (ne-eqb (free .result) 0 (f .if2 .left)) (le-ltb (free .result) (needed .result) (c .if3 .left))
+    let needed = c .before .load-needed in
+    let t = c .before .before in
+    let takes = t .before .load in
+    let f = t .before .before in
+    let free = f .free-load in
+    let a = f .before .before .before .args in
+    tested (shapeOf (a .s)) (a .words .now) (a .n) (a .q) (a .o) (a .p) (free .result) (takes .result) (needed .result) false false false
+    (free .ensures) (takes .ensures) (needed .ensures) (ne-eqb (a .o) 0 (f .before .if1 .left)) (le-ltb (free .result) (takes .result) (t .if2 .left))
+    (le-ltb (free .result) (needed .result) (c .if3 .left))
 
 pub flow-rules-spec : {M : Type 1} → statement M
-flow-rules-spec = tie.close (tie.spec returns (λ c κs. search needs) returns-2 (λ c κs. search needs) returns-3 returns-4)
+flow-rules-spec = tie.close (tie.spec returns (λ c κs. search needs) (λ c κs. search needs) returns-2 (λ c κs. search needs) returns-3 returns-4)

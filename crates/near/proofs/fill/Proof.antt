@@ -5,10 +5,11 @@ use Prim.Native.Nat.{ℕ, _*_, _-_, _<_, _≤_}
 use native.Mathlib.Omega.{arith}
 use lib.ListN.{length}
 use Rattle.network.specs.Sizes.{shapeOf, directions, nodes}
+use Rattle.network.specs.Torus.{neighbour}
 use Rattle.network.specs.TorusLaws.{sizes-nodes}
 use Rattle.torus.specs.Geometry.{WalkTo}
 use Rattle.torus.specs.GeometryLaws.{walk-start, walk-next}
-use Rattle.near.specs.Table.{NearTo, near-none}
+use Rattle.near.specs.Table.{NearTo, table-none}
 use Rattle.near.proofs.fill.Statement.{statement}
 use Rattle.near.proofs.fill.Tie as tie
 
@@ -32,7 +33,7 @@ is-node c = let e = c .before .before .nodes .ensures in let h = c .loop-test .t
 loop-holds : tie.Need-loop-holds Inv-loop μ-loop
 loop-holds c =
     let a = c .before .before in
-    (near-none (shapeOf (a .args .s)) (a .args .near .now) (a .pre .1), walk-start _ (a .pre .0), omega arith, refl)
+    (table-none (shapeOf (a .args .s)) (neighbour (shapeOf (a .args .s))) (a .args .near .now) (a .pre .1), walk-start _ (a .pre .0), omega arith, refl)
 
 fill-node-requires : tie.Need-fill-node-requires Inv-loop μ-loop
 fill-node-requires c κs =

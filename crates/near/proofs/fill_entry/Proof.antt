@@ -5,7 +5,7 @@ use Prim.Native.Nat.{_+_, _*_}
 use native.Mathlib.Omega.{arith}
 use Rattle.network.specs.Sizes.{shapeOf, directions}
 use Rattle.network.specs.TorusLaws.{sizes-torus, sizes-nodes, neighbour-lt}
-use Rattle.near.specs.Table.{near-more}
+use Rattle.near.specs.Table.{table-more}
 use Rattle.near.proofs.fill_entry.Statement.{statement}
 use Rattle.near.proofs.fill_entry.Tie as tie
 
@@ -22,7 +22,7 @@ returns c =
     let a = c .before .before in
     let h = a .pre .0 .2 in
     let l = a .pre .0 .1 in
-    near-more (directions * a .args .n + a .args .d) (c .step-from .result) (a .args .d) (a .args .n) (a .pre .1) (omega arith) refl l (c .step-from .ensures)
+    table-more (directions * a .args .n + a .args .d) (c .step-from .result) (a .args .d) (a .args .n) (a .pre .1) (omega arith) refl l (c .step-from .ensures)
 
 pub fill-entry-spec : {M : Type 1} → statement M
 fill-entry-spec =

@@ -7,8 +7,8 @@ use Prim.Native.Nat.{_+_, _-_}
 use native.Mathlib.Omega.{arith}
 use lib.ListN.{getD}
 use Rattle.network.specs.Sizes.{shapeOf, dimensions}
-use Rattle.network.specs.Packet.{spare, distance}
-use Rattle.packet_check.specs.PacketLimits.{belowAlong}
+use Rattle.network.specs.Packet.{distance}
+use Rattle.packet_check.specs.PacketLimits.{sparesClear, belowAlong}
 use Rattle.packet_check.specs.Tables.{firstDistance}
 use Rattle.packet_check.proofs.Judged.{Judged, judged-none, More, judged-more, passes-is, distance-read, Short, short, spare-set, limit-reached, led-elsewhere, work-is}
 use Rattle.packet_check.proofs.work_if_fits.Statement.{statement}
@@ -23,17 +23,17 @@ abbrev μ-loop : tie.MeasureT-loop
 returns : tie.Need-returns Inv-loop μ-loop
 returns c =
     let st = c .before .before .before in
-    spare-set (st .args .s) (st .args .place) (st .args .q) (st .args .p) (st .pre .0) (λ e. c .if1 .taken (c .before .spare .ensures ∙ e))
+    spare-set (st .args .s) (st .args .place) (st .args .q) (st .args .p) (st .pre .0) (sym (c .before .spares-clear .ensures) ∙ not-true _ (c .if1 .taken))
 
 loop-holds : tie.Need-loop-holds Inv-loop μ-loop
 loop-holds c = judged-none _ _ _ _
 
--- where the function starts; the spare bit is 0
+-- where the function starts; the spare bits are 0
 abbrev start : tie.At-loop Inv-loop μ-loop → tie.Start Inv-loop μ-loop
 start c = c .before .before .before .before .before
 
-clear : (c : tie.At-loop Inv-loop μ-loop) → spare (start c .args .p) ≡ 0
-clear c = sym (c .before .before .before .spare .ensures) ∙ c .before .before .if1 .left
+clear : (c : tie.At-loop Inv-loop μ-loop) → sparesClear (start c .args .p) ≡ true
+clear c = sym (c .before .before .before .spares-clear .ensures) ∙ not-false _ (c .before .before .if1 .left)
 
 -- the head of the loop and the call, from behind the test of an offset
 abbrev head : tie.After-passes Inv-loop μ-loop → tie.At-loop Inv-loop μ-loop

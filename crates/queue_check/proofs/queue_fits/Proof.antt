@@ -12,7 +12,7 @@ use Rattle.network.specs.Sizes.{Shape, shapeOf}
 use Rattle.network.specs.Layout.{countOf, queueLength}
 use Rattle.torus.specs.Geometry.{nodeAt}
 use Rattle.queue_check.specs.TallyLaws.{tally-fails, tally-same}
-use Rattle.queue_check.proofs.QueueParts.{part-over, part-used, part-packets, part-empty}
+use Rattle.queue_check.proofs.QueueParts.{part-over, part-used, part-heavy, part-packets, part-empty}
 use Rattle.queue_check.proofs.queue_fits.Statement.{statement}
 use Rattle.queue_check.proofs.queue_fits.Tie as tie
 
@@ -55,19 +55,37 @@ returns-3 c =
     let st = start (c .before .before .before .before) in
     part-empty (S st) (n st) (st .args .q) (st .args .part .now) (st .pre .2) (c .if3 .taken) (c .before .before .before .if1 .left) (zeros (c .before))
 
-packets-fit-requires : tie.Need-packets-fit-requires
+load-fits-requires : tie.Need-load-fits-requires
 unfolding countOf
-packets-fit-requires c κs =
+load-fits-requires c κs =
     let st = start (c .before .before .before .before) in
-    (st .pre .0, st .pre .1, c .before .before .before .if1 .left, st .pre .3, st .pre .4)
+    (c .before .before .before .if1 .left, st .pre .3)
 
 returns-4 : tie.Need-returns-4
 unfolding countOf
 returns-4 c =
-    let e = c .before in
+    let e = c .before .before .before in
+    let st = start (e .before .before .before .before) in
+    tally-fails _ _ _ _ (c .unfit3 .ensures)
+    (part-heavy (S st) (n st) (st .args .q) (st .args .part .now) (st .pre .2) (e .before .before .before .if1 .left) (zeros (e .before))
+    (sym (c .before .before .load-fits .ensures) ∙ not-true _ (c .before .if4 .taken)))
+
+packets-fit-requires : tie.Need-packets-fit-requires
+unfolding countOf
+packets-fit-requires c κs =
+    let e = c .before .before in
+    let st = start (e .before .before .before .before) in
+    (st .pre .0, st .pre .1, e .before .before .before .if1 .left, st .pre .3, st .pre .4)
+
+returns-5 : tie.Need-returns-5
+unfolding countOf
+returns-5 c =
+    let l = c .before in
+    let e = l .before .before in
     let st = start (e .before .before .before .before) in
     tally-same _ _ _ _ _ (c .packets-fit .ensures)
-    (part-packets (S st) (n st) (st .args .q) (st .args .part .now) (st .pre .2) (e .before .before .before .if1 .left) (zeros (e .before)))
+    (part-packets (S st) (n st) (st .args .q) (st .args .part .now) (st .pre .2) (e .before .before .before .if1 .left) (zeros (e .before))
+    (sym (l .before .load-fits .ensures) ∙ not-false _ (l .if4 .left)))
 
 pub queue-fits-spec : {M : Type 1} → statement M
 queue-fits-spec =
@@ -81,5 +99,8 @@ queue-fits-spec =
     (λ c κs. search needs)
     returns-2
     returns-3
+    load-fits-requires
+    (λ c κs. search needs)
+    returns-4
     packets-fit-requires
-    returns-4)
+    returns-5)

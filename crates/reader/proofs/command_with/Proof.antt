@@ -46,6 +46,7 @@ command-with-spec =
     (λ c. search needs)
     (λ c. search needs)
     (λ c. search needs)
+    (λ c. search needs)
     returns-3
     returns-4
     (λ c. search needs)

@@ -14,10 +14,10 @@ use Rattle.ready.proofs.next_move.Statement.{statement}
 use Rattle.ready.proofs.next_move.Tie as tie
 
 abbrev Inv-loop : tie.InvT-loop
-Inv-loop words s near ready₀ h₀ ready h = Covered (shapeOf s) words ready × LowestMember ready h × (length ready ≡ length ready₀)
+Inv-loop words s near loads ready₀ h₀ ready h = Covered (shapeOf s) words ready × LowestMember ready h × (length ready ≡ length ready₀)
 
 abbrev μ-loop : tie.MeasureT-loop
-μ-loop words s near ready₀ h₀ ready h = heads - h
+μ-loop words s near loads ready₀ h₀ ready h = heads - h
 
 less : (t x n : ℕ) → x < n → x < t → t - n < t - x
 less t x n a b = omega arith
@@ -28,18 +28,18 @@ few c = sizes-nodes (c .args .s) (c .pre .0 .in-range)
 
 -- the call, from the head of the loop
 abbrev start : tie.At-loop Inv-loop μ-loop → tie.Start Inv-loop μ-loop
-start l = l .before .before .before .before .before .before
+start l = l .before .before .before .before .before .before .before
 
 loop-holds : tie.Need-loop-holds Inv-loop μ-loop
 loop-holds c =
-    let a = c .before .before .before .before .before in
-    (a .pre .1 .1, c .lowest .ensures, refl)
+    let a = c .before .before .before .before .before .before in
+    (a .pre .1 .1 .1, c .lowest .ensures, refl)
 
 first-in-queue-requires : tie.Need-first-in-queue-requires Inv-loop μ-loop
 first-in-queue-requires c κs =
     let l = c .before in
     let h = l .loop .inv .0 .heads (l .loop .h) (l .loop .inv .1 .found (c .loop-test .taken)) in
-    (record { network = start l .pre .0; node = h .0; queue = h .1 }, start l .pre .1 .0)
+    (record { network = start l .pre .0; node = h .0; queue = h .1 }, (start l .pre .1 .0, start l .pre .1 .1 .0))
 
 -- the lowest head's move is First's
 returns : tie.Need-returns Inv-loop μ-loop

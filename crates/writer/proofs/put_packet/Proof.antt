@@ -14,7 +14,7 @@ abbrev xs : ℕ → List ℕ
 xs p = 80 ∷ comma ∷ decimal (p / 2 ^ 32)
 
 abbrev ys : ℕ → List ℕ
-ys p = comma ∷ decimal (p / 2 ^ 16 % 2 ^ 16)
+ys p = comma ∷ decimal (p / 2 ^ 16 % 2 ^ 12)
 
 abbrev zs : List ℕ
 zs = cr ∷ lf ∷ []

@@ -1,0 +1,2 @@
+-- What a table of loads holds, and its laws.
+pub mod Loads
