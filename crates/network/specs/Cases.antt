@@ -27,14 +27,14 @@ use Rattle.network.specs.Sizes.{Shape, shapeOf, sized, size, within, siz
 use Rattle.network.specs.SizesLaws.{between-by, escape-slots, escape-capacity}
 use Rattle.network.specs.Packet.{signed, tag, destination, chunks, spare, upperSpare, offset, withOffset, distance, hops, heading, hopsLeft, hop, label}
 use Rattle.network.specs.Torus.{coordinate, along, neighbour}
-use Rattle.network.specs.Layout.{headerWords, shape, movesAt, need, queuePart, countOf, packetsOf, held}
+use Rattle.network.specs.Layout.{headerWords, shape, acceptedAt, deliveredAt, movesAt, need, queuePart, countOf, packetsOf, held}
 use Rattle.network.specs.LayoutLaws.{header-long, load-escape}
 use Rattle.network.specs.Check.{packetFits, queuesFit, ringHasRoom, ringsHaveRoom, packetsHeld, countersFit, isNetwork}
 use Rattle.network.specs.Routes.{deliver, inOrder, routes, target, freeLoad, entersRing, loadNeeded}
 use Rattle.network.specs.Selection.{selected}
 use Rattle.network.specs.SelectionLaws.{selection-routes}
 use Rattle.network.specs.Refusals.{refuse, noRoute, noSlot, noBubble, networkRefusal, makeRefusal, offerRules, offerRefusal, head, flowRules, moveRules, moveRefusal, creditRefusal, lookRefusal}
-use Rattle.network.specs.Calls.{Progress, offeredSteps, offered, offerWords, moveWords, moveAnswer, firstAnswer, stopped, drainFrom, drained, drainLedger, drainAnswer}
+use Rattle.network.specs.Calls.{Progress, moveOf, offeredSteps, offered, afterOffer, offerWords, moveWords, moveAnswer, firstAnswer, stopped, drainFrom, drained, drainLedger, drainAnswer}
 use Rattle.network.specs.PacketLaws.{hops-hop-le, arrived-distance, spare-is, upperSpare-is}
 use Rattle.network.specs.TorusLaws.{Torus, size-pos, along-lt, inRange-torus, inRange-size, inRange-nodes, sizes-torus}
 use Rattle.network.specs.OfferLaws.{ShortRings, offset-nearer, offset-halfway}
@@ -860,10 +860,29 @@ none-ahead-each =
     let entry : (d : ℕ) → d < directions → _ → Entries d 2 0 0 = λ d h. entries 2 0 0 d (crossing-passes d h) in
     ((((((tt, entry 0 (omega arith) refl), entry 1 (omega arith) refl), entry 2 (omega arith) refl), entry 3 (omega arith) refl), entry 4 (omega arith) refl), entry 5 (omega arith) refl)
 
+-- K3, K4: where an empty network passes the check, which is computed once for each, and no rule of Offer applies, the packet stands where the change puts it
+stands : (S : Shape) (n destination tag chunks word : ℕ) → networkRefusal (empty S) ≡ 0 → offerRules (shape (empty S)) (empty S) n destination chunks ≡ 0
+    → held S (afterOffer (shape (empty S)) (empty S) n destination tag chunks) n injectionQueue ≡ word ∷ []
+    → held S (offerWords (empty S) n destination tag chunks) n injectionQueue ≡ word ∷ []
+unfolding offerWords offerRefusal
+stands S n destination tag chunks word passes rules there = rw (passes, rules) there
+
+four-by-three-passes : networkRefusal (empty four-by-three) ≡ 0
+unfolding computed
+four-by-three-passes = refl
+
+six-by-two-passes : networkRefusal (empty six-by-two) ≡ 0
+unfolding computed
+six-by-two-passes = refl
+
+two-cubed-passes : networkRefusal (empty two-cubed) ≡ 0
+unfolding computed
+two-cubed-passes = refl
+
 -- rows, and parts of rows, that a must-fail edit breaks alone. K3: from an odd row, of a node with an even number
 odd-row : Offered six-by-two 6 0 7 1 30064772064
 unfolding computed
-odd-row = (refl, refl)
+odd-row = (refl, stands six-by-two 6 0 7 1 _ six-by-two-passes refl refl)
 
 -- K3, held: a hop along y, in an odd column
 on-its-way : held four-by-two (moveWords against-parity 5 0 3) 1 3 ≡ packet 3 (pos 2) (pos 0) (pos 0) ∷ []
@@ -876,9 +895,25 @@ unfolding computed
 one-move zero room = refl
 one-move (suc budget) room = refl
 
-thirteen-moves : drainAnswer in-every-queue 13 13 ≡ Drained.Stopped 13 13 Stop.Emptied
+thirteen-moves : drained in-every-queue 13 13
+    ≡ record {
+      words = set (set (set (empty two-cubed) acceptedAt 13) deliveredAt 13) movesAt 13;
+      moves = map (λ q. moveOf 0 q deliver) (inOrder 0 queues);
+      deliveries = replicate 13 (record { node = 0; packet = here 0 });
+      stop = Stop.Emptied;
+    }
 unfolding computed
 thirteen-moves = refl
+
+-- so it is computed once for the answer and the ledger
+in-every-passes : networkRefusal in-every-queue ≡ 0
+unfolding computed
+in-every-passes = refl
+
+thirteen-told : (drainAnswer in-every-queue 13 13 ≡ Drained.Stopped 13 13 Stop.Emptied)
+    × (drainLedger in-every-queue 13 (replicate 13 0) ≡ replicate 13 (here 0))
+unfolding drainAnswer drainLedger inOrder
+thirteen-told = (rw (in-every-passes, thirteen-moves) refl, rw (in-every-passes, thirteen-moves) refl)
 
 -- R60, R76
 offsets-of-a-word : map (λ i. offset i a-word) (inOrder 0 dimensions) ≡ negsuc 1 ∷ pos 3 ∷ negsuc 15 ∷ []
@@ -897,11 +932,11 @@ keptCases =
       k1 = refl;
       k2 = (refl, (λ w e. rw e), (λ w e. rw e), λ w e. too-short largest-plane w refl (omega arith) (let l : need largest-plane ≡ 115977 = refl in omega arith));
       k2-largest = (refl, (λ w e. rw e), (λ w e. rw e), λ w e. too-short largest w refl (omega arith) (let l : need largest ≡ 1855497 = refl in omega arith));
-      k3 = ((refl, refl), (refl, refl));
-      k3-odd-column = (refl, refl);
+      k3 = ((refl, stands four-by-three 0 6 7 1 _ four-by-three-passes refl refl), (refl, stands four-by-three 0 6 7 8 _ four-by-three-passes refl refl));
+      k3-odd-column = (refl, stands four-by-three 1 7 7 1 _ four-by-three-passes refl refl);
       k3-odd-row = odd-row;
-      k3-parities-differ = ((refl, refl), (refl, refl));
-      k3-parity-of-z = ((refl, refl), (refl, refl));
+      k3-parities-differ = ((refl, stands six-by-two 1 10 7 1 _ six-by-two-passes refl refl), (refl, stands six-by-two 6 3 7 1 _ six-by-two-passes refl refl));
+      k3-parity-of-z = ((refl, stands two-cubed 4 3 7 1 _ two-cubed-passes refl refl), (refl, stands two-cubed 3 4 7 1 _ two-cubed-passes refl refl));
       k3-every =
           λ w n destination tag chunks i b. (
             offset-nearer (shape w) n destination tag chunks (tor w (b .in-range)) (b .from) (b .to) (fits w (b .in-range)) (b .few) (short w (b .in-range)) i (b .dimension),
@@ -911,7 +946,7 @@ keptCases =
       k3-held = (refl, outputs against-parity 5 _ refl refl, outputs against-parity 0 _ refl refl, on-its-way, refl, refl, refl, refl, refl);
       k3-held-every = hops-hop-le;
       k3-fits-every = λ w n q i h p r hn hi e. halfway-fits (shape w) n q i h p (tor w r) hn hi e (short w r i hi);
-      k4 = (refl, refl);
+      k4 = (refl, stands four-by-three 0 11 0 1 _ four-by-three-passes refl refl);
       k5-sources = (refl, refl, refl, refl, refl, refl);
       k5-passes = crossing-passes;
       k5 = each-at _ directions one-ahead-each;
@@ -942,7 +977,7 @@ keptCases =
       chunk-number-every = λ w n destination chunks e. rw (offer-by-rules w n destination chunks e) (chunks-exactly (shape w) w n destination chunks);
       load-every = λ w n q e hn hq. queue-loaded (shape w) w n q (network-passed w e .queue n q hn hq);
       k12-held = (refl, refl, refl, one-move, one-word);
-      k12-in-every-queue = (refl, thirteen-moves, refl);
+      k12-in-every-queue = (in-every-passes, thirteen-told .0, thirteen-told .1);
       k12-held-every =
           λ w n q s z. (
             delivered-here w n q s z,

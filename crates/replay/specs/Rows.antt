@@ -45,13 +45,13 @@ pub next-dump : (take 21 (drop 893 (sheetDump two-dumps)) ≡ text "$timescale 1
 unfolding computed
 next-dump = (refl, refl)
 
--- R423: where a packet waits in the one slot of queue 0, an O is refused by 7, a T with E 1 by 2, and neither writes anything
+-- R423: where a packet waits in the one slot of queue 0, an O is refused by 7, one of nine chunks by 2, a T with E 1 by 2, and none of them writes anything
 abbrev one-waiting : List ℕ
 one-waiting = offerWords (empty (shapeOf (sized 2 1 1 2 1 1))) 0 1 7 1
 
-pub offer-refused : commandBytes (Command.Offer 0 1 8 1) one-waiting ≡ []
+pub offer-refused : (commandBytes (Command.Offer 0 1 8 1) one-waiting ≡ []) × (commandBytes (Command.Offer 1 0 8 9) one-waiting ≡ [])
 unfolding computed
-offer-refused = refl
+offer-refused = (refl, refl)
 
 pub make-refused : commandBytes (Command.Make 2 1 1 1 1 1) one-waiting ≡ []
 unfolding computed

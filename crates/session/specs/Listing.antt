@@ -38,8 +38,8 @@ pub last-that-fits : sheetOutput (text "T,7,7,1,8,2,6\nT,6,6,3,2,1,1\n") ≡ tex
 unfolding computed
 last-that-fits = refl
 
--- R244, R245: of two nodes, a packet that is offered at node 0 for node 1 with tag 9, one chunk, moved to the escape queue x+ and delivered there
-pub moved-by-hand : sheetOutput (text "T,2,1,1,2,1,1\nO,0,1,9,1\nM,0,0,7\nM,1,7,0\n") ≡ text "T,0\r\nO,0\r\nM,0\r\nP,9,1\r\nM,0\r\n"
+-- R244, R245: of two nodes, a packet that is offered at node 0 for node 1 with tag 9, three chunks, moved to the escape queue x+ and delivered there
+pub moved-by-hand : sheetOutput (text "T,2,1,1,2,1,1\nO,0,1,9,3\nM,0,0,7\nM,1,7,0\n") ≡ text "T,0\r\nO,0\r\nM,0\r\nP,9,1\r\nM,0\r\n"
 unfolding computed
 moved-by-hand = refl
 
@@ -50,13 +50,17 @@ two-nodes = empty (shapeOf (sized 2 1 1 2 1 1))
 abbrev one-waiting : List ℕ
 one-waiting = offerWords two-nodes 0 1 9 1
 
--- R244, R253: an O prints its letter
-pub offer-printed : perform (Command.Offer 0 1 9 1) two-nodes .output ≡ text "O,0\r\n"
+-- R244, R253: an O prints its letter, and the refusal of its chunks
+pub offer-printed : perform (Command.Offer 0 1 9 5) two-nodes .output ≡ text "O,0\r\n"
 unfolding computed
 offer-printed = refl
 
--- R244: behind the nine words of the header stand the number held and the packet: tag 9, one chunk, destination 1, one hop along x
-pub packet-offered : take 2 (drop 9 (perform (Command.Offer 0 1 9 1) two-nodes .store)) ≡ 1 ∷ (9 * 2 ^ 32 + 1 * 2 ^ 16 + 1 * 2 ^ 10) ∷ []
+pub chunks-refused : perform (Command.Offer 0 1 9 9) two-nodes .output ≡ text "O,2\r\n"
+unfolding computed
+chunks-refused = refl
+
+-- R244: behind the nine words of the header stand the number held and the packet: tag 9, five chunks, destination 1, one hop along x
+pub packet-offered : take 2 (drop 9 (perform (Command.Offer 0 1 9 5) two-nodes .store)) ≡ 1 ∷ (9 * 2 ^ 32 + 4 * 2 ^ 28 + 1 * 2 ^ 16 + 1 * 2 ^ 10) ∷ []
 unfolding computed
 packet-offered = refl
 
