@@ -11,6 +11,8 @@ mod drains;
 mod kept;
 #[path = "compare/routes.rs"]
 mod routes;
+#[path = "compare/together.rs"]
+mod together;
 #[path = "compare/wave.rs"]
 mod wave;
 
@@ -31,7 +33,7 @@ fn main() {
     let start = Instant::now();
     let mut lab = Lab::new();
     println!("compared: {}", lab.names().join("; "));
-    let parts: [Part; 25] = [
+    let parts: [Part; 29] = [
         ("kept cases and listing", kept::all),
         ("chunks", chunks::all),
         ("the table of routes", routes::every_case),
@@ -48,6 +50,10 @@ fn main() {
         ("full drains", drains::full),
         ("drains of the largest", drains::largest),
         ("the largest emptied", drains::largest_emptied),
+        ("kept cases of moves in any order", together::kept),
+        ("pairs of moves", together::pairs),
+        ("moves in any order", together::lists),
+        ("emptied in any order", together::emptied),
         ("a dump spelt out", wave::spelt_out),
         ("a queue of 64", wave::sixty_four),
         ("dumps written and read", wave::dumps),

@@ -1,6 +1,7 @@
--- A list for each number below n, joined in order. Order: the definition; its sum and its length; the sum of a mapped list. Assumes nothing.
-use mathlib.Core.Path.{_≡_, refl}
-use mathlib.Core.List.{List, [], _∷_, _++_, map}
+-- A list for each number below n, or for each element of a list, joined in order. Order: the first, its sum and its length; the sum of a mapped list; the
+-- second, `flatMap` of mathlib, of two lists joined, and its length. Assumes nothing.
+use mathlib.Core.Path.{_≡_, refl, ap, sym, _∙_}
+use mathlib.Core.List.{List, [], _∷_, _++_, map, flatMap, append-assoc}
 use Prim.Native.Nat.{ℕ, zero, suc}
 use native.Mathlib.Omega.{arith}
 use lib.ListN.{length, length-append}
@@ -24,3 +25,13 @@ pub sumOf-map : {A B : Type 0} (g : B → ℕ) (f : A → B) (xs : List A) → s
 unfolding sumOf
 sumOf-map g f [] = refl
 sumOf-map g f (x ∷ xs) = let e = sumOf-map g f xs in omega arith
+
+pub flat-append : {A B : Type 0} (f : A → List B) (xs ys : List A) → flatMap f (xs ++ ys) ≡ flatMap f xs ++ flatMap f ys
+unfolding flatMap
+flat-append f [] ys = refl
+flat-append f (x ∷ xs) ys = ap (λ (l : List _). f x ++ l) (flat-append f xs ys) ∙ sym (append-assoc (f x) (flatMap f xs) (flatMap f ys))
+
+pub length-flat : {A B : Type 0} (f : A → List B) (xs : List A) → length (flatMap f xs) ≡ sumOf (λ x. length (f x)) xs
+unfolding flatMap sumOf
+length-flat f [] = refl
+length-flat f (x ∷ xs) = let a = length-append (f x) (flatMap f xs) in let b = length-flat f xs in omega arith

@@ -4,6 +4,7 @@ pub mod Bools
 pub mod Sums
 pub mod Joins
 pub mod Rearrangement
+pub mod Different
 pub mod Digits
 pub mod Numbers
 pub mod Parts

@@ -1,15 +1,18 @@
 -- Lists that are rearrangements of each other: every element stands in both equally often, whatever the elements are, if they can be compared (`Discrete`).
 -- Order: how often an element stands in a list; a rearrangement; the same notion without counting, by taking the elements of one list out of the
--- other, one by one, and that the two are the same; so rearrangements have equal length; three rows. Assumes nothing.
-use mathlib.Core.Path.{_≡_, refl, ap, sym, subst}
+-- other, one by one, and that the two are the same; so rearrangements have equal length, equal sums, and the same holds of each of their elements; what
+-- is made of each element, rearranged; three rows. Assumes nothing.
+use mathlib.Core.Path.{_≡_, refl, ap, sym, subst, _∙_}
 use mathlib.Core.Logic.{_↔_, _≢_}
 use mathlib.Core.HLevel.{Discrete}
-use mathlib.Core.List.{List, [], _∷_, _++_}
-use Prim.Native.Nat.{ℕ, _+_}
+use mathlib.Core.List.{List, [], _∷_, _++_, map, flatMap}
+use Prim.Native.Nat.{ℕ, suc, _+_, _≤_}
 use native.Mathlib.Decide.{ℕ-discrete}
 use native.Mathlib.Omega.{arith}
 use lib.ListN.{length, length-append}
-use Rattle.base.specs.Sums.{sumOf}
+use Rattle.base.specs.Tests.{EachOf, each-within}
+use Rattle.base.specs.Sums.{sumOf, sumOf-append}
+use Rattle.base.specs.Joins.{sumOf-map}
 
 -- one where the two are the same, else none
 unfoldable pub oneIf : {P : Type 0} → Dec P → ℕ
@@ -47,6 +50,23 @@ module _ {A : Type 0} (same? : Discrete A) where
   unfolding count
   count-append a [] ys = omega arith
   count-append a (x ∷ xs) ys = let e = count-append a xs ys in omega arith
+
+  -- one element more, in front: the same one, or another
+  pub count-same : (a x : A) (xs : List A) → a ≡ x → count same? a (x ∷ xs) ≡ suc (count same? a xs)
+  unfolding count oneIf
+  count-same a x xs e = go (same? a x)
+    where
+      go : (d : Dec (a ≡ x)) → oneIf d + count same? a xs ≡ suc (count same? a xs)
+      go (yes f) = omega arith
+      go (no ne) = absurd (ne e)
+
+  pub count-other : (a x : A) (xs : List A) → a ≢ x → count same? a (x ∷ xs) ≡ count same? a xs
+  unfolding count oneIf
+  count-other a x xs ne = go (same? a x)
+    where
+      go : (d : Dec (a ≡ x)) → oneIf d + count same? a xs ≡ count same? a xs
+      go (yes e) = absurd (ne e)
+      go (no k) = omega arith
 
   -- one element more, wherever it stands
   pub count-within : (a x : A) (before behind : List A) → count same? a (before ++ (x ∷ behind)) ≡ oneIf (same? a x) + count same? a (before ++ behind)
@@ -114,9 +134,69 @@ module _ {A : Type 0} (same? : Discrete A) where
           let b = length-append before (x ∷ behind) in
           omega arith
 
+  -- where there is no more than one element, there is one order
+  pub rearranged-few : (xs ys : List A) → length xs ≤ 1 → Rearranged same? xs ys → xs ≡ ys
+  rearranged-few xs ys h r = go xs ys h (rearranged-length xs ys r) (taken-out xs ys r)
+    where
+      go : (xs ys : List A) → length xs ≤ 1 → length xs ≡ length ys → TakenOut xs ys → xs ≡ ys
+      go xs ys h e none = refl
+      go xs ys h e (one {x} {xs = us} before behind t) = only us before behind h e
+        where
+          only : (us before behind : List A) → suc (length us) ≤ 1 → suc (length us) ≡ length (before ++ (x ∷ behind))
+              → _≡_ {A = List A} (x ∷ us) (before ++ (x ∷ behind))
+          only [] [] [] h e = refl
+          only [] [] (b ∷ bs) h e = absurd (omega arith)
+          only [] (b ∷ bs) behind h e = absurd (let l = length-append bs (x ∷ behind) in omega arith)
+          only (u ∷ us) before behind h e = absurd (omega arith)
+
+  -- sums do not depend on the order
+  pub rearranged-sum : (f : A → ℕ) (xs ys : List A) → Rearranged same? xs ys → sumOf f xs ≡ sumOf f ys
+  unfolding sumOf
+  rearranged-sum f xs ys r = go xs ys (taken-out xs ys r)
+    where
+      go : (xs ys : List A) → TakenOut xs ys → sumOf f xs ≡ sumOf f ys
+      go xs ys none = refl
+      go xs ys (one {x} {xs = us} before behind t) =
+          let e = go us (before ++ behind) t in
+          let a = sumOf-append f before behind in
+          let b = sumOf-append f before (x ∷ behind) in
+          omega arith
+
+  -- nor does what holds of each
+  pub rearranged-each : (P : A → Type 0) (xs ys : List A) → Rearranged same? xs ys → EachOf P xs → EachOf P ys
+  unfolding EachOf
+  rearranged-each P xs ys r = go xs ys (taken-out xs ys r)
+    where
+      go : (xs ys : List A) → TakenOut xs ys → EachOf P xs → EachOf P ys
+      go xs ys none k = tt
+      go xs ys (one {x} {xs = us} before behind t) (k, ks) = each-within P x before behind k (go us (before ++ behind) t ks)
+
+-- what is made of each element, one thing or a list of them: how often something stands there, and that it is rearranged with the elements
+module _ {A B : Type 0} (same? : Discrete B) where
+  pub count-map : (f : A → B) (b : B) (xs : List A) → count same? b (map f xs) ≡ sumOf (λ x. oneIf (same? b (f x))) xs
+  count-map f b xs = count-sum same? b (map f xs) ∙ sumOf-map (λ y. oneIf (same? b y)) f xs
+
+  pub count-flat : (f : A → List B) (b : B) (xs : List A) → count same? b (flatMap f xs) ≡ sumOf (λ x. count same? b (f x)) xs
+  unfolding flatMap count sumOf
+  count-flat f b [] = refl
+  count-flat f b (x ∷ xs) = let e = count-append same? b (f x) (flatMap f xs) in let k = count-flat f b xs in omega arith
+
+pub rearranged-map : {A B : Type 0} (sameA? : Discrete A) (sameB? : Discrete B) (f : A → B) (xs ys : List A) → Rearranged sameA? xs ys
+    → Rearranged sameB? (map f xs) (map f ys)
+unfolding Rearranged
+rearranged-map sameA? sameB? f xs ys r b =
+    count-map sameB? f b xs ∙ rearranged-sum sameA? (λ x. oneIf (sameB? b (f x))) xs ys r ∙ sym (count-map sameB? f b ys)
+
+pub rearranged-flat : {A B : Type 0} (sameA? : Discrete A) (sameB? : Discrete B) (f : A → List B) (xs ys : List A) → Rearranged sameA? xs ys
+    → Rearranged sameB? (flatMap f xs) (flatMap f ys)
+unfolding Rearranged
+rearranged-flat sameA? sameB? f xs ys r b =
+    count-flat sameB? f b xs ∙ rearranged-sum sameA? (λ x. count sameB? b (f x)) xs ys r ∙ sym (count-flat sameB? f b ys)
+
 -- three rows of numbers: 3, 5, 3 are a rearrangement of 5, 3, 3
 pub another-order : Rearranged ℕ-discrete (3 ∷ 5 ∷ 3 ∷ []) (5 ∷ 3 ∷ 3 ∷ [])
-another-order = rearranged-exactly ℕ-discrete (3 ∷ 5 ∷ 3 ∷ []) (5 ∷ 3 ∷ 3 ∷ []) .1 (one (5 ∷ []) (3 ∷ []) (one [] (3 ∷ []) (one [] [] none)))
+unfolding Rearranged count
+another-order a = omega arith
 
 -- 3, 5 are none of 3, 3
 pub another-number : Rearranged ℕ-discrete (3 ∷ 5 ∷ []) (3 ∷ 3 ∷ []) → ⊥

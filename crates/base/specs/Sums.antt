@@ -44,6 +44,13 @@ pub sum-end : (g : ℕ → ℕ) (l : List ℕ) (i : ℕ) → length l ≤ i → 
 unfolding sumOf
 sum-end g l i h = ap (sumOf g) (drop-of-length-le l h)
 
+-- what is left without the first elements adds up to no more
+pub sumOf-drop : {A : Type 0} (f : A → ℕ) (k : ℕ) (xs : List A) → sumOf f (drop k xs) ≤ sumOf f xs
+unfolding sumOf
+sumOf-drop f zero xs = omega arith
+sumOf-drop f (suc k) [] = omega arith
+sumOf-drop f (suc k) (x ∷ xs) = let l = sumOf-drop f k xs in omega arith
+
 -- where each element counts one, the sum is their number; where each counts at least one, it is no less; where each counts at most m, at most m times
 -- their number, and where each counts m, just that
 pub sumOf-ones : {A : Type 0} (f : A → ℕ) (xs : List A) → ((x : A) → f x ≡ 1) → sumOf f xs ≡ length xs

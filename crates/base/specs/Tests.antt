@@ -1,6 +1,8 @@
--- Tests over ranges and lists, as Booleans that compute, and the laws that turn a test into a fact and back; and a fact for each number of a range.
--- Order: clauses joined; below n; facts below n; for some below n; of every element; of a list's members. Assumes nothing.
-use mathlib.Core.Path.{_≡_, refl, subst}
+-- Tests over ranges and lists, as Booleans that compute, and the laws that turn a test into a fact and back; and a fact for each number of a range, and for
+-- each element of a list. Order: clauses joined; below n; facts below n; for some below n; of every element; facts of every element; of a list's members;
+-- what is compared by its parts. Assumes nothing.
+use mathlib.Core.Path.{_≡_, refl, ap, subst}
+use mathlib.Core.HLevel.{Discrete}
 use mathlib.Core.Bool.{Bool, true, false, not, _&&_, _||_}
 use mathlib.Core.List.{List, [], _∷_, _++_}
 use mathlib.Core.Logic.{_⊎_, inl, inr, _≢_}
@@ -154,6 +156,16 @@ unfolding allOf
 allOf-append f [] ys s t = t
 allOf-append f (x ∷ xs) ys s t = and-i (f x) (allOf f (xs ++ ys)) (and-l (f x) (allOf f xs) s) (allOf-append f xs ys (and-r (f x) (allOf f xs) s) t)
 
+-- what holds of every element of the list, as a tuple of what holds of each
+unfoldable pub EachOf : {A : Type 0} → (A → Type 0) → List A → Type 0
+EachOf P [] = Unit
+EachOf P (x ∷ xs) = P x × EachOf P xs
+
+pub each-within : {A : Type 0} (P : A → Type 0) (x : A) (xs ys : List A) → P x → EachOf P (xs ++ ys) → EachOf P (xs ++ (x ∷ ys))
+unfolding EachOf
+each-within P x [] ys k ks = (k, ks)
+each-within P x (y ∷ xs) ys k (h, ks) = (h, each-within P x xs ys k ks)
+
 -- the number is one of the list's
 unfoldable pub elem : ℕ → List ℕ → Bool
 elem a [] = false
@@ -172,3 +184,19 @@ pub elem-append-r : (a : ℕ) (xs ys : List ℕ) → T (elem a ys) → T (elem a
 unfolding elem
 elem-append-r a [] ys t = t
 elem-append-r a (x ∷ xs) ys t = or-r (eqb a x) (elem a (xs ++ ys)) (elem-append-r a xs ys t)
+
+-- pairs are compared by their parts, and whatever can be told apart by something that can be compared is compared by that
+unfoldable pub pair-discrete : {A B : Type 0} → Discrete A → Discrete B → Discrete (A × B)
+pair-discrete {A} {B} a? b? x y = go (a? (x .0) (y .0)) (b? (x .1) (y .1))
+  where
+    go : Dec (x .0 ≡ y .0) → Dec (x .1 ≡ y .1) → Dec (x ≡ y)
+    go (yes e) (yes f) = yes (λ i. (e i, f i))
+    go (yes e) (no n) = no (λ (p : x ≡ y). n (ap (λ (z : A × B). z .1) p))
+    go (no n) d = no (λ (p : x ≡ y). n (ap (λ (z : A × B). z .0) p))
+
+unfoldable pub discrete-by : {A B : Type 0} → Discrete B → (f : A → B) → ((x y : A) → f x ≡ f y → x ≡ y) → Discrete A
+discrete-by same? f apart x y = go (same? (f x) (f y))
+  where
+    go : Dec (f x ≡ f y) → Dec (x ≡ y)
+    go (yes e) = yes (apart x y e)
+    go (no n) = no (λ p. n (ap f p))

@@ -39,7 +39,7 @@ pub record LayoutKept (S : Shape) (w v : List ℕ) : Type 0 where
   pub rest : drop (need S) v ≡ drop (need S) w
   pub stored : QueuesStored S v
 
-kept-then : {S : Shape} {u w v : List ℕ} → LayoutKept S u w → LayoutKept S w v → LayoutKept S u v
+pub kept-then : {S : Shape} {u w v : List ℕ} → LayoutKept S u w → LayoutKept S w v → LayoutKept S u v
 kept-then a b =
     record {
       same-shape = b .same-shape ∙ a .same-shape;

@@ -1,6 +1,6 @@
 -- The kept cases K1 to K12 as rows of one theorem about the definitions that the contracts cite, those of the third dimension and the table of routes with
--- them, and the kept rows (Rows.antt). A row like `k5` is computed from them; where the case is meant of any network, a row like `k5-every` beside it says so of
--- each one (K2 and K8 say it at once).
+-- them, and the kept rows (Rows.antt, and TogetherRows.antt of moves in either order). A row like `k5` is computed from them; where the case is meant of any
+-- network, a row like `k5-every` beside it says so of each one (K2 and K8 say it at once).
 -- Order: how the rows' networks are written down (and in ByHand.antt); what the rows about every network speak of; the rows; what proves them; the theorem.
 -- Assumes nothing.
 use mathlib.Core.Path.{_≡_, refl, ap, ap₂, sym, _∙_}
@@ -30,7 +30,7 @@ use Rattle.network.specs.Torus.{coordinate, along, neighbour}
 use Rattle.network.specs.Layout.{headerWords, shape, acceptedAt, deliveredAt, movesAt, need, queuePart, countOf, packetsOf, held}
 use Rattle.network.specs.LayoutLaws.{header-long, load-escape}
 use Rattle.network.specs.Check.{packetFits, queuesFit, ringHasRoom, ringsHaveRoom, packetsHeld, countersFit, isNetwork}
-use Rattle.network.specs.Routes.{deliver, inOrder, routes, target, freeLoad, entersRing, loadNeeded}
+use Rattle.network.specs.Routes.{deliver, inOrder, routes, target, freeLoad}
 use Rattle.network.specs.Selection.{selected}
 use Rattle.network.specs.SelectionLaws.{selection-routes}
 use Rattle.network.specs.Refusals.{refuse, noRoute, noSlot, noBubble, networkRefusal, makeRefusal, offerRules, offerRefusal, head, flowRules, moveRules, moveRefusal, creditRefusal, lookRefusal}
@@ -43,6 +43,7 @@ use Rattle.network.specs.RoutesLaws.{Onward, route-of, arrived-route, fr
 use Rattle.network.specs.RefusalLaws.{elseBy-zero, network-passed, network-passes, chunks-exactly, own-node-exactly, no-node-first, permitted-by}
 use Rattle.network.specs.ByHand.{packet, here, straight, ofChunks, empty, holding, only, chosen, definitions}
 use Rattle.network.specs.Rows.{KeptRows, keptRows}
+use Rattle.network.specs.TogetherRows.{TogetherRows, togetherRows}
 
 -- the offset of one hop in direction d
 abbrev oneWay : ℕ → ℤ
@@ -518,6 +519,7 @@ pub record KeptCases : Type 0 where
       × (creditRefusal alone 0 13 ≡ 6)
   -- each clause once more, in small networks: the rows of Rows.antt
   pub rows : KeptRows
+  pub together : TogetherRows
 
 -- a test that cannot pass
 untrue : (b : Bool) → (T b → ⊥) → b ≡ false
@@ -1007,6 +1009,7 @@ keptCases =
       nine-words = (refl, (λ w h. no-header w (omega arith)), past-header, refl);
       twelve-is-the-last = (refl, refl, refl, refl, refl, refl, refl, refl, refl);
       rows = keptRows;
+      together = togetherRows;
     }
   where
     leaves : (p : ℕ) {refusals : List ℕ} → networkRefusal (only two-cubed injectionQueue p) ≡ 0

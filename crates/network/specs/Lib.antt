@@ -36,6 +36,9 @@ pub mod FirstMovesLaws
 pub mod InLists
 pub mod InListsLaws
 pub mod SamePackets
+pub mod Together
+pub mod TogetherLaws
 pub mod ByHand
 pub mod Rows
+pub mod TogetherRows
 pub mod Cases

@@ -17,7 +17,7 @@ use Rattle.network.specs.Packet.{distance, heading, hopsLeft}
 use Rattle.base.specs.Sums.{sumBelow, sum-zero}
 use Rattle.network.specs.Torus.{neighbour}
 use Rattle.network.specs.Layout.{held, load, taken}
-use Rattle.network.specs.LayoutLaws.{load-pos, load-most, load-escape, taken-length}
+use Rattle.network.specs.LayoutLaws.{load-most, load-escape, taken-length}
 use Rattle.network.specs.Routes.{inOrder, without, incoming, incomingFirst, headings, routes, deliver, target, freeLoad, entersRing, loadNeeded}
 
 -- a member of two lists joined, or of a list mapped
@@ -321,9 +321,6 @@ load-needed q o p = go (decLe o directions)
     go : Dec (o ≤ directions) → load o p ≤ loadNeeded q o p
     go (yes h) = le-of-eq (sym (needed-adaptive q o p h))
     go (no h) = either (entersRing q o) (load-escape o p (omega arith))
-
-pub needed-pos : (q o p : ℕ) → 0 < loadNeeded q o p
-needed-pos q o p = let a = load-needed q o p in let b = load-pos o p in omega arith
 
 -- and never more than the largest packet has chunks
 pub needed-most : (q o p : ℕ) → loadNeeded q o p ≤ mostChunks

@@ -36,29 +36,27 @@ returns-2 c =
     tested (shapeOf (a .s)) (a .words .now) (a .n) (a .q) (a .o) (a .p) (free .result) (takes .result) (loadNeeded (a .q) (a .o) (a .p)) false true _
     (free .ensures) (takes .ensures) refl (ne-eqb (a .o) 0 (f .before .if1 .left)) (lt-ltb (free .result) (takes .result) (c .if2 .taken)) refl
 
-returns-3 : tie.Need-returns-3
-returns-3 c =
-    let needed = c .before .load-needed in
-    let t = c .before .before in
+-- there is room for the packet, and what the last test said decides
+abbrev start : tie.After-load-needed → tie.Start
+start n = n .before .before .before .before .before .before
+
+by-last : (n : tie.After-load-needed) (d : Bool) → ltb (n .before .before .before .free-load .result) (n .load-needed .result) ≡ d
+    → refuse d noBubble 0
+    ≡ flowRules (shapeOf (start n .args .s)) (start n .args .words .now) (start n .args .n) (start n .args .q) (start n .args .o) (start n .args .p)
+by-last n d e =
+    let t = n .before in
     let takes = t .before .load in
     let f = t .before .before in
     let free = f .free-load in
-    let a = f .before .before .before .args in
-    tested (shapeOf (a .s)) (a .words .now) (a .n) (a .q) (a .o) (a .p) (free .result) (takes .result) (needed .result) false false true
-    (free .ensures) (takes .ensures) (needed .ensures) (ne-eqb (a .o) 0 (f .before .if1 .left)) (le-ltb (free .result) (takes .result) (t .if2 .left))
-    (lt-ltb (free .result) (needed .result) (c .if3 .taken))
+    let a = start n .args in
+    tested (shapeOf (a .s)) (a .words .now) (a .n) (a .q) (a .o) (a .p) (free .result) (takes .result) (n .load-needed .result) false false d
+    (free .ensures) (takes .ensures) (n .load-needed .ensures) (ne-eqb (a .o) 0 (f .before .if1 .left)) (le-ltb (free .result) (takes .result) (t .if2 .left)) e
+
+returns-3 : tie.Need-returns-3
+returns-3 c = by-last (c .before) true (lt-ltb (c .before .before .before .before .free-load .result) (c .before .load-needed .result) (c .if3 .taken))
 
 returns-4 : tie.Need-returns-4
-returns-4 c =
-    let needed = c .before .load-needed in
-    let t = c .before .before in
-    let takes = t .before .load in
-    let f = t .before .before in
-    let free = f .free-load in
-    let a = f .before .before .before .args in
-    tested (shapeOf (a .s)) (a .words .now) (a .n) (a .q) (a .o) (a .p) (free .result) (takes .result) (needed .result) false false false
-    (free .ensures) (takes .ensures) (needed .ensures) (ne-eqb (a .o) 0 (f .before .if1 .left)) (le-ltb (free .result) (takes .result) (t .if2 .left))
-    (le-ltb (free .result) (needed .result) (c .if3 .left))
+returns-4 c = by-last (c .before) false (le-ltb (c .before .before .before .before .free-load .result) (c .before .load-needed .result) (c .if3 .left))
 
 pub flow-rules-spec : {M : Type 1} → statement M
 flow-rules-spec = tie.close (tie.spec returns (λ c κs. search needs) (λ c κs. search needs) returns-2 (λ c κs. search needs) returns-3 returns-4)
