@@ -68,6 +68,27 @@ module _ {A : Type 0} (same? : Discrete A) where
       go (yes e) = absurd (ne e)
       go (no k) = omega arith
 
+  -- what holds of each is what holds of whatever stands in the list
+  of-each : (P : A → Type 0) (xs : List A) → EachOf P xs → (a : A) → count same? a xs ≢ 0 → P a
+  unfolding EachOf count
+  of-each P [] k a some = absurd (some refl)
+  of-each P (x ∷ xs) (k, ks) a some = go (same? a x) (of-each P xs ks a)
+    where
+      go : Dec (a ≡ x) → (count same? a xs ≢ 0 → P a) → P a
+      go (yes e) later = subst P (sym e) k
+      go (no ne) later = later (λ z. some (count-other a x xs ne ∙ z))
+
+  by-each : (P : A → Type 0) (xs : List A) → ((a : A) → count same? a xs ≢ 0 → P a) → EachOf P xs
+  unfolding EachOf count
+  by-each P [] h = tt
+  by-each P (x ∷ xs) h = (
+    h x (λ z. let e = count-same x x xs refl in omega (arith, z, e)),
+    by-each P xs (λ a some. h a (λ z. some (omega (arith, z)))),
+  )
+
+  pub each-exactly : (P : A → Type 0) (xs : List A) → EachOf P xs ↔ ((a : A) → count same? a xs ≢ 0 → P a)
+  each-exactly P xs = (of-each P xs, by-each P xs)
+
   -- one element more, wherever it stands
   pub count-within : (a x : A) (before behind : List A) → count same? a (before ++ (x ∷ behind)) ≡ oneIf (same? a x) + count same? a (before ++ behind)
   unfolding count
