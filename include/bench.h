@@ -77,7 +77,7 @@ extern "C" {
  * each change after which a program written for the older one could be wrong.
  * Header and archive must be of one commit: the archive does not carry it.
  */
-#define BENCH_VERSION 6
+#define BENCH_VERSION 5
 
 /* The bytes of stack that a call uses at most, on the largest network too. It is
  * measured and not proved: tests/c-example holds the archive to it. */
@@ -126,7 +126,7 @@ extern "C" {
 #define BENCH_DZ(word) \
     (BENCH_CAST(int, (BENCH_CAST(uint64_t, word) & 0x1f) ^ 0x10) - 0x10)
 
-/* The refusals (R161 to R176). */
+/* The refusals (R161 to R175). */
 enum {
     BENCH_SHORT_STORE = 1,    /* less than 9 words, or less than the sizes ask for */
     BENCH_WRONG_SIZE = 2,     /* X, Y, Z, E, A or J out of range; in bench_offer,
@@ -144,8 +144,7 @@ enum {
     BENCH_NO_BUBBLE = 12,     /* two free slots are needed, one is there */
     BENCH_BAD_TEXT = 13,      /* bench_read_step: the bytes are no step */
     BENCH_TO_ONESELF = 14,    /* the destination is the node that offers */
-    BENCH_SHORT_PAGE = 15,    /* page or fills have no room for the step */
-    BENCH_BAD_TABLE = 16      /* bench_offer_by: a direction table is not lawful */
+    BENCH_SHORT_PAGE = 15     /* page or fills have no room for the step */
 };
 
 /* Why a drain stopped (R130 to R132). */
@@ -185,33 +184,6 @@ uint64_t bench_check(const uint64_t *words, size_t len);
  */
 uint64_t bench_offer(uint64_t *words, size_t len, uint64_t node, uint64_t destination,
                      uint32_t tag, uint64_t chunks);
-
-/* The third word of a row of a direction table (R620). */
-enum {
-    BENCH_PLUS = 0,
-    BENCH_MINUS = 1
-};
-
-/*
- * The same with direction tables (R620 to R627), by which the packet may be told
- * to go the longer way round. Bits 0, 1 and 2 of `given` say whether a table is
- * given for x, for y and for z. A table is a list of words, three to a row: the
- * first difference, the last, and BENCH_PLUS or BENCH_MINUS; its length is in
- * words. The difference of an offer along a dimension with s nodes is (the
- * destination's coordinate - the node's coordinate) mod s. Every row has
- * 1 <= first <= last <= s - 1, and each of 1 to s - 1 lies in exactly one row, in
- * whatever order they stand; for s = 1 the table is empty. Where the row of the
- * difference d is plus, the packet makes d hops plus, else s - d hops minus. Where
- * no table is given, it goes as with bench_offer, and that list is not looked at;
- * but x, y and z are valid pointers always. The three are only read, and may be
- * one memory. Refused further as bench_offer is, and behind 14 and before 8 by 16:
- * a table that is given is not lawful, also where the difference is 0, or `given`
- * has another bit.
- */
-uint64_t bench_offer_by(uint64_t *words, size_t len, uint64_t node, uint64_t destination,
-                        uint32_t tag, uint64_t chunks, uint64_t given, const uint64_t *x,
-                        size_t x_len, const uint64_t *y, size_t y_len, const uint64_t *z,
-                        size_t z_len);
 
 /*
  * Moves the head of a queue to an output (R105 to R112). Refused further, tested

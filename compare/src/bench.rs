@@ -1,7 +1,6 @@
 //! The calls (R90) as one trait, so that the model, the plain
 //! implementation and the C library are asked the same things in the same way.
 
-use crate::model::geometry::DIMENSIONS;
 use crate::model::network::Step;
 use crate::{model, plain};
 use std::cell::RefCell;
@@ -20,15 +19,6 @@ pub trait Bench {
     fn make(&self, words: &mut [u64], sizes: [u64; 6]) -> u64;
     fn check(&self, words: &[u64]) -> u64;
     fn offer(&self, words: &mut [u64], node: u64, destination: u64, tag: u32, chunks: u64) -> u64;
-    fn offer_by(
-        &self,
-        words: &mut [u64],
-        node: u64,
-        destination: u64,
-        tag: u32,
-        chunks: u64,
-        tables: Tables,
-    ) -> u64;
     /// Packets handed out (0 or 1), the packet word.
     fn move_packet(&self, words: &mut [u64], node: u64, queue: u64, output: u64)
         -> (u64, [u64; 2]);
@@ -40,16 +30,6 @@ pub trait Bench {
     fn first(&self, words: &[u64]) -> (u64, [u64; 4]);
     /// Moves, delivered, stop (0 emptied, 1 spent, 2 full).
     fn drain(&self, words: &mut [u64], budget: u32, ledger: &mut [u64]) -> (u64, [u64; 3]);
-}
-
-/// The direction tables of an offer, lent.
-#[derive(Clone, Copy, Debug)]
-pub struct Tables<'a> {
-    /// Bits 0, 1 and 2: whether there is a table for x, y and z.
-    pub given: u64,
-    /// For each of them a list of words, three to a row: first, last, and 0 for plus or
-    /// 1 for minus.
-    pub lists: [&'a [u64]; DIMENSIONS],
 }
 
 /// The calls that write a step of the waveform (docs/WAVEFORM.md). `fills` is
@@ -75,9 +55,8 @@ pub enum WaveStep {
     Changes,
 }
 
-/// A call with its arguments; a Drain has the length of its ledger, and an offer by
-/// tables the words of its lists.
-#[derive(Clone, Debug, PartialEq, Eq)]
+/// A call with its arguments; a Drain has the length of its ledger.
+#[derive(Clone, Copy, Debug, PartialEq, Eq)]
 pub enum Call {
     Make {
         sizes: [u64; 6],
@@ -88,14 +67,6 @@ pub enum Call {
         destination: u64,
         tag: u32,
         chunks: u64,
-    },
-    OfferBy {
-        node: u64,
-        destination: u64,
-        tag: u32,
-        chunks: u64,
-        given: u64,
-        lists: [Vec<u64>; DIMENSIONS],
     },
     Move {
         node: u64,
@@ -133,9 +104,9 @@ impl Answer {
 }
 
 /// Makes one call on lent words. Only a Drain uses the ledger.
-pub fn perform(bench: &dyn Bench, call: &Call, words: &mut [u64], ledger: &mut [u64]) -> Answer {
+pub fn perform(bench: &dyn Bench, call: Call, words: &mut [u64], ledger: &mut [u64]) -> Answer {
     let only = |refusal| Answer::new((refusal, []));
-    match *call {
+    match call {
         Call::Make { sizes } => only(bench.make(words, sizes)),
         Call::Check => only(bench.check(words)),
         Call::Offer {
@@ -144,18 +115,6 @@ pub fn perform(bench: &dyn Bench, call: &Call, words: &mut [u64], ledger: &mut [
             tag,
             chunks,
         } => only(bench.offer(words, node, destination, tag, chunks)),
-        Call::OfferBy {
-            node,
-            destination,
-            tag,
-            chunks,
-            given,
-            ref lists,
-        } => {
-            let lists = lists.each_ref().map(Vec::as_slice);
-            let tables = Tables { given, lists };
-            only(bench.offer_by(words, node, destination, tag, chunks, tables))
-        }
         Call::Move {
             node,
             queue,
@@ -260,19 +219,6 @@ impl Bench for Model {
         told(model::offer(words, node, destination, tag, chunks), |_| []).0
     }
 
-    fn offer_by(
-        &self,
-        words: &mut [u64],
-        node: u64,
-        destination: u64,
-        tag: u32,
-        chunks: u64,
-        Tables { given, lists }: Tables,
-    ) -> u64 {
-        let offered = model::offer_by(words, node, destination, tag, chunks, given, lists);
-        told(offered, |_| []).0
-    }
-
     fn move_packet(
         &self,
         words: &mut [u64],
@@ -355,18 +301,6 @@ impl Bench for Plain {
 
     fn offer(&self, words: &mut [u64], node: u64, destination: u64, tag: u32, chunks: u64) -> u64 {
         plain::offer(words, node, destination, tag, chunks)
-    }
-
-    fn offer_by(
-        &self,
-        words: &mut [u64],
-        node: u64,
-        destination: u64,
-        tag: u32,
-        chunks: u64,
-        Tables { given, lists }: Tables,
-    ) -> u64 {
-        plain::offer_by(words, node, destination, tag, chunks, given, lists)
     }
 
     fn move_packet(

@@ -107,33 +107,32 @@ pub const FAULTS: [Fault; 15] = [
         apply: overload_a_queue,
     },
     Fault {
-        name: "an offset of once round or more, with its destination",
+        name: "an offset beyond half the size, with its destination",
         apply: |random, shape, words| {
             let dimension = any_dimension(random);
-            let round = shape.sides[dimension] as i64;
-            let beyond: Vec<i64> = OFFSET_VALUES.filter(|hops| hops.abs() >= round).collect();
+            let half = shape.sides[dimension] as i64 / 2;
+            let beyond: Vec<i64> = OFFSET_VALUES.filter(|hops| hops.abs() > half).collect();
             let offsets = along(dimension, random.pick(&beyond));
             put_offsets(random, shape, words, |_| true, offsets)
         },
     },
     Fault {
-        name: "an offset of once round, with its destination",
+        name: "an offset one beyond half the size, with its destination",
         apply: |random, shape, words| {
-            // Sixteen has no field, and becomes the sixteen hops the other way.
             let dimension = any_dimension(random);
-            let round = shape.sides[dimension] as i64;
-            let offsets = along(dimension, either_way(random, round));
+            let over = shape.sides[dimension] as i64 / 2 + 1;
+            let offsets = along(dimension, either_way(random, over));
             put_offsets(random, shape, words, |queue| queue == 0, offsets)
         },
     },
     Fault {
-        name: "all but one of a round left in a queue of that direction",
+        name: "half the size left in a queue of that dimension",
         apply: |random, shape, words| {
-            let queue = random.between(1, QUEUES as u64 - 1) as usize;
-            let (dimension, sign) = way(queue);
-            let round = shape.sides[dimension] as i64;
-            let offsets = along(dimension, sign * (round - 1));
-            put_offsets(random, shape, words, |q| q == queue, offsets)
+            let dimension = any_dimension(random);
+            let half = shape.sides[dimension] as i64 / 2;
+            let offsets = along(dimension, either_way(random, half));
+            let its_own = |queue| queue > 0 && way(queue).0 == dimension;
+            put_offsets(random, shape, words, its_own, offsets)
         },
     },
     Fault {
@@ -185,7 +184,7 @@ pub const FAULTS: [Fault; 15] = [
         },
     },
     Fault {
-        name: "more moves than 46 for each packet accepted",
+        name: "more moves than 25 for each packet accepted",
         apply: |random, shape, words| {
             let (_, work) = held_and_work(shape, words);
             let most = MOST_WORK * words[ACCEPTED] - work;

@@ -1,6 +1,6 @@
 //! The C library under test. Its interface is that of include/bench.h.
 
-use crate::bench::{Bench, Tables, WaveReader, WaveWriter};
+use crate::bench::{Bench, WaveReader, WaveWriter};
 
 extern "C" {
     fn bench_make(
@@ -21,21 +21,6 @@ extern "C" {
         destination: u64,
         tag: u32,
         chunks: u64,
-    ) -> u64;
-    fn bench_offer_by(
-        words: *mut u64,
-        len: usize,
-        node: u64,
-        destination: u64,
-        tag: u32,
-        chunks: u64,
-        given: u64,
-        x: *const u64,
-        x_len: usize,
-        y: *const u64,
-        y_len: usize,
-        z: *const u64,
-        z_len: usize,
     ) -> u64;
     fn bench_move(
         words: *mut u64,
@@ -102,8 +87,7 @@ fn with_out<const N: usize>(call: impl FnOnce(*mut u64) -> u64) -> (u64, [u64; N
 pub struct Library;
 
 // Every call passes a pointer and the length of a live Rust slice, and the
-// slices of one call do not overlap, but for the tables of an offer, which may and
-// are only read. That is all the library asks for.
+// slices of one call do not overlap. That is all the library asks for.
 impl Bench for Library {
     fn name(&self) -> &'static str {
         "library"
@@ -120,35 +104,6 @@ impl Bench for Library {
     fn offer(&self, words: &mut [u64], node: u64, destination: u64, tag: u32, chunks: u64) -> u64 {
         let (start, len) = (words.as_mut_ptr(), words.len());
         unsafe { bench_offer(start, len, node, destination, tag, chunks) }
-    }
-
-    fn offer_by(
-        &self,
-        words: &mut [u64],
-        node: u64,
-        destination: u64,
-        tag: u32,
-        chunks: u64,
-        Tables { given, lists }: Tables,
-    ) -> u64 {
-        let [(x, x_len), (y, y_len), (z, z_len)] = lists.map(|list| (list.as_ptr(), list.len()));
-        unsafe {
-            bench_offer_by(
-                words.as_mut_ptr(),
-                words.len(),
-                node,
-                destination,
-                tag,
-                chunks,
-                given,
-                x,
-                x_len,
-                y,
-                y_len,
-                z,
-                z_len,
-            )
-        }
     }
 
     fn move_packet(

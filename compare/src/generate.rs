@@ -1,14 +1,10 @@
 //! Networks and arguments to try. The networks are put together from the
 //! clauses of the check alone, so that most of them were never reached by
-//! offers and moves, and many packets go the longer way round; nothing of the model or
-//! of `plain` is used for that.
-
-pub mod tables;
+//! offers and moves; nothing of the model or of `plain` is used for that.
 
 use crate::bench::Call;
 use crate::model;
 use crate::random::Random;
-use tables::{any_given, any_table};
 
 pub const HEADER: usize = 9;
 /// The header words that follow the sizes.
@@ -22,7 +18,7 @@ pub const QUEUES: usize = 13;
 pub const FIRST_ESCAPE: usize = 7;
 pub const MOST_ACCEPTED: u64 = u32::MAX as u64;
 /// The moves made and the work left are at most this for each packet accepted.
-pub const MOST_WORK: u64 = 46;
+pub const MOST_WORK: u64 = 25;
 /// The chunks of the largest packet.
 pub const MOST_CHUNKS: u64 = 8;
 
@@ -236,23 +232,6 @@ impl Chunks {
     }
 }
 
-/// Which ways the packets of a network go.
-#[derive(Clone, Copy, Debug, PartialEq, Eq)]
-pub enum Ways {
-    /// Any that the check lets through, up to all but one of a round.
-    Any,
-    /// None longer than half a round, as it is without tables.
-    Short,
-}
-
-/// What a network is filled with.
-#[derive(Clone, Copy, Debug, PartialEq, Eq)]
-pub struct Contents {
-    pub fill: Fill,
-    pub chunks: Chunks,
-    pub ways: Ways,
-}
-
 /// The chunks of a packet word.
 pub fn chunks_of(word: u64) -> u64 {
     (word >> CHUNKS_SHIFT & 7) + 1
@@ -269,28 +248,23 @@ pub fn load_of(queue: usize, word: u64) -> u64 {
 /// The lowest and the highest lawful offset of a dimension in a queue, or none
 /// if the queue cannot hold a packet at all.
 pub fn offset_range(shape: &Shape, queue: usize, dimension: usize) -> Option<(i64, i64)> {
-    range_up_to(shape.sides[dimension] as i64 - 1, queue, dimension)
-}
-
-/// The same where a way has at most so many hops, of which one is made in a queue along
-/// it.
-fn range_up_to(most: i64, queue: usize, dimension: usize) -> Option<(i64, i64)> {
+    let half = shape.sides[dimension] as i64 / 2;
     if queue == 0 {
-        return Some((-most, most));
+        return Some((-half, half));
     }
     let (own, sign) = way(queue);
     if dimension == own {
-        return match most {
+        return match half {
             0 => None,
-            _ if sign > 0 => Some((0, most - 1)),
-            _ => Some((1 - most, 0)),
+            _ if sign > 0 => Some((0, half - 1)),
+            _ => Some((1 - half, 0)),
         };
     }
     // In an escape queue the dimensions before its own are used up.
     if queue >= FIRST_ESCAPE && dimension < own {
         return Some((0, 0));
     }
-    Some((-most, most))
+    Some((-half, half))
 }
 
 /// The bits of the offsets in a packet word. The bit above them is always 0, and
@@ -324,28 +298,15 @@ pub fn end_node(shape: &Shape, node: u64, offsets: Offsets) -> u64 {
 }
 
 /// A random lawful packet of so many chunks for a queue, if there is any.
-fn packet(
-    random: &mut Random,
-    shape: &Shape,
-    (node, queue): (u64, usize),
-    chunks: u64,
-    ways: Ways,
-) -> Option<u64> {
+fn packet(random: &mut Random, shape: &Shape, node: u64, queue: usize, chunks: u64) -> Option<u64> {
     let mut offsets = [0; DIMENSIONS];
     for (dimension, offset) in offsets.iter_mut().enumerate() {
-        let (low, high) = match ways {
-            Ways::Any => offset_range(shape, queue, dimension)?,
-            Ways::Short => range_up_to(shape.sides[dimension] as i64 / 2, queue, dimension)?,
-        };
+        let (low, high) = offset_range(shape, queue, dimension)?;
         *offset = match random.below(4) {
             0 => low,
             1 => high,
             _ => low + random.below((high - low) as u64 + 1) as i64,
         };
-        // Long ranges alone would leave few packets that have arrived.
-        if ways == Ways::Any && random.chance(1, 5) {
-            *offset = 0;
-        }
     }
     let tag = match random.below(3) {
         0 => random.below(4),
@@ -389,18 +350,11 @@ pub fn network(random: &mut Random, shape: &Shape, fill: Fill) -> Vec<u64> {
 
 /// The same with chunk numbers of one kind.
 pub fn network_of(random: &mut Random, shape: &Shape, fill: Fill, chunks: Chunks) -> Vec<u64> {
-    let ways = Ways::Any;
-    let contents = Contents { fill, chunks, ways };
-    network_with(random, shape, contents)
-}
-
-/// The same with contents of one kind.
-pub fn network_with(random: &mut Random, shape: &Shape, contents: Contents) -> Vec<u64> {
     let mut words = vec![0; shape.need()];
     words[..6].copy_from_slice(&shape.sizes());
     for node in 0..shape.nodes() {
         for queue in 0..QUEUES {
-            fill_queue(random, shape, &mut words, (node, queue), contents);
+            fill_queue(random, shape, &mut words, (node, queue), fill, chunks);
         }
     }
     let full = |words: &[u64], node: u64, queue: usize| {
@@ -429,7 +383,8 @@ fn fill_queue(
     shape: &Shape,
     words: &mut [u64],
     (node, queue): (u64, usize),
-    Contents { fill, chunks, ways }: Contents,
+    fill: Fill,
+    chunks: Chunks,
 ) {
     let capacity = shape.capacity(queue) as u64;
     let wanted = fill.load(random, capacity as usize) as u64;
@@ -444,7 +399,7 @@ fn fill_queue(
         let Some(chunks) = chunks.of_packet(random, left) else {
             return;
         };
-        let Some(packet) = packet(random, shape, (node, queue), chunks, ways) else {
+        let Some(packet) = packet(random, shape, node, queue, chunks) else {
             return;
         };
         put_newest(words, shape, node, queue, packet);
@@ -571,11 +526,11 @@ pub fn any_drain(random: &mut Random) -> Call {
 
 /// Any call but Make for words that are, or look like, a network.
 pub fn any_call(random: &mut Random, words: &[u64]) -> Call {
-    let (sides, nodes) = match words {
-        [x @ 1..=16, y @ 1..=16, z @ 1..=16, ..] => ([*x, *y, *z], x * y * z),
-        _ => ([4; DIMENSIONS], random.below(5000)),
+    let nodes = match words {
+        [x @ 1..=16, y @ 1..=16, z @ 1..=16, ..] => x * y * z,
+        _ => random.below(5000),
     };
-    match random.below(20) {
+    match random.below(16) {
         0 => Call::Check,
         1 => Call::First,
         2 => Call::Credit {
@@ -592,14 +547,6 @@ pub fn any_call(random: &mut Random, words: &[u64]) -> Call {
             destination: argument(random, nodes),
             tag: tag(random),
             chunks: chunk_number(random),
-        },
-        10..=13 => Call::OfferBy {
-            node: argument(random, nodes),
-            destination: argument(random, nodes),
-            tag: tag(random),
-            chunks: chunk_number(random),
-            given: any_given(random),
-            lists: sides.map(|side| any_table(random, side)),
         },
         _ => any_move(random, nodes, words),
     }

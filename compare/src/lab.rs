@@ -15,9 +15,9 @@ use crate::model;
 const GUARDS: usize = 4;
 const RUBBISH: u64 = 0xa5a5_5a5a_c3c3_3c3c;
 /// The refusals that a call can give.
-pub const REFUSALS: [u64; 16] = [1, 2, 3, 4, 5, 6, 7, 8, 9, 10, 11, 12, 13, 14, 15, 16];
+pub const REFUSALS: [u64; 15] = [1, 2, 3, 4, 5, 6, 7, 8, 9, 10, 11, 12, 13, 14, 15];
 /// One more than the largest of them.
-const NUMBERS: usize = 17;
+const NUMBERS: usize = 16;
 
 /// The answer, the words with their guards, the ledger with its guards.
 type Outcome = (Answer, Vec<u64>, Vec<u64>);
@@ -71,7 +71,7 @@ impl Lab {
         self.benches.iter().map(|bench| bench.name()).collect()
     }
 
-    fn fail(&self, name: &str, call: &Call, why: &str, before: &[u64]) -> ! {
+    fn fail(&self, name: &str, call: Call, why: &str, before: &[u64]) -> ! {
         let header = &before[..before.len().min(HEADER)];
         panic!(
             "{}: {name} in {call:?}: {why}\nwords {}, header {header:?}",
@@ -93,15 +93,15 @@ impl Lab {
             store.resize(words.len() + GUARDS, RUBBISH);
             let mut ledger = vec![RUBBISH; room + GUARDS];
             let (lent, book) = (&mut store[..words.len()], &mut ledger[..room]);
-            let answer = perform(bench.as_ref(), &call, lent, book);
+            let answer = perform(bench.as_ref(), call, lent, book);
             let mine = (answer, store, ledger);
             if let Some(model) = &first {
                 if mine != *model {
                     let why = difference(model, &mine);
-                    self.fail(bench.name(), &call, &why, words);
+                    self.fail(bench.name(), call, &why, words);
                 }
             }
-            self.judge_alone(bench.name(), &call, words, &mine);
+            self.judge_alone(bench.name(), call, words, &mine);
             first.get_or_insert(mine);
         }
         let (answer, mut store, mut ledger) = first.expect("the model is always there");
@@ -117,7 +117,7 @@ impl Lab {
     fn judge_alone(
         &self,
         name: &str,
-        call: &Call,
+        call: Call,
         before: &[u64],
         (answer, store, ledger): &Outcome,
     ) {
@@ -183,7 +183,7 @@ impl Lab {
             }
         }
         if let Err(why) = run.verify(words) {
-            self.fail("a run", &Call::Check, &why, words);
+            self.fail("a run", Call::Check, &why, words);
         }
         self.passes_and_can_move(words);
         self.counts.runs += 1;
@@ -195,7 +195,7 @@ impl Lab {
     /// has its condition, and the counts are those of the header words.
     fn drain_in_run(&mut self, words: &mut Vec<u64>, call: Call, budget: u32, run: &mut Run) {
         let before = words.clone();
-        let (answer, ledger) = self.call_with_ledger(words, call.clone());
+        let (answer, ledger) = self.call_with_ledger(words, call);
         if answer.refusal != 0 {
             return;
         }
@@ -219,7 +219,7 @@ impl Lab {
             && moves == words[MOVES] - before[MOVES]
             && delivered == words[DELIVERED] - before[DELIVERED];
         if !(right_stop && counted) {
-            self.fail("a drain", &call, "wrong stop or counts", &before);
+            self.fail("a drain", call, "wrong stop or counts", &before);
         }
     }
 
@@ -227,21 +227,21 @@ impl Lab {
     /// permitted move, the one that First names.
     pub fn passes_and_can_move(&mut self, words: &[u64]) {
         if self.try_out(words, Call::Check) != 0 {
-            self.fail("a run", &Call::Check, "the words fail the check", words);
+            self.fail("a run", Call::Check, "the words fail the check", words);
         }
         let answer = self.call(&mut words.to_vec(), Call::First);
         let [found, node, queue, output] = answer.out;
         let held = words[ACCEPTED] != words[DELIVERED];
         if (found == 1) != held {
-            self.fail("a run", &Call::First, "a move exactly if held", words);
+            self.fail("a run", Call::First, "a move exactly if held", words);
         }
         let named = Call::Move {
             node,
             queue,
             output,
         };
-        if held && self.try_out(words, named.clone()) != 0 {
-            self.fail("a run", &named, "First's move is refused", words);
+        if held && self.try_out(words, named) != 0 {
+            self.fail("a run", named, "First's move is refused", words);
         }
     }
 
@@ -258,7 +258,7 @@ impl Lab {
         let mut first: Option<(Vec<u64>, Vec<u64>)> = None;
         let quick = self.benches.iter().filter(|b| !b.searches_from_node_0());
         for bench in quick {
-            let fail = |why: &str| self.fail(bench.name(), &call, why, words);
+            let fail = |why: &str| self.fail(bench.name(), call, why, words);
             let (mut store, mut ledger) = (words.to_vec(), vec![RUBBISH; held]);
             let (refusal, out) = bench.drain(&mut store, u32::MAX, &mut ledger);
             if (refusal, out) != (0, [start.work_left, held as u64, 0]) {
@@ -327,7 +327,7 @@ impl Lab {
                     budget,
                     ledger: room,
                 };
-                self.fail(bench.name(), &call, "not the moves of First", words);
+                self.fail(bench.name(), call, "not the moves of First", words);
             }
         }
         self.counts.calls += 1;

@@ -10,8 +10,7 @@
 //!   as two more;
 //! - `lab`: makes one call on all of them and compares every answer and word;
 //! - `equations`: what demand 3 says of a run of moves;
-//! - `generate`, `damage` and `random`: networks, faults, direction tables and other
-//!   arguments to try;
+//! - `generate`, `damage` and `random`: networks, faults and arguments to try;
 //! - `sheet`: the bench program, bytes in and bytes out, on top of `model`.
 
 pub mod bench;

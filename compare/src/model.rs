@@ -4,16 +4,13 @@
 
 pub mod geometry;
 pub mod network;
-pub mod tables;
 pub mod wave;
 pub mod words;
 
-use geometry::DIMENSIONS;
-use network::{Kind, Network, Output, Packet, Step, MOST_CHUNKS, QUEUES};
-use tables::read_tables;
+use network::{Kind, Network, Output, Step, MOST_CHUNKS, QUEUES};
 use words::{decode, encode, packet_to_word, Sizes};
 
-/// The refusals with their numbers (R161 to R175, and 16). 13 is what the program gives
+/// The refusals with their numbers (R161 to R175). 13 is what the program gives
 /// for a bad line, and the reader of the waveform for bytes that are no step.
 #[derive(Clone, Copy, Debug, PartialEq, Eq)]
 pub enum Refusal {
@@ -32,7 +29,6 @@ pub enum Refusal {
     BadText = 13,
     ToOneself = 14,
     NoRoom = 15,
-    BadTable = 16,
 }
 
 impl Refusal {
@@ -103,27 +99,13 @@ pub fn check(words: &[u64]) -> Result<(), Refusal> {
     decode(words).map(|_| ())
 }
 
-/// Offer without tables.
+/// Offer: the check's, then 4, 2, 14, 8, 7.
 pub fn offer(
     words: &mut [u64],
     node: u64,
     destination: u64,
     tag: u32,
     chunks: u64,
-) -> Result<(), Refusal> {
-    offer_by(words, node, destination, tag, chunks, 0, [&[]; DIMENSIONS])
-}
-
-/// Offer with tables for those of x, y and z that `given` names: the check's, then
-/// 4, 2, 14, 16, 8, 7.
-pub fn offer_by(
-    words: &mut [u64],
-    node: u64,
-    destination: u64,
-    tag: u32,
-    chunks: u64,
-    given: u64,
-    lists: [&[u64]; DIMENSIONS],
 ) -> Result<(), Refusal> {
     let mut network = decode(words)?;
     let node = known_node(&network, node)?;
@@ -134,20 +116,13 @@ pub fn offer_by(
     if destination == node {
         return Err(Refusal::ToOneself);
     }
-    let tables = read_tables(&network.torus, given, lists)?;
     if network.accepted == u32::MAX as u64 {
         return Err(Refusal::CountSpent);
     }
     if network.free(node, Kind::Injection) == 0 {
         return Err(Refusal::InjectionFull);
     }
-    let packet = Packet {
-        tag,
-        chunks: chunks as usize,
-        destination,
-        offsets: network.torus.offsets(node, destination, &tables),
-    };
-    network.inject(node, packet);
+    network.inject(node, destination, tag, chunks as usize);
     encode(&network, words);
     Ok(())
 }

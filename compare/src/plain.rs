@@ -7,7 +7,6 @@
 mod check;
 mod drain;
 mod first;
-mod tables;
 mod wave;
 
 pub use drain::{drain, drain_simple};
@@ -16,7 +15,6 @@ pub use wave::{write_changes, write_header};
 
 use check::open;
 use std::array;
-use tables::read_tables;
 
 const HEADER: usize = 9;
 const ACCEPTED: usize = 6;
@@ -29,7 +27,7 @@ const QUEUES: usize = 1 + 2 * DIRECTIONS;
 const FIRST_ESCAPE: usize = 1 + DIRECTIONS;
 const MAX_SIDE: usize = 16;
 const MAX_NODES: usize = MAX_SIDE * MAX_SIDE * MAX_SIDE;
-const MAX_WORK: u64 = 46;
+const MAX_WORK: u64 = 25;
 const MAX_CHUNKS: u64 = 8;
 
 const SHORT_STORE: u64 = 1;
@@ -46,7 +44,6 @@ const NO_SLOT: u64 = 11;
 const NO_BUBBLE: u64 = 12;
 const TO_ONESELF: u64 = 14;
 const NO_ROOM: u64 = 15;
-const BAD_TABLE: u64 = 16;
 
 /// The direction of a queue or an output from 1 on: 0 to 5 for x+, x-, y+, y-,
 /// z+, z-.
@@ -285,19 +282,6 @@ pub fn check(words: &[u64]) -> u64 {
 }
 
 pub fn offer(words: &mut [u64], node: u64, destination: u64, tag: u32, chunks: u64) -> u64 {
-    offer_by(words, node, destination, tag, chunks, 0, [&[]; DIMENSIONS])
-}
-
-/// An offer with tables for those of x, y and z that `given` names.
-pub fn offer_by(
-    words: &mut [u64],
-    node: u64,
-    destination: u64,
-    tag: u32,
-    chunks: u64,
-    given: u64,
-    lists: [&[u64]; DIMENSIONS],
-) -> u64 {
     let layout = match open(words) {
         Err(refusal) => return refusal,
         Ok((layout, _)) => layout,
@@ -312,9 +296,6 @@ pub fn offer_by(
     if node == destination {
         return TO_ONESELF;
     }
-    let Some(tables) = read_tables(&layout, given, lists) else {
-        return BAD_TABLE;
-    };
     if words[ACCEPTED] == u32::MAX as u64 {
         return COUNT_SPENT;
     }
@@ -324,36 +305,27 @@ pub fn offer_by(
     }
     let mut word = (tag as u64) << 32 | (chunks - 1) << CHUNKS_SHIFT | destination << 16;
     for (d, shift) in SHIFT.into_iter().enumerate() {
-        let (from, size) = (layout.coordinate(node as usize, d), layout.side[d]);
+        let from = layout.coordinate(node as usize, d);
         let to = layout.coordinate(destination as usize, d);
-        let ahead = if to >= from {
-            to - from
-        } else {
-            to + size - from
-        };
-        let goes_plus = match tables[d] {
-            Some(table) => table.goes_plus(ahead),
-            None => shorter_way_is_plus(from, ahead, size),
-        };
-        word |= offset_bits(goes_plus, ahead, size) << shift;
+        word |= shorter_way(from, to, layout.side[d]) << shift;
     }
     push(&mut words[at..], word);
     words[ACCEPTED] += 1;
     0
 }
 
-/// Whether the way without a table is plus; half-way round it is minus from an odd
-/// coordinate.
-fn shorter_way_is_plus(from: usize, ahead: usize, size: usize) -> bool {
-    2 * ahead < size || (2 * ahead == size && from.is_multiple_of(2))
-}
-
-/// The five bits of an offset to so many steps ahead.
-fn offset_bits(goes_plus: bool, ahead: usize, size: usize) -> u64 {
-    if goes_plus {
-        ahead as u64
+/// The five bits of an offer's offset in one dimension; half-way round it is
+/// minus from an odd coordinate.
+fn shorter_way(from: usize, to: usize, size: usize) -> u64 {
+    let plus = if to >= from {
+        to - from
     } else {
-        (32 + ahead - size) as u64
+        to + size - from
+    };
+    if 2 * plus < size || (2 * plus == size && from.is_multiple_of(2)) {
+        plus as u64
+    } else {
+        (32 + plus - size) as u64
     }
 }
 

@@ -6,8 +6,6 @@
 //! R194). Calls that are not refused stand beside them, at the last number or
 //! word that is still good.
 
-#[path = "bad_input/tables.rs"]
-mod tables;
 #[path = "bad_input/wave.rs"]
 mod wave;
 
@@ -134,18 +132,6 @@ const fn offer_of(chunks: u64, node: u64, destination: u64) -> Call {
     }
 }
 
-/// With empty tables, which the row takes for y and z.
-const fn offer_by_none(given: u64, node: u64, destination: u64) -> Call {
-    Call::OfferBy {
-        node,
-        destination,
-        tag: 7,
-        chunks: 8,
-        given,
-        lists: [const { Vec::new() }; DIMENSIONS],
-    }
-}
-
 const fn go(node: u64, queue: u64, output: u64) -> Call {
     Call::Move {
         node,
@@ -168,15 +154,12 @@ const fn drain(budget: u32, ledger: usize) -> Call {
 
 /// Every call that tests the words first (R181): with arguments that are good
 /// on the row, and with others that a later test would refuse.
-const ON_WORDS: [Call; 21] = [
+const ON_WORDS: [Call; 18] = [
     Call::Check,
     offer(1, 2),
     offer(0, 0),
     offer(MAX, MAX),
     offer_of(0, 1, 2),
-    offer_by_none(6, 1, 2),
-    offer_by_none(7, 1, 2),
-    offer_by_none(MAX, MAX, MAX),
     go(0, 0, 1),
     go(0, 0, 0),
     go(1, 0, 0),
@@ -198,9 +181,9 @@ fn call_on(
     bench: &dyn Bench,
     words: &[u64],
     len: usize,
-    call: &Call,
+    call: Call,
 ) -> (Answer, Vec<u64>, [u64; 8]) {
-    let room = match *call {
+    let room = match call {
         Call::Drain { ledger, .. } => ledger,
         _ => 0,
     };
@@ -210,7 +193,7 @@ fn call_on(
 }
 
 /// The call is refused by this number and writes nothing, whoever makes it.
-fn refused(what: &str, words: &[u64], len: usize, call: &Call, number: u64) {
+fn refused(what: &str, words: &[u64], len: usize, call: Call, number: u64) {
     for bench in all(Model::default()) {
         let place = format!("{what}: {} in {call:?} on {len} words", bench.name());
         let (answer, store, ledger) = call_on(bench.as_ref(), words, len, call);
@@ -226,7 +209,7 @@ fn done(
     what: &str,
     words: &[u64],
     len: usize,
-    call: &Call,
+    call: Call,
     out: [u64; 4],
     (after, book): (&[u64], [u64; 8]),
 ) {
@@ -241,7 +224,7 @@ fn done(
 
 /// The words are a network: Check gives 0 and, as always, writes nothing (R95).
 fn passes(what: &str, words: &[u64], len: usize) {
-    done(what, words, len, &Call::Check, [0; 4], (words, LEDGER));
+    done(what, words, len, Call::Check, [0; 4], (words, LEDGER));
 }
 
 /// R161: fewer words than nine, or than the sizes ask for. R181: nine words are
@@ -254,13 +237,13 @@ fn short_stores() {
     let ones = vec![MAX; LENT];
     for call in ON_WORDS {
         for len in [0, 1, 8] {
-            refused("R161: less than nine words", &row, len, &call, 1);
-            refused("R181: 1 before 2", &ones, len, &call, 1);
+            refused("R161: less than nine words", &row, len, call, 1);
+            refused("R181: 1 before 2", &ones, len, call, 1);
         }
         for len in [9, 10, 304] {
-            refused("R161: less than the sizes ask for", &row, len, &call, 1);
-            refused("R181: 1 before 3", &broken, len, &call, 1);
-            refused("R181: 2 before the second 1", &ones, len, &call, 2);
+            refused("R161: less than the sizes ask for", &row, len, call, 1);
+            refused("R181: 1 before 3", &broken, len, call, 1);
+            refused("R181: 2 before the second 1", &ones, len, call, 2);
         }
     }
     for len in [NEED, 306, LENT] {
@@ -290,7 +273,7 @@ const SHORT_FOR_MAKE: [(&str, usize, Call); 14] = [
 #[test]
 fn short_stores_of_make() {
     for (what, len, call) in SHORT_FOR_MAKE {
-        refused(what, &ROW.words(), len, &call, 1);
+        refused(what, &ROW.words(), len, call, 1);
     }
 }
 
@@ -315,19 +298,19 @@ fn wrong_sizes() {
             let mut sizes = [4, 1, 1, 2, 1, 1];
             sizes[size] = *value;
             for len in [0, 8, 9, 304, LENT] {
-                refused(what, &ROW.words(), len, &Call::Make { sizes }, 2);
+                refused(what, &ROW.words(), len, Call::Make { sizes }, 2);
             }
             let mut words = ROW.words();
             words[size] = *value;
             for call in ON_WORDS {
-                refused(what, &words, 9, &call, 2);
-                refused(what, &words, LENT, &call, 2);
+                refused(what, &words, 9, call, 2);
+                refused(what, &words, LENT, call, 2);
             }
         }
     }
     for call in ON_WORDS {
-        refused("R162: words of all ones", &[MAX; LENT], LENT, &call, 2);
-        refused("R162: words of 0", &[0; LENT], LENT, &call, 2);
+        refused("R162: words of all ones", &[MAX; LENT], LENT, call, 2);
+        refused("R162: words of 0", &[0; LENT], LENT, call, 2);
     }
 }
 
@@ -490,8 +473,8 @@ fn arguments() {
     for (what, store, call, number) in ARGUMENTS {
         let words = store.words();
         passes(what, &words, LENT);
-        refused(what, &words, LENT, call, *number);
-        refused(what, &words, NEED, call, *number);
+        refused(what, &words, LENT, *call, *number);
+        refused(what, &words, NEED, *call, *number);
     }
     // Each number of a call from 4 on has a row, and so has that of the chunks.
     for wanted in (4..=12).chain([2, 14]) {
@@ -542,16 +525,15 @@ const BROKEN: &[(&str, Store)] = &[
     ("R75: dz leads further",                FRONT.but(&[(HEAD, packet(1, [1, 0, 1]))])),
     ("R75: dz, to where dy would lead",      SIDE.but(&[(HEAD, packet(1, [0, 0, 1]))])),
     ("R75: dy, to where dz would lead",      SIDE.but(&[(HEAD, packet(2, [0, 1, 0]))])),
-    ("R76: dx 4, once round",                ROW.but(&[(HEAD, packet(0, [4, 0, 0]))])),
-    ("R76: dx -4, once round",               ROW.but(&[(HEAD, packet(0, [-4, 0, 0]))])),
-    ("R76: dx 2, once round where X is 2",   SQUARE.but(&[(HEAD, packet(0, [2, 0, 0]))])),
+    ("R76: dx 3, to where it leads",         ROW.but(&[(HEAD, packet(3, [3, 0, 0]))])),
+    ("R76: dx -3, to where it leads",        ROW.but(&[(HEAD, packet(1, [-3, 0, 0]))])),
     ("R76: dx 5, once round and one on",     ROW.but(&[(HEAD, packet(1, [5, 0, 0]))])),
     ("R76: dx 15, to where it leads",        ROW.but(&[(HEAD, packet(3, [15, 0, 0]))])),
     ("R76: dx -16, to where it leads",       ROW.but(&[(HEAD, packet(0, [-16, 0, 0]))])),
     ("R75, R76: dx -16, to somewhere else",  ROW.but(&[(HEAD, packet(1, [-16, 0, 0]))])),
-    ("R76: dy 4, once round",                COLUMN.but(&[(HEAD, packet(0, [0, 4, 0]))])),
+    ("R76: dy 3, to where it leads",         COLUMN.but(&[(HEAD, packet(3, [0, 3, 0]))])),
     ("R76: dy -16, to where it leads",       COLUMN.but(&[(HEAD, packet(0, [0, -16, 0]))])),
-    ("R76: dz -4, once round",               SHAFT.but(&[(HEAD, packet(0, [0, 0, -4]))])),
+    ("R76: dz 3, to where it leads",         SHAFT.but(&[(HEAD, packet(3, [0, 0, 3]))])),
     ("R76: dz 15, to where it leads",        SHAFT.but(&[(HEAD, packet(3, [0, 0, 15]))])),
     ("R76: dz -16, to where it leads",       SHAFT.but(&[(HEAD, packet(0, [0, 0, -16]))])),
     ("R76: dy 1 where Y is 1",               ROW.but(&[(HEAD, packet(1, [1, 1, 0]))])),
@@ -561,11 +543,9 @@ const BROKEN: &[(&str, Store)] = &[
     ("R76: dz -1 where Z is 1",              ROW.but(&[(HEAD, packet(1, [1, 0, -1]))])),
     ("R76: dz -16 where Z is 1",             ROW.but(&[(HEAD, packet(1, [1, 0, -16]))])),
     ("R76: dx 1 where X is 1",               SHAFT.but(&[(HEAD, packet(1, [1, 0, 1]))])),
-    ("R77: queue 1, dx 3 of X 4",            ROW.with(&[(0, 1, packet(3, [3, 0, 0]))])),
-    ("R77: queue 2, dx -3 of X 4",           ROW.with(&[(0, 2, packet(1, [-3, 0, 0]))])),
-    ("R77: queue 5, dz 3 of Z 4",            SHAFT.with(&[(0, 5, packet(3, [0, 0, 3]))])),
-    ("R77: queue 7, dx 3 of X 4",            ROW.with(&[(0, 7, packet(3, [3, 0, 0]))])),
-    ("R77: queue 10, dy -3 of Y 4",          COLUMN.with(&[(0, 10, packet(1, [0, -3, 0]))])),
+    ("R77: queue 1, dx 2 of X 4",            ROW.with(&[(0, 1, packet(2, [2, 0, 0]))])),
+    ("R77: queue 2, dx -2 of X 4",           ROW.with(&[(0, 2, packet(2, [-2, 0, 0]))])),
+    ("R77: queue 5, dz 2 of Z 4",            SHAFT.with(&[(0, 5, packet(2, [0, 0, 2]))])),
     ("R77: queue 7, dx 1 of X 2",            SQUARE.with(&[(0, 7, packet(1, [1, 0, 0]))])),
     ("R77: queue 10, dy -1 of Y 2",          SQUARE.with(&[(0, 10, packet(2, [0, -1, 0]))])),
     ("R77: queue 12, dz -1 of Z 2",          SIDE.with(&[(0, 12, packet(2, [0, 0, -1]))])),
@@ -610,8 +590,8 @@ const BROKEN: &[(&str, Store)] = &[
     ("R83: delivered 2^64 - 1",              ROW.but(&[(DELIVERED, MAX)])),
     ("R83: right if cut to 64 bits (D1)",    ROW.but(&[(ACCEPTED, 0), (DELIVERED, MAX)])),
     ("R83: right if cut to 32 bits (D1)",    ROW.but(&[(DELIVERED, CUT)])),
-    ("R85: 45 moves and work 2, above 46",   ROW.but(&[(MOVES, 45)])),
-    ("R85: dz counts as well",               SHAFT.but(&[(MOVES, 45)])),
+    ("R85: 24 moves and work 2, above 25",   ROW.but(&[(MOVES, 24)])),
+    ("R85: dz counts as well",               SHAFT.but(&[(MOVES, 24)])),
     ("R85: 2^64 - 1 moves",                  ROW.but(&[(MOVES, MAX)])),
     ("R85: right if cut to 64 bits (D1)",    ROW.but(&[(MOVES, MAX - 1)])),
     ("R85: right if cut to 32 bits (D1)",    ROW.but(&[(MOVES, CUT)])),
@@ -665,15 +645,12 @@ const GOOD: &[(&str, Store)] = &[
     ("R27: a slot each in queue 7, E 2",     ROW.with(&[(0, 7, arrived(0)), (0, 7, small(1, 0))])),
     ("R72: two packets in queue 7, E 2",     ROW.with(&[(0, 7, arrived(0)), (0, 7, arrived(0))])),
     ("R87: all bits around bit 15",          FRONT.but(&[(HEAD, packet_word(CUT - 1, 8, 3, [-1, 0, -1]))])),
-    ("R76: dx 3, the longer way",            ROW.but(&[(HEAD, packet(3, [3, 0, 0]))])),
-    ("R76: dx -3, the longer way",           ROW.but(&[(HEAD, packet(1, [-3, 0, 0]))])),
-    ("R76: dy 3, the longer way",            COLUMN.but(&[(HEAD, packet(3, [0, 3, 0]))])),
-    ("R76: dz 3, the longer way",            SHAFT.but(&[(HEAD, packet(3, [0, 0, 3]))])),
-    ("R76: dz -3, the longer way",           SHAFT.but(&[(HEAD, packet(1, [0, 0, -3]))])),
+    ("R76: dx 2, half of X",                 ROW.but(&[(HEAD, packet(2, [2, 0, 0]))])),
     ("R76: dx -2, half of X",                ROW.but(&[(HEAD, packet(2, [-2, 0, 0]))])),
-    ("R77: queue 1, dx 2 of X 4",            ROW.with(&[(0, 1, packet(2, [2, 0, 0]))])),
-    ("R77: queue 2, dx -2 of X 4",           ROW.with(&[(0, 2, packet(2, [-2, 0, 0]))])),
-    ("R77: queue 11, dz 2 of Z 4",           SHAFT.with(&[(0, 11, packet(2, [0, 0, 2]))])),
+    ("R76: dz 2, half of Z",                 SHAFT.but(&[(HEAD, packet(2, [0, 0, 2]))])),
+    ("R76: dz -2, half of Z",                SHAFT.but(&[(HEAD, packet(2, [0, 0, -2]))])),
+    ("R77: queue 1, dx 1 of X 4",            ROW.with(&[(0, 1, packet(1, [1, 0, 0]))])),
+    ("R77: queue 11, dz 1 of Z 4",           SHAFT.with(&[(0, 11, packet(1, [0, 0, 1]))])),
     ("R78: dx -1 in queue 8",                ROW.with(&[(0, 8, packet(3, [-1, 0, 0]))])),
     ("R78: dy 1 in queue 3",                 COLUMN.with(&[(0, 3, packet(1, [0, 1, 0]))])),
     ("R78: dy -1 in queue 10",               COLUMN.with(&[(0, 10, packet(3, [0, -1, 0]))])),
@@ -687,7 +664,7 @@ const GOOD: &[(&str, Store)] = &[
     ("R81: y+ of x 0, one slot free",        SQUARE.with(&[(0, 9, arrived(0)), (0, 9, arrived(0)), (2, 9, arrived(2))])),
     ("R81: z+ of x 0, one slot free",        FRONT.with(&[(0, 11, arrived(0)), (0, 11, arrived(0)), (2, 11, arrived(2))])),
     ("R82: accepted 2^32 - 1",               SPENT),
-    ("R85: 44 moves and work 2",             ROW.but(&[(MOVES, 44)])),
+    ("R85: 23 moves and work 2",             ROW.but(&[(MOVES, 23)])),
     ("R86: to oneself, in queue 0",          ARRIVED),
     ("R86: to oneself, in x and y queues",   SQUARE.with(&EVERY_X_AND_Y)),
     ("R86: to oneself, in x and z queues",   FRONT.with(&EVERY_X_AND_Z)),
@@ -699,8 +676,8 @@ fn broken_words() {
     for (what, store) in BROKEN {
         let words = store.words();
         for call in ON_WORDS {
-            refused(what, &words, LENT, &call, 3);
-            refused(what, &words, NEED, &call, 3);
+            refused(what, &words, LENT, call, 3);
+            refused(what, &words, NEED, call, 3);
         }
     }
     for (what, store) in GOOD {
@@ -721,55 +698,41 @@ fn not_refused() {
         "R91, R92",
         &rubbish,
         LENT,
-        &for_305,
+        for_305,
         [0; 4],
         (&empty, LEDGER),
     );
-    done("R101", &empty, LENT, &offer(0, 1), [0; 4], (&row, LEDGER));
+    done("R101", &empty, LENT, offer(0, 1), [0; 4], (&row, LEDGER));
 
     // J 2 needs all of the 309 words.
     let mut larger = vec![0; LENT];
     larger[..6].copy_from_slice(&[4, 1, 1, 2, 1, 2]);
-    done("R47", &row, LENT, &for_309, [0; 4], (&larger, LEDGER));
+    done("R47", &row, LENT, for_309, [0; 4], (&larger, LEDGER));
 
     // One slot is enough within the ring, where any other head needs two.
     let before = FROM_ESCAPE_ONE.words();
     const CAME_BY_ESCAPE: Store = ROW.with(&[(1, 7, small(1, 1)), (1, 7, arrived(1))]);
     let after = CAME_BY_ESCAPE.but(&[(MOVES, 1)]).words();
-    done(
-        "R151",
-        &before,
-        LENT,
-        &go(0, 7, 7),
-        [0; 4],
-        (&after, LEDGER),
-    );
+    done("R151", &before, LENT, go(0, 7, 7), [0; 4], (&after, LEDGER));
 
     // One chunk is enough for a packet of one.
     let before = SEVEN_AND_ONE.words();
     let out = [1, 0, 0, 0];
-    done("R116", &before, LENT, &credit(0, 1), out, (&before, LEDGER));
+    done("R116", &before, LENT, credit(0, 1), out, (&before, LEDGER));
     const CAME: Store = ROW.with(&[(1, 1, small(7, 1)), (1, 1, small(1, 1))]);
     let after = CAME.but(&[(ACCEPTED, 2), (MOVES, 1), (COUNT, 0), (HEAD, 0)]);
     let after = after.words();
-    done(
-        "R150",
-        &before,
-        LENT,
-        &go(0, 0, 1),
-        [0; 4],
-        (&after, LEDGER),
-    );
+    done("R150", &before, LENT, go(0, 0, 1), [0; 4], (&after, LEDGER));
 
     // A packet for its own node is handed out.
     let (before, mut book) = (ARRIVED.words(), LEDGER);
     let after = ROW.but(&[(DELIVERED, 1), (MOVES, 1), (COUNT, 0), (HEAD, 0)]);
     let after = after.words();
     let out = [1, arrived(0), 0, 0];
-    done("R86", &before, LENT, &go(0, 0, 0), out, (&after, book));
+    done("R86", &before, LENT, go(0, 0, 0), out, (&after, book));
     book[0] = arrived(0);
     let out = [1, 1, 0, 0];
-    done("R86", &before, LENT, &drain(9, 2), out, (&after, book));
+    done("R86", &before, LENT, drain(9, 2), out, (&after, book));
 
     // By queue 1 of node 1, and out.
     let after = ROW.but(&[(DELIVERED, 1), (MOVES, 2), (COUNT, 0), (HEAD, 0)]);
@@ -778,6 +741,6 @@ fn not_refused() {
     book[0] = arrived(1);
     for len in [NEED, LENT] {
         let out = [2, 1, 0, 0];
-        done("R127, R128", &row, len, &drain(9, 2), out, (&after, book));
+        done("R127, R128", &row, len, drain(9, 2), out, (&after, book));
     }
 }

@@ -11,8 +11,6 @@ mod drains;
 mod kept;
 #[path = "compare/routes.rs"]
 mod routes;
-#[path = "compare/tables.rs"]
-mod tables;
 #[path = "compare/together.rs"]
 mod together;
 #[path = "compare/wave.rs"]
@@ -35,15 +33,10 @@ fn main() {
     let start = Instant::now();
     let mut lab = Lab::new();
     println!("compared: {}", lab.names().join("; "));
-    let parts: [Part; 34] = [
+    let parts: [Part; 29] = [
         ("kept cases and listing", kept::all),
         ("chunks", chunks::all),
         ("the table of routes", routes::every_case),
-        ("kept cases of tables", tables::kept),
-        ("every difference of every size", tables::every_difference),
-        ("all tables of up to three rows", tables::all_small),
-        ("random tables", tables::random_ones),
-        ("long ways", tables::long_ways),
         ("stores of 0 to 8 words", tiny_stores),
         ("stores too short and too long", short_and_long),
         ("every number on small networks", every_number),
@@ -99,7 +92,7 @@ fn main() {
 }
 
 /// One call of each kind with small numbers.
-fn each_call(nodes: u64) -> [Call; 9] {
+fn each_call(nodes: u64) -> [Call; 8] {
     let node = nodes.saturating_sub(1);
     [
         Call::Make {
@@ -111,14 +104,6 @@ fn each_call(nodes: u64) -> [Call; 9] {
             destination: node,
             tag: 9,
             chunks: 3,
-        },
-        Call::OfferBy {
-            node: 0,
-            destination: node,
-            tag: 9,
-            chunks: 3,
-            given: 7,
-            lists: [const { Vec::new() }; DIMENSIONS],
         },
         Call::Move {
             node: 0,
@@ -167,9 +152,9 @@ fn short_and_long(lab: &mut Lab) {
             sizes: shape.sizes(),
         };
         for call in &calls {
-            assert_eq!(lab.try_out(&words[..shape.need() - 1], call.clone()), 1);
+            assert_eq!(lab.try_out(&words[..shape.need() - 1], *call), 1);
             let len = random.between(HEADER as u64, shape.need() as u64 - 1) as usize;
-            assert_eq!(lab.try_out(&words[..len], call.clone()), 1);
+            assert_eq!(lab.try_out(&words[..len], *call), 1);
         }
         // Wrong sizes come before the need, and the need before the check.
         words[HEADER] = u64::MAX;
@@ -183,9 +168,9 @@ fn short_and_long(lab: &mut Lab) {
             words.push(random.number());
         }
         for call in &calls[1..] {
-            lab.call(&mut words, call.clone());
+            lab.call(&mut words, *call);
         }
-        lab.call(&mut words, calls[0].clone());
+        lab.call(&mut words, calls[0]);
     }
 }
 
@@ -391,7 +376,7 @@ fn broken_clauses(lab: &mut Lab) {
             let wanted = refusal_of(fault);
             assert_eq!(lab.try_out(&words, Call::Check), wanted, "{}", fault.name);
             for call in &each_call(shape.nodes())[2..] {
-                assert_eq!(lab.try_out(&words, call.clone()), wanted);
+                assert_eq!(lab.try_out(&words, *call), wanted);
             }
             // Make turns everything into a network.
             let sizes = shape.sizes();

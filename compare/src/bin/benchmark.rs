@@ -3,8 +3,7 @@
 //! the library is not linked (see build.rs), the model stands in its place.
 
 use compare::bench::{perform, write, Bench, Call, Plain, WaveStep, WaveWriter};
-use compare::generate::tables::row_by_row;
-use compare::generate::{network_with, Chunks, Contents, Fill, Shape, Ways};
+use compare::generate::{network_of, Chunks, Fill, Shape};
 use compare::generate::{ACCEPTED, DELIVERED, DIMENSIONS, MOST_CHUNKS, MOVES, QUEUES};
 use compare::random::Random;
 use std::hint::black_box;
@@ -59,8 +58,7 @@ const MOVES_A_SAMPLE: u64 = 200_000;
 /// move: that takes minutes.
 const MOST_TO_SEARCH: u64 = 256;
 
-/// A network to measure calls on, with capacities of 8 slots. No packet goes the longer
-/// way round: these are the networks that were measured before there were tables.
+/// A network to measure calls on, with capacities of 8 slots.
 struct Case {
     shape: Shape,
     fill: &'static str,
@@ -70,12 +68,7 @@ struct Case {
 impl Case {
     fn new(sides: [u64; DIMENSIONS], name: &'static str, fill: Fill, chunks: Chunks) -> Case {
         let shape = Shape::of(sides, [8, 8, 8]);
-        let contents = Contents {
-            fill,
-            chunks,
-            ways: Ways::Short,
-        };
-        let mut words = network_with(&mut Random::new(sides[0]), &shape, contents);
+        let mut words = network_of(&mut Random::new(sides[0]), &shape, fill, chunks);
         // Counters that never get in the way.
         words[ACCEPTED] -= words[DELIVERED];
         words[DELIVERED] = 0;
@@ -123,7 +116,6 @@ impl Case {
                 tag: 7,
                 chunks: 5,
             },
-            "OfferBy" => self.offer_by(),
             "First" => Call::First,
             _ => Call::Drain {
                 budget: u32::MAX,
@@ -131,36 +123,12 @@ impl Case {
             },
         }
     }
-
-    /// The same offer as without tables, by one for each dimension that has a row for
-    /// each difference: fifteen rows where the size is 16. The ways are the shorter ones,
-    /// so that nothing but the tables differs.
-    fn offer_by(&self) -> Call {
-        let Call::Offer {
-            node,
-            destination,
-            tag,
-            chunks,
-        } = self.call("Offer")
-        else {
-            unreachable!()
-        };
-        let table = |side: u64| row_by_row(side, |d| 2 * d > side);
-        Call::OfferBy {
-            node,
-            destination,
-            tag,
-            chunks,
-            given: 7,
-            lists: self.shape.sides.map(table),
-        }
-    }
 }
 
 /// Times one call on a fresh copy of the words.
 fn sample(
     bench: &dyn Bench,
-    call: &Call,
+    call: Call,
     words: &[u64],
     store: &mut [u64],
     ledger: &mut [u64],
@@ -209,9 +177,9 @@ fn in_turns(many: usize, mut sample: impl FnMut(usize) -> (Duration, u64)) -> Me
 }
 
 /// Measures a call on several implementations.
-fn measure(benches: &[&dyn Bench], call: &Call, words: &[u64]) -> Measured {
+fn measure(benches: &[&dyn Bench], call: Call, words: &[u64]) -> Measured {
     let mut store = words.to_vec();
-    let mut ledger = match *call {
+    let mut ledger = match call {
         Call::Drain { ledger, .. } => vec![0; ledger],
         _ => Vec::new(),
     };
@@ -276,7 +244,6 @@ fn main() {
     let (cases, equal) = (Case::all(), Case::equal());
     let empty = calls(&[&plain, &other], &cases);
     times_a_word(&[&plain, &other], &empty);
-    offers_by_tables(&[&plain, &other], &cases);
     drained_moves(&[&plain, &simple, &other], &cases, &equal);
     steps(&[&plain, &other], &cases);
 }
@@ -295,7 +262,7 @@ fn calls<'a>(benches: &[&dyn Bench], cases: &'a [Case]) -> Vec<(&'a Case, Vec<Du
             if call_name == "Drain" && !case.is_emptied_by(benches[1]) {
                 continue;
             }
-            let measured = measure(benches, &case.call(call_name), &case.words);
+            let measured = measure(benches, case.call(call_name), &case.words);
             let refused = match measured.refusal {
                 0 => String::new(),
                 number => format!(" ({number})"),
@@ -332,45 +299,6 @@ fn times_a_word(benches: &[&dyn Bench], empty: &[(&Case, Vec<Duration>)]) {
             case.nodes(),
             shown_part(times[0], words),
             shown_part(times[1], words),
-        );
-    }
-}
-
-/// Offers by tables beside those without, all four in turns, so that they can be compared
-/// with plain's and with each other.
-fn offers_by_tables(benches: &[&dyn Bench], cases: &[Case]) {
-    let [plain, other] = [benches[0], benches[1]].map(|bench| bench.name());
-    println!("\nOffers by three tables that have a row for each difference, beside the same offer");
-    println!("without tables. Wanted is at most 1.2 in the column `to {plain}` for 16 × 16 × 16,");
-    println!("and at most 1.1 in the next for 4 × 4 × 4 empty. A number in brackets is the");
-    println!("refusal that was the answer.\n");
-    println!("| Nodes | Rows | Fill | Offer, {plain} | Offer, {other} | {plain} | {other} | to {plain} | to its own Offer | samples |");
-    println!("|---|---|---|---|---|---|---|---|---|---|");
-    for case in cases {
-        let calls = [case.call("Offer"), case.call("OfferBy")];
-        let mut store = case.words.clone();
-        let measured = in_turns(4, |index| {
-            let (bench, call) = (benches[index % 2], &calls[index / 2]);
-            sample(bench, call, &case.words, &mut store, &mut [])
-        });
-        let refused = match measured.refusal {
-            0 => String::new(),
-            number => format!(" ({number})"),
-        };
-        let rows = case.shape.sides.map(|side| (side - 1).to_string());
-        let [a, b, c, d] = [0, 1, 2, 3].map(|index| measured.times[index]);
-        println!(
-            "| {}{refused} | {} | {} | {} | {} | {} | {} | {:.2} | {:.2} | {} |",
-            case.nodes(),
-            rows.join(", "),
-            case.fill,
-            shown(a),
-            shown(b),
-            shown(c),
-            shown(d),
-            ratio(d, c),
-            ratio(d, b),
-            measured.samples
         );
     }
 }
@@ -430,7 +358,7 @@ impl Emptying<'_> {
         let (call, words) = (self.case.call("Drain"), &self.case.words);
         let (mut store, mut ledger) = (words.clone(), words.clone());
         let times = (MOVES_A_SAMPLE / self.moves).max(1) as u32;
-        let drains = (0..times).map(|_| sample(self.bench, &call, words, &mut store, &mut ledger));
+        let drains = (0..times).map(|_| sample(self.bench, call, words, &mut store, &mut ledger));
         drains.map(|(time, _)| time).sum::<Duration>() / times
     }
 }

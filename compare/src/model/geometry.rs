@@ -1,6 +1,5 @@
 //! The torus: nodes, directions, neighbours and offsets.
 
-use super::tables::Tables;
 use std::cmp::Ordering;
 
 /// A torus in three dimensions: 0 is x, 1 is y and 2 is z.
@@ -112,40 +111,28 @@ impl Torus {
         })
     }
 
-    /// The offsets that a packet gets at its offer: in each dimension by its table,
-    /// or else the shorter way round.
-    pub fn offsets(&self, from: usize, to: usize, tables: &Tables) -> [i32; DIMENSIONS] {
+    /// The offsets that a packet gets at its offer: in each dimension the
+    /// shorter way round. Between two ways of the same length the sending node's
+    /// coordinate in that dimension decides, plus if even and minus if odd.
+    pub fn offsets(&self, from: usize, to: usize) -> [i32; DIMENSIONS] {
         let (from, to) = (self.place(from), self.place(to));
         let mut offsets = [0; DIMENSIONS];
         for d in 0..DIMENSIONS {
             let size = self.sizes[d] as i32;
-            let steps_ahead = (to[d] as i32 - from[d] as i32).rem_euclid(size);
-            offsets[d] = match &tables[d] {
-                Some(table) => table.offset(steps_ahead),
-                None => shorter_way(from[d], steps_ahead, size),
+            let plus_way = (to[d] as i32 - from[d] as i32).rem_euclid(size);
+            let minus_way = size - plus_way;
+            let goes_plus = match plus_way.cmp(&minus_way) {
+                Ordering::Less => true,
+                Ordering::Equal => from[d] % 2 == 0,
+                Ordering::Greater => false,
             };
+            offsets[d] = if goes_plus { plus_way } else { -minus_way };
         }
         offsets
     }
 
-    /// The largest lawful offset in a dimension: once round is never needed.
+    /// The largest lawful offset in a dimension: half the size, rounded down.
     pub fn reach(&self, dimension: usize) -> i32 {
-        self.sizes[dimension] as i32 - 1
-    }
-}
-
-/// The shorter way to a node so many steps ahead. Between two ways of the same length
-/// the sending node's coordinate decides, plus if even and minus if odd.
-fn shorter_way(coordinate: usize, steps_ahead: i32, size: i32) -> i32 {
-    let steps_back = size - steps_ahead;
-    let goes_plus = match steps_ahead.cmp(&steps_back) {
-        Ordering::Less => true,
-        Ordering::Equal => coordinate.is_multiple_of(2),
-        Ordering::Greater => false,
-    };
-    if goes_plus {
-        steps_ahead
-    } else {
-        -steps_back
+        self.sizes[dimension] as i32 / 2
     }
 }

@@ -347,8 +347,14 @@ impl Network {
     }
 
     /// R101: the new packet becomes the newest of the node's queue 0.
-    pub fn inject(&mut self, node: usize, packet: Packet) {
-        self.nodes[node].queues[0].push_back(packet);
+    pub fn inject(&mut self, node: usize, destination: usize, tag: u32, chunks: usize) {
+        let offsets = self.torus.offsets(node, destination);
+        self.nodes[node].queues[0].push_back(Packet {
+            tag,
+            chunks,
+            destination,
+            offsets,
+        });
         self.accepted += 1;
     }
 }

@@ -11,8 +11,8 @@ pub const HEADER: usize = 9;
 const MOST_NODES_A_SIDE: u64 = 16;
 const MOST_SLOTS: u64 = 8;
 const MOST_ACCEPTED: u64 = u32::MAX as u64;
-/// The longest way: fifteen hops in each dimension, and the delivery.
-const MOST_WORK: u128 = 46;
+/// The longest way: eight hops in each dimension, and the delivery.
+const MOST_WORK: u128 = 25;
 
 /// The sizes of a network, known to be in range.
 #[derive(Clone, Copy, Debug, PartialEq, Eq)]

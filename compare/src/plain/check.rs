@@ -10,21 +10,21 @@ type Place = [usize; DIMENSIONS];
 
 /// The lowest and the highest lawful offset of a dimension in a queue.
 fn limits(layout: &Layout, queue: usize, dimension: usize) -> (i8, i8) {
-    let most = (layout.side[dimension] - 1) as i8;
+    let half = (layout.side[dimension] / 2) as i8;
     if queue == 0 {
-        return (-most, most);
+        return (-half, half);
     }
     let direction = direction_of(queue);
     if dimension == direction / 2 {
         if direction.is_multiple_of(2) {
-            (0, most - 1)
+            (0, half - 1)
         } else {
-            (1 - most, 0)
+            (1 - half, 0)
         }
     } else if queue >= FIRST_ESCAPE && dimension < direction / 2 {
         (0, 0)
     } else {
-        (-most, most)
+        (-half, half)
     }
 }
 

@@ -277,8 +277,7 @@ fn example(lab: &mut Lab) {
         (offer_of(9, 0, 0, 4), 2),
         (offer_of(9, 0, 4, 4), 4),
     ] {
-        let answer = lab.call(&mut words, call.clone());
-        assert_eq!(answer.refusal, refusal, "{call:?}");
+        assert_eq!(lab.call(&mut words, call).refusal, refusal, "{call:?}");
     }
     // Packets 1 and 3 have filled the adaptive queue, with 5 chunks and 3.
     assert_eq!(words[shape.count_word(1, ADAPTIVE)], 2);

@@ -93,6 +93,12 @@ fn handed_out(moves: &[Named], answers: &[Answer]) -> Vec<(u64, u64)> {
     list
 }
 
+fn shuffle(random: &mut Random, moves: &mut [Named]) {
+    for last in (1..moves.len()).rev() {
+        moves.swap(last, random.below(last as u64 + 1) as usize);
+    }
+}
+
 /// As many of the moves as are apart, in the order given, up to so many.
 fn chosen(moves: &[Named], most: usize) -> Vec<Named> {
     let mut list: Vec<Named> = Vec::new();
@@ -124,7 +130,7 @@ fn in_any_order(lab: &mut Lab, random: &mut Random, words: &[u64], moves: &[Name
             assert_eq!(*answer, at_start[m], "{}: {m:?}", lab.place);
         }
         assert_eq!(handed_out(&order, &answers), handed_out(moves, &first));
-        random.shuffle(&mut order);
+        shuffle(random, &mut order);
     }
     after
 }
@@ -144,7 +150,7 @@ pub fn lists(lab: &mut Lab) {
             words.push(random.number());
         }
         let mut moves = permitted(lab, &words);
-        random.shuffle(&mut moves);
+        shuffle(&mut random, &mut moves);
         let most = random.pick(&[0, 1, 2, 8, 30, 30, 60]);
         let list = chosen(&moves, most);
         assert!(apart(&shape, &list), "{}: {list:?}", lab.place);
@@ -181,7 +187,7 @@ pub fn emptied(lab: &mut Lab) {
         let mut list = permitted(lab, &words);
         assert_eq!(list.len() as u64, words[ACCEPTED]);
         assert!(queues_differ(&shape, &list) && list.iter().all(|m| m.2 == 0));
-        random.shuffle(&mut list);
+        shuffle(&mut random, &mut list);
         let after = in_any_order(lab, &mut random, &words, &list);
         let mut empty = make(lab, shape);
         empty[ACCEPTED..ACCEPTED + 3].fill(list.len() as u64);
@@ -207,7 +213,7 @@ pub fn pairs(lab: &mut Lab) {
         let fill = random.pick(&[Fill::Sparse, Fill::Half, Fill::Mixed, Fill::Full]);
         let words = network(&mut random, &shape, fill);
         let mut moves = permitted(lab, &words);
-        random.shuffle(&mut moves);
+        shuffle(&mut random, &mut moves);
         moves.truncate(60);
         for (place, a) in moves.iter().enumerate() {
             for b in &moves[place + 1..] {

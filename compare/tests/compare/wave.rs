@@ -184,7 +184,7 @@ fn call(random: &mut Random, words: &mut [u64]) {
         Call::Drain { ledger, .. } => ledger,
         _ => 0,
     };
-    perform(&Plain { simple: false }, &call, words, &mut vec![0; room]);
+    perform(&Plain { simple: false }, call, words, &mut vec![0; room]);
 }
 
 /// Dumps of networks that move on, with steps at any time.

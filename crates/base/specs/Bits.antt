@@ -1,10 +1,8 @@
 -- The bits of a word, and their laws, each by induction on the place of the bit: bit 0 is the lowest digit, and bit j + 1 is bit j of the half.
--- Order: a bit; digits; or, and, not; a word with one bit, and with the lowest bits; a word shifted; bits in a row; a number by its bits; in a word of 64
--- bits. Assumes nothing.
-use Rattle.std.specs.Prelude.{◌≡◌, refl, Bool, true, false, not, ◌&&◌, ◌||◌, ◌≢◌, ℕ, zero, suc, ◌+◌, ◌-◌, ◌*◌, ◌/◌, ◌%◌, ◌^◌, ◌<◌, ◌≤◌, min, max, eqb, ltb, leb}
-use Rattle.std.proofs.Common.{ap, ap₂, sym, ◌∙◌, add-zero, div-one, one-mul, mul-pos, pow-suc, mod-lt, zero-lt-suc, le_of_suc-le-suc, not-suc-le-zero, one-add, arith, le-leb, lt-ltb, le-ltb, eq-eqb, lit<, pow_pos, shr-shr, shl_exact}
-use Rattle.std.proofs.Math.Nat.{suc-le-suc_iff}
-use Rattle.std.proofs.Math.Decide.{dec_lt, ℕ_discrete}
+-- Order: a bit; digits; or, and, not; a word with one bit, and with the lowest bits; a word shifted; bits in a row; in a word of 64 bits. Assumes nothing.
+use Rattle.std.specs.Prelude.{◌≡◌, refl, Bool, true, false, not, ◌&&◌, ◌||◌, ℕ, zero, suc, ◌+◌, ◌-◌, ◌*◌, ◌/◌, ◌%◌, ◌^◌, ◌<◌, ◌≤◌, min, max, eqb, ltb, leb}
+use Rattle.std.proofs.Common.{ap, ap₂, sym, ◌∙◌, add-zero, div-one, one-mul, mul-pos, pow-suc, mod-lt, zero-lt-suc, le_of_suc-le-suc, not-suc-le-zero, one-add, arith, le-leb, lt-ltb, le-ltb, lit<, pow_pos, shr-shr, shl_exact}
+use Rattle.std.proofs.Math.Decide.{dec_lt}
 use Rattle.std.proofs.lemmas.Bool.{lt-leb}
 use Rattle.std.proofs.Math.Arith.{digits_div, digits_mod}
 use Rattle.std.specs.Int.Bits.{bit_and, bit_or, and_step, or_step, shifted_half, shifted_even}
@@ -166,27 +164,6 @@ bit-row n m j = go (dec_lt j m)
     go : Dec (j < m) → bit ((2 ^ n - 1) * 2 ^ m) j ≡ leb m j && ltb j (m + n)
     go (yes l) = shifted-below (2 ^ n - 1) m j l ∙ sym (and-stop _ _ (lt-leb m j l))
     go (no g) = from (j - m) (omega arith)
-
--- A number by its bits ------------------------------------------------------------------------------------------------------------------
-
--- one that is not 0 has a bit
-pub bit-some : (k w : ℕ) → w < 2 ^ k → w ≢ 0 → (j : ℕ) × (j < k) × (bit w j ≡ true)
-bit-some zero w l ne = absurd (ne (omega arith))
-bit-some (suc k) w l ne = go (ℕ_discrete (w % 2) 0) (λ some. bit-some k (w / 2) (let p = pow-suc 2 k in omega arith) some)
-  where
-    go : Dec (w % 2 ≡ 0) → (w / 2 ≢ 0 → (j : ℕ) × (j < k) × (bit (w / 2) j ≡ true)) → (j : ℕ) × (j < suc k) × (bit w j ≡ true)
-    go (yes e) later = let (j, h, b) = later (λ z. ne (omega arith)) in (suc j, suc-le-suc_iff.1 h, bit-suc w j ∙ b)
-    go (no odd) later = (0, zero-lt-suc k, bit-zero w ∙ eq-eqb (w % 2) 1 (omega arith))
-
--- two with the same bits are the same
-pub same_bits : (k a b : ℕ) → a < 2 ^ k → b < 2 ^ k → ((j : ℕ) → j < k → bit a j ≡ bit b j) → a ≡ b
-same_bits zero a b l m h = omega arith
-same_bits (suc k) a b l m h =
-    let p = pow-suc 2 k in
-    let high : a / 2 ≡ b / 2 =
-    same_bits k (a / 2) (b / 2) (omega arith) (omega arith) (λ j i. sym (bit-suc a j) ∙ h (suc j) (suc-le-suc_iff.1 i) ∙ bit-suc b j) in
-    let low : a % 2 ≡ b % 2 = lowest-digit a ∙ ap digit (h 0 (zero-lt-suc k)) ∙ sym (lowest-digit b) in
-    omega arith
 
 -- In a word of 64 bits -----------------------------------------------------------------------------------------------------------------
 

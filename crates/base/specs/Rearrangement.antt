@@ -1,18 +1,16 @@
 -- Lists that are rearrangements of each other: every element stands in both equally often, whatever the elements are, if they can be compared (`Discrete`).
 -- Order: how often an element stands in a list; a rearrangement; the same notion without counting, by taking the elements of one list out of the
--- other, one by one, and that the two are the same; so rearrangements have equal length, equal sums, the same holds of each of their elements, and a test of
--- each passes alike; what is made of each element, rearranged; three rows. Assumes nothing.
-use Rattle.std.specs.Prelude.{◌≡◌, ◌↔◌, ◌≢◌, Bool, length}
-use Rattle.std.proofs.Math.Path.{refl, ap, sym, subst}
-use Rattle.std.proofs.Common.{◌∙◌, length-append}
+-- other, one by one, and that the two are the same; so rearrangements have equal length, equal sums, and the same holds of each of their elements; what
+-- is made of each element, rearranged; three rows. Assumes nothing.
+use Rattle.std.specs.Prelude.{◌≡◌, ◌↔◌, ◌≢◌, length}
+use Rattle.std.proofs.Math.Path.{refl, ap, subst}
+use Rattle.std.proofs.Common.{sym, ◌∙◌, length-append}
 use mathlib.Core.HLevel.{Discrete}
 use mathlib.Core.List.{List, [], ◌∷◌, ◌++◌, map, flat_map}
 use Prim.Native.Nat.{ℕ, suc, ◌+◌, ◌≤◌}
 use Rattle.std.proofs.Math.Decide.{ℕ_discrete}
 use native.Mathlib.Omega.{arith}
-use Rattle.std.proofs.Math.Dec.{T}
-use Rattle.base.specs.Tests.{all_of, EachOf, each_within, all_of-each, each-all_of}
-use Rattle.base.specs.Bools.{same_test}
+use Rattle.base.specs.Tests.{EachOf, each_within}
 use Rattle.base.specs.Sums.{sum_of, sum_of-append}
 use Rattle.base.specs.Joins.{sum_of-map}
 
@@ -193,15 +191,6 @@ module _ {A : Type 0} (same? : Discrete A) where
       go : (xs ys : List A) → TakenOut xs ys → EachOf P xs → EachOf P ys
       go xs ys none k = tt
       go xs ys (one {x} {xs = us} before behind t) (k, ks) = each_within P x before behind k (go us (before ++ behind) t ks)
-
-  -- nor a test of each
-  pub rearranged-all : (f : A → Bool) (xs ys : List A) → Rearranged same? xs ys → all_of f xs ≡ all_of f ys
-  unfolding Rearranged
-  rearranged-all f xs ys r = same_test (all_of f xs) (all_of f ys) (over xs ys r) (over ys xs (λ a. sym (r a)))
-    where
-      over : (xs ys : List A) → Rearranged same? xs ys → T (all_of f xs) → T (all_of f ys)
-      over xs ys r t =
-          each-all_of f (λ x. T (f x)) (λ x s. s) ys (rearranged-each (λ x. T (f x)) xs ys r (all_of-each f (λ x. T (f x)) (λ x s. s) xs t))
 
 -- what is made of each element, one thing or a list of them: how often something stands there, and that it is rearranged with the elements
 module _ {A B : Type 0} (same? : Discrete B) where

@@ -1,5 +1,5 @@
--- Sums of a number for each number below n, and of a number for each element of a list. Order: the two definitions; sums over a list; equal sums; a
--- sum of sums; a change at one place; a term, small terms, and fewer terms, against the sum; a term that is not 0. Assumes nothing.
+-- Sums of a number for each number below n, and of a number for each element of a list. Order: the two definitions; sums over a list; equal sums;
+-- a change at one place; a term, small terms, and fewer terms, against the sum; a term that is not 0. Assumes nothing.
 use Rattle.std.specs.Prelude.{◌≡◌, refl, List, [], ◌∷◌, ◌++◌, ◌⊎◌, ◌≢◌, ℕ, zero, suc, ◌+◌, ◌*◌, ◌<◌, ◌≤◌, T, eqb, length, get_or, drop}
 use Rattle.std.proofs.Common.{ap, sym, ◌∙◌, inl, inr, add-one, add-zero, eq-or-lt_of_le, le_of_suc-le-suc, not-suc-le-zero, lt-suc_self, ne_of_gt, lt_irrefl, suc-mul, mul-suc, arith, eqb→eq, drop_of_length-le, drop-cons}
 use Rattle.std.proofs.Math.Decide.{ℕ_discrete}
@@ -77,12 +77,6 @@ sum_same (suc n) f g h =
     let e = sum_same n f g (λ i h'. h i (le_step h')) in
     let e' = h n (lt-suc_self n) in
     omega arith
-
--- a sum of sums
-pub sum-plus : (n : ℕ) (f g : ℕ → ℕ) → sum_below n (λ i. f i + g i) ≡ sum_below n f + sum_below n g
-unfolding sum_below
-sum-plus zero f g = refl
-sum-plus (suc n) f g = let e = sum-plus n f g in omega arith
 
 -- f and g differ at i at most: their sums differ by what they differ there
 pub sum-change : (n : ℕ) (f g : ℕ → ℕ) (i : ℕ) → i < n → ((j : ℕ) → j < n → j ≢ i → f j ≡ g j) → sum_below n f + g i ≡ sum_below n g + f i

@@ -162,17 +162,6 @@ unfolding EachOf
 each_within P x [] ys k ks = (k, ks)
 each_within P x (y ∷ xs) ys k (h, ks) = (h, each_within P x xs ys k ks)
 
--- a test of every element as a fact of each, and back
-pub all_of-each : {A : Type 0} (f : A → Bool) (P : A → Type 0) → ((x : A) → T (f x) → P x) → (xs : List A) → T (all_of f xs) → EachOf P xs
-unfolding all_of EachOf
-all_of-each f P h [] t = tt
-all_of-each f P h (x ∷ xs) t = (h x (and_l (f x) (all_of f xs) t), all_of-each f P h xs (and_r (f x) (all_of f xs) t))
-
-pub each-all_of : {A : Type 0} (f : A → Bool) (P : A → Type 0) → ((x : A) → P x → T (f x)) → (xs : List A) → EachOf P xs → T (all_of f xs)
-unfolding all_of EachOf
-each-all_of f P h [] k = tt
-each-all_of f P h (x ∷ xs) (k, ks) = and_i (f x) (all_of f xs) (h x k) (each-all_of f P h xs ks)
-
 -- the number is one of the list's
 unfoldable pub elem : ℕ → List ℕ → Bool
 elem a [] = false

@@ -1,5 +1,7 @@
 // The bench program: a sheet from standard input, its answers to standard output. What a read of the sheet does and prints, and what all reads
 // print together, is proved in the crate `session`; here is read, handed over and written, and nothing else.
+#![tactic(auto)]
+
 ghost use Rattle.std.specs.Prelude.{◌≤◌, length};
 ghost use Rattle.session.specs.Reads.{sheet, KeepsReached};
 

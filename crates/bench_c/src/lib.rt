@@ -1,13 +1,14 @@
 // The calls for C, with the signatures of include/bench.h. Each returns the number of its refusal, or 0, and writes all words of
 // `out`, 0 on a refusal. A pointer and a length are a slice here, an `out[2]` an array of two. No call asks anything of its
 // caller but what bench.h says of the memory.
+#![tactic(auto)]
+
 pub mod outs;
 
 ghost use Rattle.std.specs.Prelude.{◌≡◌, length, true, false};
 ghost use Rattle.network.specs.Sizes.{shape_of, sized};
-ghost use Rattle.network.specs.Refusals.{network_refusal, make_refusal, offer_by_refusal, offer_refusal, look_refusal};
-ghost use Rattle.network.specs.Tables.{tables_of};
-ghost use Rattle.network.specs.Calls.{make_words, offer_by_words, offer_words, move_words, move_answer, moved_number, credit_answer, credit_number, first_answer, found_number, drain_words, drain_ledger, drain_answer, drained_number};
+ghost use Rattle.network.specs.Refusals.{network_refusal, make_refusal, offer_refusal, look_refusal};
+ghost use Rattle.network.specs.Calls.{make_words, offer_words, move_words, move_answer, moved_number, credit_answer, credit_number, first_answer, found_number, drain_words, drain_ledger, drain_answer, drained_number};
 ghost use Rattle.waveform.specs.Calls.{write_answer, written_number, write_page, write_list, read_answer, read_number, read_list};
 ghost use Rattle.bench_c.specs.Outs.{moved_out, credit_out, look_out, found_out, drained_out, written_out, read_out};
 
@@ -50,25 +51,6 @@ pub extern "C" fn bench_offer(
     ensures words { words.new ≡ offer_words words.old node destination tag chunks }
 {
     calls::offer(words, node, destination, tag, chunks)
-}
-
-// given: bits 0, 1 and 2 for a table of x, of y and of z.
-#[unsafe(no_mangle)]
-pub extern "C" fn bench_offer_by(
-    words: &mut [u64],
-    node: u64,
-    destination: u64,
-    tag: u32,
-    chunks: u64,
-    given: u64,
-    x: &[u64],
-    y: &[u64],
-    z: &[u64],
-) -> u64
-    ensures answer { result ≡ offer_by_refusal words.old node destination chunks (tables_of given x.now y.now z.now) }
-    ensures words { words.new ≡ offer_by_words words.old node destination tag chunks (tables_of given x.now y.now z.now) }
-{
-    calls::offer_by(words, node, destination, tag, chunks, given, x, y, z)
 }
 
 // out: how many packets were handed out, and the packet word.

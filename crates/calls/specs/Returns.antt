@@ -1,8 +1,7 @@
 -- What each call answers and leaves, test by test: the definitions of Calls.antt at each place where the code returns. `S` are the sizes that the code
 -- has read from the words. Order: Make; Offer; Move; Credit; Look; First; Drain. Assumes nothing.
 use Rattle.std.specs.Prelude.{◌≡◌, refl, ◌≢◌, List, [], ◌++◌, map, ℕ, zero, ◌+◌, ◌-◌, ◌<◌, ◌≤◌, eqb, leb, length, take, drop}
-use Rattle.std.proofs.Math.Path.{ap, sym}
-use Rattle.std.proofs.Common.{◌∙◌, subst, arith, eq-eqb, ne_eqb, lt-ltb, le-ltb, leb-false}
+use Rattle.std.proofs.Common.{ap, sym, ◌∙◌, subst, arith, eq-eqb, ne_eqb, lt-ltb, le-ltb, leb-false}
 use mathlib.Core.Bool.{Bool, true, false, ◌||◌}
 use Rattle.std.proofs.lemmas.Bool.{eqb-false}
 use Rattle.network.specs.declared.Moved.{Moved}
@@ -15,10 +14,9 @@ use Rattle.network.specs.Layout.{shape, need, held}
 use Rattle.queue.specs.QueueOf.{QueueOf}
 use Rattle.network.specs.CheckLaws.{Network}
 use Rattle.network.specs.Routes.{deliver, free_load}
-use Rattle.network.specs.Tables.{Tables, bad_tables}
-use Rattle.network.specs.Refusals.{network_refusal, make_refusal, offer_rules, offer_by_refusal, move_rules, move_refusal, credit_rules, credit_refusal, look_rules, look_refusal, head, else_by}
+use Rattle.network.specs.Refusals.{network_refusal, make_refusal, offer_rules, offer_refusal, move_rules, move_refusal, credit_rules, credit_refusal, look_rules, look_refusal, head, else_by}
 use Rattle.network.specs.RefusalLaws.{else_by-zero, else_by-first, neither, not-refused, network-passed}
-use Rattle.network.specs.Calls.{NamedMove, Delivery, empty_network, make_words, offered_by, after_offer, offer_by_words, after_move, move_words, move_answer, credit_answer, look_part, first_move, first_answer, drain_from, drained, drain_words, drain_ledger, drain_answer}
+use Rattle.network.specs.Calls.{NamedMove, Delivery, empty_network, make_words, after_offer, offer_words, after_move, move_words, move_answer, credit_answer, look_part, first_move, first_answer, drain_from, drained, drain_words, drain_ledger, drain_answer}
 
 -- an answer, and the words that are left
 pub record AnswerAndWords {A : Type 0} (answer said : A) (words left : List ℕ) : Type 0 where
@@ -46,31 +44,26 @@ after_check S w r f z e x = else_by-zero (network_refusal w) (f (shape w)) z ∙
 
 -- Offer -------------------------------------------------------------------------------------------------------------------------------
 
-module _ (w : List ℕ) (n d c : ℕ) (tab : Tables) where
-  pub offer-refused : (t r : ℕ) → offer_by_refusal w n d c tab ≡ r → r ≢ 0 → AnswerAndWords (offer_by_refusal w n d c tab) r (offer_by_words w n d t c tab) w
-  unfolding offer_by_words
-  offer-refused t r e ne = record { says = sym e; leaves = rw (ne_eqb (offer_by_refusal w n d c tab) 0 (λ z. ne (sym e ∙ z))) }
+pub offer-refused : (w : List ℕ) (n d t c r : ℕ) → offer_refusal w n d c ≡ r → r ≢ 0 → AnswerAndWords (offer_refusal w n d c) r (offer_words w n d t c) w
+unfolding offer_words
+offer-refused w n d t c r e ne = record { says = sym e; leaves = rw (ne_eqb (offer_refusal w n d c) 0 (λ z. ne (sym e ∙ z))) }
 
-  pub offer-broken : network_refusal w ≢ 0 → offer_by_refusal w n d c tab ≡ network_refusal w
-  unfolding offer_by_refusal
-  offer-broken ne = else_by-first (network_refusal w) (offer_rules (shape w) w n d c (bad_tables (shape w) tab)) ne
+pub offer-broken : (w : List ℕ) (n d c : ℕ) → network_refusal w ≢ 0 → offer_refusal w n d c ≡ network_refusal w
+unfolding offer_refusal
+offer-broken w n d c ne = else_by-first (network_refusal w) (offer_rules (shape w) w n d c) ne
 
-  -- the tests, by what the test of the tables said
-  module _ (S : Shape) (bad : Bool) (z : network_refusal w ≡ 0) (e : S ≡ shape w) (eb : bad ≡ bad_tables S tab) where
-    pub offer-rules : offer_by_refusal w n d c tab ≡ offer_rules S w n d c bad
-    unfolding offer_by_refusal
-    offer-rules = after_check S w (offer_rules S w n d c bad) (λ T. offer_rules T w n d c (bad_tables T tab)) z e (ap (offer_rules S w n d c) (sym eb))
+pub offer-rules : (S : Shape) (w : List ℕ) (n d c : ℕ) → network_refusal w ≡ 0 → S ≡ shape w → offer_refusal w n d c ≡ offer_rules S w n d c
+unfolding offer_refusal
+offer-rules S w n d c z e = after_check S w (offer_rules S w n d c) (λ T. offer_rules T w n d c) z e refl
 
-    pub offer-taken : (t p : ℕ) → p ≡ offered_by S n d t c tab → offer_rules S w n d c bad ≡ 0
-        → AnswerAndWords (offer_by_refusal w n d c tab) 0 (offer_by_words w n d t c tab) (after_offer S w n p)
-    unfolding offer_by_words
-    offer-taken t p ep r =
-        record {
-          says = sym (offer-rules ∙ r);
-          leaves =
-              rw (eq-eqb (offer_by_refusal w n d c tab) 0 (offer-rules ∙ r))
-              (ap (after_offer S w n) ep ∙ ap (λ (T : Shape). after_offer T w n (offered_by T n d t c tab)) e);
-        }
+pub offer-taken : (S : Shape) (w : List ℕ) (n d t c : ℕ) → network_refusal w ≡ 0 → S ≡ shape w → offer_rules S w n d c ≡ 0
+    → AnswerAndWords (offer_refusal w n d c) 0 (offer_words w n d t c) (after_offer S w n d t c)
+unfolding offer_words
+offer-taken S w n d t c z e r =
+    record {
+      says = sym (offer-rules S w n d c z e ∙ r);
+      leaves = rw (eq-eqb (offer_refusal w n d c) 0 (offer-rules S w n d c z e ∙ r)) (ap (λ (T : Shape). after_offer T w n d t c) e);
+    }
 
 -- Move --------------------------------------------------------------------------------------------------------------------------------
 

@@ -2,13 +2,13 @@
 // then has written nothing; else its answer and every word are what the definitions of the crate `network` say (specs/Calls.antt). Where
 // the answer is an enum, `told` is the number and every value that it stands for (specs/Answers.antt there). All tests come first, then
 // one change that cannot fail. No call asks anything of its caller.
+#![tactic(auto)]
 
 ghost use Rattle.std.specs.Prelude.{◌≡◌, ◌≤◌, ◌-◌, length, take, drop};
 ghost use Rattle.network.specs.Sizes.{shape_of};
-ghost use Rattle.network.specs.Tables.{tables_of};
-ghost use Rattle.network.specs.Refusals.{network_refusal, make_refusal, offer_by_refusal, offer_refusal, look_refusal};
+ghost use Rattle.network.specs.Refusals.{network_refusal, make_refusal, offer_refusal, look_refusal};
 ghost use Rattle.network.specs.Answers.{MoveTells, CreditTells, FirstTells, DrainTells};
-ghost use Rattle.network.specs.Calls.{make_words, offer_by_words, offer_words, move_words, move_answer, credit_answer, look_part, first_answer, drain_words, drain_ledger, drain_answer};
+ghost use Rattle.network.specs.Calls.{make_words, offer_words, move_words, move_answer, credit_answer, look_part, first_answer, drain_words, drain_ledger, drain_answer};
 ghost use Rattle.calls.specs.Place.{word_at, LookPlace};
 
 use checker::Opened;
@@ -41,46 +41,15 @@ pub fn offer(words: &mut [u64], node: u64, destination: u64, tag: u32, chunks: u
     ensures answer { result ≡ offer_refusal words.old node destination chunks }
     ensures words { words.new ≡ offer_words words.old node destination tag chunks }
 {
-    let none = [0; 1];
-    offer_by(
-        words,
-        node,
-        destination,
-        tag,
-        chunks,
-        0,
-        &none,
-        &none,
-        &none,
-    )
-}
-
-// The same with tables (R626): bits 0, 1 and 2 of given say for which of x, y and z one is given. Any words may be lent as tables.
-pub fn offer_by(
-    words: &mut [u64],
-    node: u64,
-    destination: u64,
-    tag: u32,
-    chunks: u64,
-    given: u64,
-    x: &[u64],
-    y: &[u64],
-    z: &[u64],
-) -> u64
-    ensures answer { result ≡ offer_by_refusal words.old node destination chunks (tables_of given x.now y.now z.now) }
-    ensures words { words.new ≡ offer_by_words words.old node destination tag chunks (tables_of given x.now y.now z.now) }
-{
     let opened = checker::open(words);
     match opened {
         Opened::Refused(refusal) => refusal,
         Opened::Network(s) => {
-            let bad = tables::bad_tables(s, given, x, y, z);
-            let refusal = rules::offer_rules(words, s, node, destination, chunks, bad);
+            let refusal = rules::offer_rules(words, s, node, destination, chunks);
             if refusal != 0 {
                 return refusal;
             }
-            let p = tables::offered(s, node, destination, tag, chunks, given, x, y, z);
-            changes::accept(words, s, node, p);
+            changes::accept(words, s, node, destination, tag, chunks);
             0
         }
     }

@@ -18,7 +18,7 @@ use Rattle.network.specs.CheckLaws.{Network}
 use Rattle.network.specs.Routes.{deliver, target}
 use Rattle.network.specs.Refusals.{head}
 use Rattle.network.specs.RefusalLaws.{Permitted}
-use Rattle.network.specs.Calls.{empty_header, empty_network, after_offer, head_leaves, packet_arrives, after_move}
+use Rattle.network.specs.Calls.{empty_header, empty_network, offered, after_offer, head_leaves, packet_arrives, after_move}
 use Rattle.network.specs.SameWords.{stored-few, network-stored}
 use Rattle.network.specs.AfterLaws.{Ahead, ahead}
 use Rattle.queue.specs.Queue.{CheckedQueue}
@@ -98,9 +98,11 @@ arrives-may S w v n q p at e fits room h may = subst (λ (l : List ℕ). Raisabl
     few : length (held S w n q ++ (p ∷ [])) ≤ capacity S q
     few = let a = length-append (held S w n q) (p ∷ []) in omega arith
 
-pub offered-words : (S : Shape) (w v u : List ℕ) (n p : ℕ) → v ≡ packet_arrives S w n injection_queue p → u ≡ raised accepted_at v → u ≡ after_offer S w n p
+pub offered-words : (S : Shape) (w v u : List ℕ) (n dest tag chunks p : ℕ) → p ≡ offered S n dest tag chunks → v ≡ packet_arrives S w n injection_queue p
+    → u ≡ raised accepted_at v → u ≡ after_offer S w n dest tag chunks
 unfolding after_offer packet_arrives
-offered-words S w v u n p ev eu = eu ∙ ap (raised accepted_at) ev
+offered-words S w v u n dest tag chunks p ep ev eu =
+    eu ∙ ap (raised accepted_at) (ev ∙ ap (λ (k : ℕ). put_queue S w n injection_queue (held S w n injection_queue ++ (k ∷ []))) ep)
 
 -- A move --------------------------------------------------------------------------------------------------------------------------------
 

@@ -1,8 +1,10 @@
 // The changes that Make, Offer and Move make to the lent words once no rule refuses them. None of them can fail: what each
 // asks is what the tests before it have shown. Every function leaves exactly the words of the definition that it names.
+#![tactic(auto)]
+
 ghost use Rattle.std.specs.Prelude.{◌≡◌, ◌++◌, ◌≢◌, ◌-◌, ◌^◌, ◌<◌, ◌≤◌, T};
 ghost use lib.ListN.{length, get_or, drop};
-ghost use Rattle.network.specs.Sizes.{shape_of, sizes_in_range, nodes, capacity, injection_queue};
+ghost use Rattle.network.specs.Sizes.{shape_of, sizes_in_range, nodes, capacity, injection_queue, most_chunks};
 ghost use Rattle.network.specs.Routes.{deliver, target};
 ghost use Rattle.network.specs.Layout.{need, held, raised};
 ghost use Rattle.network.specs.CheckLaws.{Network};
@@ -50,13 +52,16 @@ pub fn write_empty(words: &mut [u64], s: Sizes)
     words[5] = s.injection;
 }
 
-// Offer: packet p becomes the newest of the node's injection queue, which has a free slot, and accepted rises by one.
-pub fn accept(words: &mut [u64], s: Sizes, n: u64, p: u64)
+// Offer: the packet becomes the newest of the node's injection queue, which has a free slot, and accepted rises by one.
+pub fn accept(words: &mut [u64], s: Sizes, n: u64, destination: u64, tag: u32, chunks: u64)
     requires network { Network (shape_of s) words.old }
     requires n_bound { n < nodes (shape_of s) }
+    requires destination_bound { destination < nodes (shape_of s) }
+    requires le_chunks { (1 ≤ chunks) × (chunks ≤ most_chunks) }
     requires injection_queue_len_bound { length (held (shape_of s) words.old n injection_queue) < capacity (shape_of s) injection_queue }
-    ensures { words.new ≡ after_offer (shape_of s) words.old n p }
+    ensures { words.new ≡ after_offer (shape_of s) words.old n destination tag chunks }
 {
+    let p = packet::offered(s, n, destination, tag, chunks);
     queue::push(words, s, n, INJECTION_QUEUE, p);
     raise(words, ACCEPTED_AT);
 }

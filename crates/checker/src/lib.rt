@@ -1,6 +1,8 @@
 // The call Check: are these words a network, and if not, which test refuses them. Every other call that is lent words, but for Make, makes these tests first.
 // Order: the refusal; the words opened; the sizes; the clauses of the check; the counters. The queues' clauses are in the crate `queue_check`,
 // a packet's in `packet_check`, the rings' in `ring_check`.
+#![tactic(auto)]
+
 ghost use Rattle.std.specs.Prelude.{◌≡◌, ◌≤◌, length};
 ghost use Rattle.base.specs.Tests.{all_of};
 ghost use Rattle.network.specs.Sizes.{Shape, shape_of, within, largest_ring, sizes_in_range};

@@ -1,4 +1,6 @@
 // A Drain of a network: turn after turn until one stops, with the set of heads and the tables of neighbours and of loads that the turns use.
+#![tactic(auto)]
+
 ghost use Rattle.std.specs.Prelude.{◌*◌, ◌≤◌, length};
 ghost use Rattle.network.specs.Sizes.{shape_of, nodes, directions};
 ghost use Rattle.network.specs.CheckLaws.{Network};

@@ -1,5 +1,7 @@
 // One step of a dump read (R415 to R420). All of it is parsed first, then the list of fills is brought up to date; a step that is refused leaves the list
 // as it was. Order: a field; a time stamp; a value; values one after another; the names of a header, and its values; the two kinds of step; the call.
+#![tactic(auto)]
+
 ghost use Rattle.std.specs.Prelude.{◌≡◌, cond, ◌<◌, ◌≤◌, eqb, length, get_or, drop};
 ghost use Rattle.waveform.specs.Dump.{most_variables, variable_line};
 ghost use Rattle.waveform.specs.Reading.{starts_with, read_stamp, value_run, needed, read_names, tells_all, applied};

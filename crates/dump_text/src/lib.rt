@@ -1,4 +1,6 @@
 // The lines of a dump (R402 to R405), written into a lent page, and how long they are; the caller sees that there is room. And bytes compared.
+#![tactic(auto)]
+
 ghost use Rattle.std.specs.Prelude.{◌≡◌, ◌<◌, ◌≤◌, length, drop};
 ghost use Rattle.sheet.specs.Output.{Room, Put};
 ghost use Rattle.waveform.specs.Dump.{variable_line, stamp_line, value_line};

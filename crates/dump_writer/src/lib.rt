@@ -1,5 +1,7 @@
 // A step of a dump written onto a lent page (R411 to R414), with the list of fills brought up to date. The length of the step is found first, so that a page
 // or a list that is too short is refused before anything is written. Order: the fills of a network; how long a step is; a step put; the calls.
+#![tactic(auto)]
+
 ghost use Rattle.std.specs.Prelude.{◌≡◌, true, false, not, ◌||◌, ◌++◌, ◌<◌, ◌≤◌, eqb, length, drop};
 ghost use Rattle.network.specs.Sizes.{shape_of, nodes};
 ghost use Rattle.network.specs.Layout.{queue_start, moves_made};

@@ -1,5 +1,7 @@
 // The fields of a line that is printed, and its end, written into a lent buffer. Each function puts bytes at a place and gives the place
 // behind them; the caller sees that there is room.
+#![tactic(auto)]
+
 ghost use Rattle.std.specs.Prelude.{◌≤◌, length, ◌≡◌, [], ◌∷◌};
 ghost use Rattle.sheet.specs.Text.{comma, cr, lf};
 ghost use Rattle.sheet.specs.Output.{numeral, decimal, fields_and_end, stop_word, Room, Put};

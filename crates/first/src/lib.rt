@@ -1,5 +1,7 @@
 // The search of First (R123), on words that have passed the check: node by node, queue by queue, and by the routes of each head. Every
 // function equals the definition of its name in the crate `network` (specs/Calls.antt).
+#![tactic(auto)]
+
 ghost use Rattle.std.specs.Prelude.{◌≡◌};
 ghost use Rattle.network.specs.Sizes.{shape_of};
 ghost use Rattle.network.specs.CheckLaws.{Network};

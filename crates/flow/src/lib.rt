@@ -1,5 +1,7 @@
 // The flow rule (R150 to R152), on words that have passed the check: the target of an output, how much of it is free, and how much a move needs. The
 // contracts say each answer by the definitions of the crate `network` (specs/Routes.antt, Refusals.antt).
+#![tactic(auto)]
+
 ghost use Rattle.std.specs.Prelude.{◌≡◌, ◌<◌, eqb, T};
 ghost use Rattle.network.specs.Routes.{target, free_load, load_needed};
 ghost use Rattle.network.specs.Refusals.{flow_rules};

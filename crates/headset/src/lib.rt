@@ -3,6 +3,8 @@
 // is the index of words 1 to 64, and these of the words behind them, which hold the heads: head h is bit FIRST_HEAD + h. The lowest head is found
 // with three counts of trailing zeros. Order: all heads of the nodes below a number; one head in, the heads of one node in, one head out; the lowest
 // head, and the lowest one out; one bit.
+#![tactic(auto)]
+
 ghost use Rattle.std.specs.Prelude.{◌≡◌, true, false, ◌<◌, ◌≤◌, ◌/◌, eqb, length, get_or, replicate};
 ghost use Rattle.network.specs.Sizes.{most_nodes};
 ghost use Rattle.headset.specs.Set.{heads, set_words, IsSet, BitPut, HeadsBelow, United, Inserted, NodeInserted, Removed, LowestBit, LowestMember};

@@ -1,6 +1,8 @@
 // Input cut into lines, a byte at a time, so that it does not matter how the bytes come: specs/Cuts.antt of the crate `sheet` proves that
 // the lines are those of the whole input. A buffer that the caller lends holds the bytes since the last end: those of the longest line,
 // and one more, since a CR may belong to the end that is still to come.
+#![tactic(auto)]
+
 ghost use Rattle.std.specs.Prelude.{◌≡◌, ◌≤◌, length};
 ghost use Rattle.sheet.specs.Cutting.{held_bytes, ended_answer, ByteFed, finished_answer};
 

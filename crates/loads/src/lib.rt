@@ -1,6 +1,8 @@
 // A table of loads, for a search that asks for them again and again: entry DIRECTIONS * n + d is how much is taken of the adaptive queue of node n in direction
 // d, a byte for the chunks of all its packets. The caller lends it, with an entry for each direction of each node at least. It is filled from
 // the words once, and each move changes two entries at most.
+#![tactic(auto)]
+
 ghost use Rattle.std.specs.Prelude.{◌≡◌, true, ◌≢◌, ◌+◌, ◌*◌, ◌-◌, ◌^◌, ◌<◌, ◌≤◌, length, get_or};
 ghost use Rattle.network.specs.Sizes.{shape_of, directions, nodes, most_nodes, is_adaptive};
 ghost use Rattle.network.specs.Layout.{taken};

@@ -1,5 +1,7 @@
 // A table of neighbours, for a search that asks for them again and again: entry DIRECTIONS * n + d is the neighbour of node n in direction d. The caller
 // lends it, with an entry for each direction of each node at least. It is filled without a division.
+#![tactic(auto)]
+
 ghost use Rattle.std.specs.Prelude.{◌≡◌, ◌+◌, ◌*◌, ◌<◌, ◌≤◌, T, length};
 ghost use Rattle.network.specs.Sizes.{Shape, shape_of, sizes_in_range, directions, dimension_of, nodes, most_nodes};
 ghost use Rattle.network.specs.Torus.{coordinate, neighbour};

@@ -20,7 +20,7 @@ use Rattle.network.specs.Routes.{deliver, target}
 use Rattle.network.specs.RoutesLaws.{Onward, route-of}
 use Rattle.network.specs.Refusals.{head}
 use Rattle.network.specs.RefusalLaws.{Permitted, target-takes}
-use Rattle.network.specs.Calls.{after_offer, head_leaves, packet_arrives, after_move}
+use Rattle.network.specs.Calls.{offered, after_offer, head_leaves, packet_arrives, after_move}
 
 -- A queue replaced, a counter raised ------------------------------------------------------------------------------------------------------
 
@@ -354,10 +354,11 @@ pub record OfferTaken (S : Shape) (w v : List ℕ) (n p : ℕ) : Type 0 where
   pub kept : LayoutKept S w v
 
 -- where the injection queue has a free slot
-pub offer-taken : (S : Shape) (w : List ℕ) (n p : ℕ) → QueuesStored S w → n < nodes S
-    → length (held S w n injection_queue) < capacity S injection_queue → OfferTaken S w (after_offer S w n p) n p
+pub offer-taken : (S : Shape) (w : List ℕ) (n dest tag chunks : ℕ) → QueuesStored S w → n < nodes S
+    → length (held S w n injection_queue) < capacity S injection_queue
+    → OfferTaken S w (after_offer S w n dest tag chunks) n (offered S n dest tag chunks)
 unfolding after_offer accepted delivered moves_made
-offer-taken S w n p s hn room =
+offer-taken S w n dest tag chunks s hn room =
     record {
       newest = B.queue n injection_queue ∙ A.here;
       others = λ m r hm hr ne. B.queue m r ∙ A.others m r hm hr ne;
@@ -367,6 +368,9 @@ offer-taken S w n p s hn room =
       kept = kept_then A.kept B.kept;
     }
   where
+    p : ℕ
+    p = offered S n dest tag chunks
+
     joined : List ℕ
     joined = held S w n injection_queue ++ (p ∷ [])
 

@@ -18,10 +18,9 @@ use Rattle.network.specs.CheckLaws.{Network}
 use Rattle.network.specs.SameWords.{network-stored, SameQueues, same_nodes, same-header}
 use Rattle.network.specs.Routes.{target, free_load, deliver}
 use Rattle.network.specs.RoutesLaws.{free-load-is}
-use Rattle.network.specs.Tables.{Tables, bad_tables}
-use Rattle.network.specs.Refusals.{network_refusal, make_refusal, offer_rules, offer_by_refusal, move_rules, move_refusal, credit_rules, credit_refusal}
+use Rattle.network.specs.Refusals.{network_refusal, make_refusal, offer_rules, offer_refusal, move_rules, move_refusal, credit_rules, credit_refusal}
 use Rattle.network.specs.RefusalLaws.{not-refused, neither, network-passed, permitted-of}
-use Rattle.network.specs.Calls.{empty_header, empty_network, make_words, offered_by, after_offer, offer_by_words, move_words, credit_answer, credit_number, credit_free}
+use Rattle.network.specs.Calls.{empty_header, empty_network, make_words, offered, after_offer, offer_words, move_words, credit_answer, credit_number, credit_free}
 use Rattle.network.specs.Answers.{credit-tells}
 use Rattle.network.specs.AfterLaws.{hopped, MoveMade, move-made, OfferTaken, offer-taken}
 
@@ -45,31 +44,27 @@ neither-of : (a b : Bool) → a || b ≡ false → (a ≡ false) × (b ≡ false
 neither-of true b e = absurd (mathlib.Core.Bool.true≢false e)
 neither-of false b e = (refl, e)
 
-pub accepting : (S : Shape) (w : List ℕ) (n dest chunks : ℕ) (bad : Bool) → Network S w → offer_rules S w n dest chunks bad ≡ 0
-    → Accepting S w n dest chunks × (bad ≡ false)
+pub accepting : (S : Shape) (w : List ℕ) (n dest chunks : ℕ) → Network S w → offer_rules S w n dest chunks ≡ 0 → Accepting S w n dest chunks
 unfolding offer_rules
-accepting S w n dest chunks bad N e =
+accepting S w n dest chunks N e =
     let (a, e₁) = not-refused (leb (nodes S) n || leb (nodes S) dest) 3 _ e in
     let (k, e₂) = not-refused (not (within 1 most_chunks chunks)) 1 _ e₁ in
     let (o, e₃) = not-refused (eqb n dest) 13 _ e₂ in
-    let (good, e₄) = not-refused bad 15 _ e₃ in
-    let (b, e₅) = not-refused (eqb (accepted w) most_accepted) 7 _ e₄ in
-    let (c, e₆) = not-refused (eqb (taken S w n injection_queue) (capacity S injection_queue)) 6 _ e₅ in
+    let (b, e₄) = not-refused (eqb (accepted w) most_accepted) 7 _ e₃ in
+    let (c, e₅) = not-refused (eqb (taken S w n injection_queue) (capacity S injection_queue)) 6 _ e₄ in
     let (x, y) = neither-of (leb (nodes S) n) (leb (nodes S) dest) a in
     let hn : n < nodes S = leb-false (nodes S) n x in
     let spent : accepted w ≢ most_accepted = eqb-false (accepted w) most_accepted b in
     let full : taken S w n injection_queue ≢ capacity S injection_queue = eqb-false (taken S w n injection_queue) (capacity S injection_queue) c in
     let most : accepted w ≤ most_accepted = N.few-accepted in
-    let light : taken S w n injection_queue ≤ capacity S injection_queue = (N.queue n injection_queue hn (omega arith)).light in (
-      record {
-        node = hn;
-        addressed = leb-false (nodes S) dest y;
-        right = passed (within 1 most_chunks chunks) k;
-        fewer = omega arith;
-        free = omega arith;
-      },
-      good,
-    )
+    let light : taken S w n injection_queue ≤ capacity S injection_queue = (N.queue n injection_queue hn (omega arith)).light in
+    record {
+      node = hn;
+      addressed = leb-false (nodes S) dest y;
+      right = passed (within 1 most_chunks chunks) k;
+      fewer = omega arith;
+      free = omega arith;
+    }
   where
     passed : (b : Bool) → not b ≡ false → T b
     passed true e = tt
@@ -79,35 +74,22 @@ pub few-chunks : {S : Shape} {w : List ℕ} {n dest chunks : ℕ} → Accepting 
 few-chunks {chunks} A = (between-of 1 most_chunks chunks A.right).high
 
 -- what such an offer does
-pub accepted-taken : (S : Shape) (w : List ℕ) (n dest chunks p : ℕ) → Network S w → Accepting S w n dest chunks → OfferTaken S w (after_offer S w n p) n p
-accepted-taken S w n dest chunks p N A =
+pub accepted-taken : (S : Shape) (w : List ℕ) (n dest tag chunks : ℕ) → Network S w → Accepting S w n dest chunks
+    → OfferTaken S w (after_offer S w n dest tag chunks) n (offered S n dest tag chunks)
+accepted-taken S w n dest tag chunks N A =
     let e = taken-length S w n injection_queue refl in
     let l = A.free in
-    offer-taken S w n p (network-stored S w N) A.node (omega arith)
+    offer-taken S w n dest tag chunks (network-stored S w N) A.node (omega arith)
 
 -- The calls that are not refused ----------------------------------------------------------------------------------------------------------
 
--- an offer that is taken: the words are a network, it has what it needs, and no table is bad
-pub record OfferPassed (w : List ℕ) (n dest chunks : ℕ) (t : Tables) : Type 0 where
-  pub network : network_refusal w ≡ 0
-  pub needs : Accepting (shape w) w n dest chunks
-  pub good : bad_tables (shape w) t ≡ false
-  pub rules : offer_rules (shape w) w n dest chunks (bad_tables (shape w) t) ≡ 0
-
-pub offer-passed : (w : List ℕ) (n dest chunks : ℕ) (t : Tables) → offer_by_refusal w n dest chunks t ≡ 0 → OfferPassed w n dest chunks t
-unfolding offer_by_refusal
-offer-passed w n dest chunks t e =
-    let (network, rules) = neither (network_refusal w) (offer_rules (shape w) w n dest chunks (bad_tables (shape w) t)) e in
-    let (needs, good) = accepting (shape w) w n dest chunks (bad_tables (shape w) t) (network-passed w network) rules in
-    record { network = network; needs = needs; good = good; rules = rules }
-
-pub offer-call : (w : List ℕ) (n dest tag chunks : ℕ) (t : Tables) → offer_by_refusal w n dest chunks t ≡ 0
-    → OfferTaken (shape w) w (offer_by_words w n dest tag chunks t) n (offered_by (shape w) n dest tag chunks t)
-unfolding offer_by_words
-offer-call w n dest tag chunks t e =
-    let P = offer-passed w n dest chunks t e in
-    rw (eq-eqb (offer_by_refusal w n dest chunks t) 0 e)
-    (accepted-taken (shape w) w n dest chunks (offered_by (shape w) n dest tag chunks t) (network-passed w P.network) P.needs)
+pub offer-call : (w : List ℕ) (n dest tag chunks : ℕ) → offer_refusal w n dest chunks ≡ 0
+    → OfferTaken (shape w) w (offer_words w n dest tag chunks) n (offered (shape w) n dest tag chunks)
+unfolding offer_words offer_refusal
+offer-call w n dest tag chunks e =
+    let (network, rules) = neither (network_refusal w) (offer_rules (shape w) w n dest chunks) e in
+    let N : Network (shape w) w = network-passed w network in
+    rw (eq-eqb (offer_refusal w n dest chunks) 0 e) (accepted-taken (shape w) w n dest tag chunks N (accepting (shape w) w n dest chunks N rules))
 
 pub move-call : (w : List ℕ) (n q o : ℕ) → move_refusal w n q o ≡ 0 → MoveMade (shape w) w (move_words w n q o) n q o
 unfolding move_words move_refusal
@@ -117,10 +99,9 @@ move-call w n q o e =
     rw (eq-eqb (move_refusal w n q o) 0 e) (move-made (shape w) w n q o (torus w N) N (permitted-of (shape w) w n q o rules))
 
 -- R101, R108, R109: a queue is first in, first out: what joins it stands behind all that it held, and what leaves it stood in front
-pub offered-behind : (w : List ℕ) (n dest tag chunks : ℕ) (t : Tables) → offer_by_refusal w n dest chunks t ≡ 0
-    → held (shape w) (offer_by_words w n dest tag chunks t) n injection_queue
-    ≡ held (shape w) w n injection_queue ++ (offered_by (shape w) n dest tag chunks t ∷ [])
-offered-behind w n dest tag chunks t e = (offer-call w n dest tag chunks t e).newest
+pub offered-behind : (w : List ℕ) (n dest tag chunks : ℕ) → offer_refusal w n dest chunks ≡ 0
+    → held (shape w) (offer_words w n dest tag chunks) n injection_queue ≡ held (shape w) w n injection_queue ++ (offered (shape w) n dest tag chunks ∷ [])
+offered-behind w n dest tag chunks e = (offer-call w n dest tag chunks e).newest
 
 pub arrived-behind : (w : List ℕ) (n q o : ℕ) → move_refusal w n q o ≡ 0 → o ≢ deliver
     → held (shape w) (move_words w n q o) (target (shape w) n o) o ≡ held (shape w) w (target (shape w) n o) o ++ (hopped (shape w) w n q o ∷ [])
@@ -151,13 +132,13 @@ make-rest S w all-dimensions = go (ℕ_discrete (make_refusal S w) 0)
     go (yes e) = rw (eq-eqb (make_refusal S w) 0 e) (drop_at (empty_network S) (drop (need S) w) (need S) (empty-length S all-dimensions))
     go (no ne) = rw (ne_eqb (make_refusal S w) 0 ne) refl
 
-pub offer-rest : (w : List ℕ) (n dest tag chunks : ℕ) (t : Tables) → drop (need (shape w)) (offer_by_words w n dest tag chunks t) ≡ drop (need (shape w)) w
-unfolding offer_by_words
-offer-rest w n dest tag chunks t = go (ℕ_discrete (offer_by_refusal w n dest chunks t) 0)
+pub offer-rest : (w : List ℕ) (n dest tag chunks : ℕ) → drop (need (shape w)) (offer_words w n dest tag chunks) ≡ drop (need (shape w)) w
+unfolding offer_words
+offer-rest w n dest tag chunks = go (ℕ_discrete (offer_refusal w n dest chunks) 0)
   where
-    go : Dec (offer_by_refusal w n dest chunks t ≡ 0) → drop (need (shape w)) (offer_by_words w n dest tag chunks t) ≡ drop (need (shape w)) w
-    go (yes e) = (offer-call w n dest tag chunks t e).kept.rest
-    go (no ne) = rw (ne_eqb (offer_by_refusal w n dest chunks t) 0 ne) refl
+    go : Dec (offer_refusal w n dest chunks ≡ 0) → drop (need (shape w)) (offer_words w n dest tag chunks) ≡ drop (need (shape w)) w
+    go (yes e) = (offer-call w n dest tag chunks e).kept.rest
+    go (no ne) = rw (ne_eqb (offer_refusal w n dest chunks) 0 ne) refl
 
 -- What Credit tells -----------------------------------------------------------------------------------------------------------------------
 

@@ -12,8 +12,7 @@ use Rattle.network.specs.Torus.{coordinate}
 use Rattle.network.specs.Layout.{shape, need, node_words, queue_start, held, put_queue, raised, accepted_at, delivered_at, moves_at}
 use Rattle.network.specs.Check.{packets_held}
 use Rattle.network.specs.Routes.{routes, target, free_load, deliver}
-use Rattle.network.specs.Tables.{Tables, no_tables, is_given, table_of, rows_of, table_way}
-use Rattle.network.specs.Refusals.{network_refusal, make_refusal, offer_by_refusal, move_refusal, move_rules, credit_refusal, look_refusal, head}
+use Rattle.network.specs.Refusals.{network_refusal, make_refusal, offer_refusal, move_refusal, move_rules, credit_refusal, look_refusal, head}
 
 -- R190 to R194, what a call leaves or tells, by its refusal: `before` where it is refused, words as they were or no value, else `after`
 abbrev pub unless_refused : {A : Type 0} → ℕ → A → A → A
@@ -37,36 +36,26 @@ make_words S w = unless_refused (make_refusal S w) (empty_network S ++ drop (nee
 
 -- Offer -------------------------------------------------------------------------------------------------------------------------------
 
--- R66 to R68, R625, in each dimension i: the steps from node n to the destination, going plus; and the offset of an offer, by the table that is given for it,
--- else by the shorter way, half-way round by n's own coordinate
+-- R66 to R68, in each dimension i: the steps from node n to the destination, going plus; and the offset of an offer, by the shorter way, half-way round
+-- by n's own coordinate
 abbrev pub offered_steps : Shape → ℕ → ℕ → ℕ → ℕ
 offered_steps S n destination i = steps_ahead (size S i) (coordinate S i n) (coordinate S i destination)
 
-abbrev pub default_way : Shape → ℕ → ℕ → ℕ → ℤ
-default_way S n destination i = shorter_way (size S i) (offered_steps S n destination i) (coordinate S i n)
+abbrev pub offered_way : Shape → ℕ → ℕ → ℕ → ℤ
+offered_way S n destination i = shorter_way (size S i) (offered_steps S n destination i) (coordinate S i n)
 
-abbrev pub offered_way : Shape → ℕ → ℕ → Tables → ℕ → ℤ
-offered_way S n destination t i =
-    cond (is_given t i) (table_way (size S i) (offered_steps S n destination i) (rows_of (table_of t i))) (default_way S n destination i)
+-- R60: the packet of an offer
+unfoldable pub offered : Shape → ℕ → ℕ → ℕ → ℕ → ℕ
+offered S n destination tag chunks = packet_word tag chunks destination (offered_way S n destination)
 
--- R60: the packet of an offer that is given tables
-unfoldable pub offered_by : Shape → ℕ → ℕ → ℕ → ℕ → Tables → ℕ
-offered_by S n destination tag chunks t = packet_word tag chunks destination (offered_way S n destination t)
+-- R101, R102
+unfoldable pub after_offer : Shape → List ℕ → ℕ → ℕ → ℕ → ℕ → List ℕ
+after_offer S w n destination tag chunks =
+    raised accepted_at (put_queue S w n injection_queue (held S w n injection_queue ++ (offered S n destination tag chunks ∷ [])))
 
--- R101, R102: a packet joins the injection queue as its newest
-unfoldable pub after_offer : Shape → List ℕ → ℕ → ℕ → List ℕ
-after_offer S w n p = raised accepted_at (put_queue S w n injection_queue (held S w n injection_queue ++ (p ∷ [])))
-
-unfoldable pub offer_by_words : List ℕ → ℕ → ℕ → ℕ → ℕ → Tables → List ℕ
-offer_by_words w n destination tag chunks t =
-    unless_refused (offer_by_refusal w n destination chunks t) (after_offer (shape w) w n (offered_by (shape w) n destination tag chunks t)) w
-
--- R100: an offer that is given none
-abbrev pub offered : Shape → ℕ → ℕ → ℕ → ℕ → ℕ
-offered S n destination tag chunks = offered_by S n destination tag chunks no_tables
-
-abbrev pub offer_words : List ℕ → ℕ → ℕ → ℕ → ℕ → List ℕ
-offer_words w n destination tag chunks = offer_by_words w n destination tag chunks no_tables
+unfoldable pub offer_words : List ℕ → ℕ → ℕ → ℕ → ℕ → List ℕ
+offer_words w n destination tag chunks =
+    unless_refused (offer_refusal w n destination chunks) (after_offer (shape w) w n destination tag chunks) w
 
 -- Move --------------------------------------------------------------------------------------------------------------------------------
 

@@ -28,24 +28,21 @@ use Rattle.network.specs.Packet.{signed, tag, destination, chunks, spare, upper_
 use Rattle.network.specs.Torus.{coordinate, along, neighbour}
 use Rattle.network.specs.Layout.{header_words, shape, accepted_at, delivered_at, moves_at, need, queue_part, count_of, packets_of, held}
 use Rattle.network.specs.LayoutLaws.{header-long, load-escape}
-use Rattle.network.specs.Check.{is_queue_of, packet_fits, queues_fit, ring_has_room, rings_have_room, packets_held, counters_fit, is_network}
+use Rattle.network.specs.Check.{packet_fits, queues_fit, ring_has_room, rings_have_room, packets_held, counters_fit, is_network}
 use Rattle.network.specs.Routes.{deliver, in_order, routes, target, free_load}
 use Rattle.network.specs.Selection.{selected}
 use Rattle.network.specs.SelectionLaws.{selection-routes}
-use Rattle.network.specs.Tables.{no_tables, bad_tables}
-use Rattle.network.specs.TablesLaws.{given-none, bad-none}
-use Rattle.network.specs.Refusals.{refuse, no_route, no_slot, no_bubble, network_refusal, make_refusal, offer_rules, offer_by_refusal, offer_refusal, head, flow_rules, move_rules, move_refusal, credit_refusal, look_refusal}
-use Rattle.network.specs.Calls.{Progress, move_of, offered_steps, offered, after_offer, offer_by_words, offer_words, move_words, move_answer, first_answer, stopped, drain_from, drained, drain_ledger, drain_answer}
+use Rattle.network.specs.Refusals.{refuse, no_route, no_slot, no_bubble, network_refusal, make_refusal, offer_rules, offer_refusal, head, flow_rules, move_rules, move_refusal, credit_refusal, look_refusal}
+use Rattle.network.specs.Calls.{Progress, move_of, offered_steps, offered, after_offer, offer_words, move_words, move_answer, first_answer, stopped, drain_from, drained, drain_ledger, drain_answer}
 use Rattle.network.specs.PacketLaws.{hops-hop-le, arrived-distance, spare-is, upper_spare-is}
 use Rattle.network.specs.TorusLaws.{Torus, size-pos, along-lt, in_range-torus, in_range-size, in_range-nodes, sizes-torus}
 use Rattle.network.specs.OfferLaws.{ShortRings, offset-nearer, offset-halfway}
-use Rattle.network.specs.CheckLaws.{Network, PacketFits, packet-of, reach-least, either-way-fits, one-way-fits, own-fits, Loaded, queue-loaded, network_clauses, network-of, has-room-held}
+use Rattle.network.specs.CheckLaws.{Network, PacketFits, packet-of, reach-least, halfway-fits, own-fits, Loaded, queue-loaded, network_clauses, network-of, has-room-held}
 use Rattle.network.specs.RoutesLaws.{Onward, route-of, arrived-route, free-load-held, needed-escape}
 use Rattle.network.specs.RefusalLaws.{else_by-zero, network-passed, network-passes, chunks-exactly, own-node-exactly, no-node-first, permitted-by}
 use Rattle.network.specs.ByHand.{packet, here, straight, of_chunks, empty, holding, only, chosen, definitions}
 use Rattle.network.specs.Rows.{KeptRows, kept_rows}
 use Rattle.network.specs.TogetherRows.{TogetherRows, together_rows}
-use Rattle.network.specs.TablesRows.{TablesRows, tables_rows}
 
 -- the offset of one hop in direction d
 abbrev one_way : ℕ → ℤ
@@ -360,14 +357,10 @@ pub record KeptCases : Type 0 where
       × (held four-by-two (move_words (move_words against-parity 0 0 4) 4 4 2) 7 2 ≡ packet 6 (negsuc 0) (pos 0) (pos 0) ∷ [])
   -- any packet: no hop adds hops left in any direction
   pub k3-held-every : (i d p : ℕ) → i < dimensions → d < directions → hops d (hop i p) ≤ hops d p
-  -- any sizes, node, queue and packet, with a hops plus or the rest of the round minus, so half-way round too: in the injection queue and in the queues of the
-  -- other dimensions the check judges both ways alike; in a queue of that dimension it lets one of them pass at most
-  pub k3-fits-every : (w : List ℕ) (n q i a p : ℕ) → T (sizes_in_range (shape w)) → n < nodes (shape w) → i < dimensions
-      → 0 < a → a < size (shape w) i
-      → (T (not (is_queue_of i q))
-      → packet_fits (shape w) n q (with_offset i (pos a) p) ≡ packet_fits (shape w) n q (with_offset i (negsuc (size (shape w) i - a - 1)) p))
-      × (T (is_queue_of i q)
-      → packet_fits (shape w) n q (with_offset i (pos a) p) && packet_fits (shape w) n q (with_offset i (negsuc (size (shape w) i - a - 1)) p) ≡ false)
+  -- any sizes, node, queue and packet: half-way round the check judges both signs alike
+  pub k3-fits-every : (w : List ℕ) (n q i h p : ℕ) → T (sizes_in_range (shape w)) → n < nodes (shape w) → i < dimensions
+      → 2 * h ≡ size (shape w) i
+      → packet_fits (shape w) n q (with_offset i (pos h) p) ≡ packet_fits (shape w) n q (with_offset i (negsuc (h - 1)) p)
   -- from node 0 to node 11, dx and dy negative
   pub k4 : Offered four-by-three 0 11 0 1 753632
   -- the rows K5 to K7 go through these queues, for x+, x−, y+, y−, z+ and z− (directions 0 to 5): the ring's own, then the injection queue, the adaptive
@@ -486,13 +479,13 @@ pub record KeptCases : Type 0 where
   pub spare-bit : map (λ bit. network_refusal (only two-cubed injection_queue (here 0 + bit))) (2 ^ 15 ∷ 2 ^ 31 ∷ 0 ∷ []) ≡ 3 ∷ 3 ∷ 0 ∷ []
   pub spare-bit-every : (w : List ℕ) (n q p : ℕ) → Within w n q p → (p / 2 ^ 15 % 2 ≡ 0) × (p / 2 ^ 31 % 2 ≡ 0)
   -- R76: offsets are judged as they stand, not as they would be round the ring. In a ring of 16 along each dimension, of the 32 numbers that the field can
-  -- have, each with the node to which it leads: 0 to 15 pass, and 17 to 31, which stand for −15 to −1. Along z what Check says of −16, −15 and 15
+  -- have, each with the node to which it leads: 0 to 8 pass, and 24 to 31, which stand for −8 to −1. Along z what Check says of −16, −8, 8 and 15
   pub widest-offsets : ((i : ℕ) → i < dimensions
-      → chosen (λ b. packet_fits (long_along 16 1 i) 0 injection_queue (straight (b % 16) i (signed b))) (in_order 0 32) ≡ in_order 0 16 ++ in_order 17 15)
-      × (map (λ b. network_refusal (only (long_along 16 1 2) injection_queue (straight (b % 16) 2 (signed b)))) (16 ∷ 17 ∷ 15 ∷ [])
-      ≡ 3 ∷ 0 ∷ 0 ∷ [])
-  -- any network: no packet held has as many hops left along a dimension as once round has
-  pub widest-offsets-every : (w : List ℕ) (n q p i : ℕ) → Within w n q p → i < dimensions → distance i p ≤ size (shape w) i - 1
+      → chosen (λ b. packet_fits (long_along 16 1 i) 0 injection_queue (straight (b % 16) i (signed b))) (in_order 0 32) ≡ in_order 0 9 ++ in_order 24 8)
+      × (map (λ b. network_refusal (only (long_along 16 1 2) injection_queue (straight (b % 16) 2 (signed b)))) (16 ∷ 24 ∷ 8 ∷ 15 ∷ [])
+      ≡ 3 ∷ 0 ∷ 0 ∷ 3 ∷ [])
+  -- any network: no packet held has more hops left along a dimension than half of its size
+  pub widest-offsets-every : (w : List ℕ) (n q p i : ℕ) → Within w n q p → i < dimensions → distance i p ≤ size (shape w) i / 2
   -- R79: dx not 0 in the escape queue z+, dy not 0 there, and the same packets in the adaptive queue z+
   pub lower-offsets : (network_refusal (only along-x-and-z 11 (packet 1 (pos 1) (pos 0) (pos 0))) ≡ 3)
       × (network_refusal (only along-y-and-z 11 (packet 1 (pos 0) (pos 1) (pos 0))) ≡ 3)
@@ -505,8 +498,8 @@ pub record KeptCases : Type 0 where
       × (standing (packet 4 (pos 0) (pos 0) (pos 1)) ≡ 0 ∷ 1 ∷ 2 ∷ 3 ∷ 4 ∷ 7 ∷ 8 ∷ 9 ∷ 10 ∷ [])
   -- any network: in an escape queue no hop is left along a lower dimension than the queue's
   pub lower-offsets-every : (w : List ℕ) (n d p i : ℕ) → Within w n (escape_queue d) p → i < dimension_of d → distance i p ≡ 0
-  -- R85: a packet that has arrived, with 45 moves made, and with 46
-  pub most-work : (network_refusal (set alone moves_at 45) ≡ 0) × (network_refusal (set alone moves_at 46) ≡ 3)
+  -- R85: a packet that has arrived, with 24 moves made, and with 25
+  pub most-work : (network_refusal (set alone moves_at 24) ≡ 0) × (network_refusal (set alone moves_at 25) ≡ 3)
   -- R161, R181: eight words are no header, whatever they hold, so neither those that would be one without Z; nine go on to the sizes, and where these are
   -- in range to the need
   pub nine_words : (network_refusal (4 ∷ 3 ∷ 2 ∷ 1 ∷ 1 ∷ 0 ∷ 0 ∷ 0 ∷ []) ≡ 1)
@@ -526,7 +519,6 @@ pub record KeptCases : Type 0 where
   -- each clause once more, in small networks: the rows of Rows.antt
   pub rows : KeptRows
   pub together : TogetherRows
-  pub tables : TablesRows
 
 -- a test that cannot pass
 untrue : (b : Bool) → (T b → ⊥) → b ≡ false
@@ -814,13 +806,13 @@ in-escape d i h l = (lt→ltb directions (escape_queue d) (omega arith), omega a
 
 -- K12: in words that pass the check an offer is refused as the rules of Offer say
 offer-by-rules : (w : List ℕ) (n destination chunks : ℕ) → network_refusal w ≡ 0
-    → offer_refusal w n destination chunks ≡ offer_rules (shape w) w n destination chunks (bad_tables (shape w) no_tables)
-unfolding offer_by_refusal
-offer-by-rules w n destination chunks e = else_by-zero (network_refusal w) (offer_rules (shape w) w n destination chunks (bad_tables (shape w) no_tables)) e
+    → offer_refusal w n destination chunks ≡ offer_rules (shape w) w n destination chunks
+unfolding offer_refusal
+offer-by-rules w n destination chunks e = else_by-zero (network_refusal w) (offer_rules (shape w) w n destination chunks) e
 
 own-node-only : (w : List ℕ) (n destination chunks : ℕ) → network_refusal w ≡ 0
     → (offer_refusal w n destination chunks ≡ 14) ↔ ((n < nodes (shape w)) × (n ≡ destination) × T (within 1 8 chunks))
-own-node-only w n destination chunks e = rw (offer-by-rules w n destination chunks e) (own-node-exactly (shape w) w n destination chunks (bad_tables (shape w) no_tables))
+own-node-only w n destination chunks e = rw (offer-by-rules w n destination chunks e) (own-node-exactly (shape w) w n destination chunks)
 
 delivered-here : (w : List ℕ) (n q : ℕ) → Standing w n q → hops_left (head_of w n q) ≡ 0 → move_answer w n q deliver ≡ Moved.Delivered (head_of w n q)
 unfolding move_answer
@@ -870,10 +862,10 @@ none-ahead-each =
     ((((((tt, entry 0 (omega arith) refl), entry 1 (omega arith) refl), entry 2 (omega arith) refl), entry 3 (omega arith) refl), entry 4 (omega arith) refl), entry 5 (omega arith) refl)
 
 -- K3, K4: where an empty network passes the check, which is computed once for each, and no rule of Offer applies, the packet stands where the change puts it
-stands : (S : Shape) (n destination tag chunks word : ℕ) → network_refusal (empty S) ≡ 0 → offer_rules (shape (empty S)) (empty S) n destination chunks (bad_tables (shape (empty S)) no_tables) ≡ 0
-    → held S (after_offer (shape (empty S)) (empty S) n (offered (shape (empty S)) n destination tag chunks)) n injection_queue ≡ word ∷ []
+stands : (S : Shape) (n destination tag chunks word : ℕ) → network_refusal (empty S) ≡ 0 → offer_rules (shape (empty S)) (empty S) n destination chunks ≡ 0
+    → held S (after_offer (shape (empty S)) (empty S) n destination tag chunks) n injection_queue ≡ word ∷ []
     → held S (offer_words (empty S) n destination tag chunks) n injection_queue ≡ word ∷ []
-unfolding offer_by_words offer_by_refusal
+unfolding offer_words offer_refusal
 stands S n destination tag chunks word passes rules there = rw (passes, rules) there
 
 four-by-three-passes : network_refusal (empty four-by-three) ≡ 0
@@ -930,8 +922,7 @@ unfolding computed
 offsets-of-a-word = refl
 
 widest-each : EachBelow
-    (λ i. chosen (λ b. packet_fits (long_along 16 1 i) 0 injection_queue (straight (b % 16) i (signed b))) (in_order 0 32) ≡ in_order 0 16 ++ in_order 17 15)
-    dimensions
+    (λ i. chosen (λ b. packet_fits (long_along 16 1 i) 0 injection_queue (straight (b % 16) i (signed b))) (in_order 0 32) ≡ in_order 0 9 ++ in_order 24 8) dimensions
 unfolding computed
 widest-each = (((tt, refl), refl), refl)
 
@@ -949,19 +940,13 @@ kept_cases =
       k3-parity-of-z = ((refl, stands two-cubed 4 3 7 1 _ two-cubed-passes refl refl), (refl, stands two-cubed 3 4 7 1 _ two-cubed-passes refl refl));
       k3-every =
           λ w n destination tag chunks i b. (
-            offset-nearer (shape w) n destination tag chunks no_tables (tor w b.in-range) b.from b.to (fits w b.in-range) b.few (short w b.in-range)
-                (bad-none (shape w) no_tables refl) i b.dimension (given-none no_tables refl i),
-            offset-halfway (shape w) n destination tag chunks no_tables (tor w b.in-range) b.from b.to (fits w b.in-range) b.few (short w b.in-range)
-                (bad-none (shape w) no_tables refl) i b.dimension (given-none no_tables refl i),
+            offset-nearer (shape w) n destination tag chunks (tor w b.in-range) b.from b.to (fits w b.in-range) b.few (short w b.in-range) i b.dimension,
+            offset-halfway (shape w) n destination tag chunks (tor w b.in-range) b.from b.to (fits w b.in-range) b.few (short w b.in-range) i b.dimension,
             λ odd e. odd (omega arith),
           );
       k3-held = (refl, outputs against-parity 5 _ refl refl, outputs against-parity 0 _ refl refl, on-its-way, refl, refl, refl, refl, refl);
       k3-held-every = hops-hop-le;
-      k3-fits-every =
-          λ w n q i a p r hn hi some less. (
-            either-way-fits (shape w) n q i a p (tor w r) hn hi some less (short w r i hi),
-            one-way-fits (shape w) n q i a p (tor w r) hn hi some less (short w r i hi),
-          );
+      k3-fits-every = λ w n q i h p r hn hi e. halfway-fits (shape w) n q i h p (tor w r) hn hi e (short w r i hi);
       k4 = (refl, stands four-by-three 0 11 0 1 _ four-by-three-passes refl refl);
       k5-sources = (refl, refl, refl, refl, refl, refl);
       k5-passes = crossing-passes;
@@ -988,9 +973,9 @@ kept_cases =
           λ w n destination chunks e. (
             own-node-only w n destination chunks e,
             λ one hn hd low high. (own-node-only w n destination chunks e).1 (hn, omega (arith, one, hn, hd), between-by 1 8 chunks (record { low = low; high = high })),
-            λ h. offer-by-rules w n n chunks e ∙ no-node-first (shape w) w n chunks (bad_tables (shape w) no_tables) h,
+            λ h. offer-by-rules w n n chunks e ∙ no-node-first (shape w) w n chunks h,
           );
-      chunk-number-every = λ w n destination chunks e. rw (offer-by-rules w n destination chunks e) (chunks-exactly (shape w) w n destination chunks (bad_tables (shape w) no_tables));
+      chunk-number-every = λ w n destination chunks e. rw (offer-by-rules w n destination chunks e) (chunks-exactly (shape w) w n destination chunks);
       load-every = λ w n q e hn hq. queue-loaded (shape w) w n q ((network-passed w e).queue n q hn hq);
       k12-held = (refl, refl, refl, one-move, one-word);
       k12-in-every-queue = (in-every-passes, thirteen-told.0, thirteen-told.1);
@@ -1024,7 +1009,6 @@ kept_cases =
       twelve-is-the-last = (refl, refl, refl, refl, refl, refl, refl, refl, refl);
       rows = kept_rows;
       together = together_rows;
-      tables = tables_rows;
     }
   where
     leaves : (p : ℕ) {refusals : List ℕ} → network_refusal (only two-cubed injection_queue p) ≡ 0

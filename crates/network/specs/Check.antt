@@ -1,9 +1,9 @@
 -- R70 to R85 and R87 to R89, the check, a definition for each clause. Order: one packet in its queue; one queue; the rings; the counters; all of it.
 -- Assumes nothing.
-use Rattle.std.specs.Prelude.{Bool, cond, not, ◌&&◌, ◌||◌, List, ℕ, ◌+◌, ◌*◌, ◌-◌, ◌^◌, leb, ltb, eqb, length}
+use Rattle.std.specs.Prelude.{Bool, cond, not, ◌&&◌, ◌||◌, List, ℕ, ◌+◌, ◌*◌, ◌-◌, ◌/◌, ◌^◌, leb, ltb, eqb, length}
 use Rattle.base.specs.Tests.{all_below, some_below, all_of}
 use Rattle.base.specs.Sums.{sum_of}
-use Rattle.network.specs.Sizes.{Shape, size, sizes_in_range, nodes, queues, directions, dimensions, dimension_of, direction_of, is_escape, is_plus, plus, minus, injection_queue, escape_queue, capacity, largest_ring}
+use Rattle.network.specs.Sizes.{Shape, size, sizes_in_range, nodes, queues, directions, dimensions, dimension_of, direction_of, is_escape, is_plus, plus, minus, injection_queue, escape_queue, capacity}
 use Rattle.network.specs.Packet.{destination, spare, upper_spare, distance, hops, work}
 use Rattle.network.specs.Torus.{along, moved_by}
 use Rattle.network.specs.Layout.{held, taken, queue_part, count_of, unused_of, total, need, accepted, delivered, moves_made}
@@ -16,9 +16,9 @@ right_place S n p = ltb (destination p) (nodes S) && eqb (moved_by S p n) (desti
 unfoldable pub is_queue_of : ℕ → ℕ → Bool
 is_queue_of i q = not (eqb q injection_queue) && eqb (dimension_of (direction_of q)) i
 
--- R76: the longest lawful offset of a dimension, one hop less than once round, whichever way is the shorter
+-- R76: the longest lawful offset of a dimension, half of the size
 abbrev pub longest : Shape → ℕ → ℕ
-longest S i = size S i - 1
+longest S i = size S i / 2
 
 -- R76, R77: what must not be more than the longest; in a queue of that dimension a hop has been made already
 unfoldable pub reach : ℕ → ℕ → ℕ → ℕ
@@ -78,9 +78,9 @@ work_left S w = total S w (sum_of work)
 abbrev pub most_accepted : ℕ
 most_accepted = 2 ^ 32 - 1
 
--- R85: no packet starts with more work than the longest way in each dimension of the largest torus, and its delivery: 46
+-- R85: no packet starts with more work than 8 hops in each dimension, and its delivery
 abbrev pub most_work : ℕ
-most_work = dimensions * (largest_ring - 1) + 1
+most_work = dimensions * 8 + 1
 
 -- R82, R83, R85, over whole numbers: delivered above accepted fails, and no sum wraps
 unfoldable pub counters_fit : Shape → List ℕ → Bool

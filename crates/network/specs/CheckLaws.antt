@@ -1,22 +1,22 @@
 -- The check of a network as facts, and back: each Boolean definition of Check.antt is the record of its clauses that stands here.
--- Order: how far a packet may have to go; the way back; a packet, either way round and at its own node; a queue; its room; the whole. Assumes nothing.
-use Rattle.std.specs.Prelude.{◌≡◌, refl, ◌⊎◌, ◌≢◌, true, false, not, ◌&&◌, ◌||◌, List, [], ◌∷◌, ℕ, ◌+◌, ◌*◌, ◌-◌, ◌%◌, ◌<◌, ◌≤◌, T, leb, ltb, ℤ, pos, negsuc, length, get_or}
-use Rattle.std.proofs.Math.Path.{ap, sym}
-use Rattle.std.proofs.Common.{◌∙◌, inl, inr, le_trans, leb→le, le→leb, ltb→lt, lt→ltb, eqb→eq}
+-- Order: how far a packet may have to go; the way back; a packet, half-way round and at its own node; a queue; its room; the whole. Assumes nothing.
+use Rattle.std.specs.Prelude.{◌≡◌, ◌⊎◌, ◌≢◌, true, false, not, ◌&&◌, ◌||◌, List, [], ◌∷◌, T, leb, ltb, ℤ, pos, negsuc, length, get_or}
+use Rattle.std.proofs.Math.Path.{refl, ap, sym}
+use Rattle.std.proofs.Common.{◌∙◌, inl, inr, le_trans, eq-eqb, ne_eqb, leb→le, le→leb, ltb→lt, lt→ltb, eqb→eq, T_not}
 use Rattle.std.proofs.Math.Bool.{Bool, cond}
+use Prim.Native.Nat.{ℕ, ◌+◌, ◌*◌, ◌-◌, ◌%◌, ◌<◌, ◌≤◌}
 use Rattle.std.proofs.Math.Decide.{ℕ_discrete}
 use native.Mathlib.Omega.{arith}
-use borrow.Author.Tests.{eq-eqb, ne_eqb}
-use Rattle.std.proofs.Math.Dec.{eqb, eqb_refl, T_not}
+use Rattle.std.proofs.Math.Dec.{eqb, eqb_refl}
 use Rattle.std.proofs.Math.IntN.{nat_abs}
-use Rattle.base.specs.Tests.{all_pass, EachPasses, clauses-of, clauses-by, all_below, all_of, and_l, and_r, or_l, or_r, or-e, all-at, all-by, passed?, T_false}
+use Rattle.base.specs.Tests.{all_pass, EachPasses, clauses-of, clauses-by, all_below, all_of, or_l, or_r, or-e, all-at, all-by, passed?}
 use Rattle.base.specs.Bools.{same_test}
 use Rattle.base.specs.Digits.{digit, rotate, rotate-rotate, rotate-rounds, radix-pos}
 use Rattle.network.specs.Sizes.{Shape, size, sizes_in_range, nodes, queues, directions, dimensions, dimension_of, direction_of, is_plus, plus, minus, is_escape, injection_queue, most_chunks, is_adaptive, capacity, largest_ring}
 use Rattle.network.specs.Packet.{fields, spare_field, destination_field, upper_spare_field, destination, spare, upper_spare, offset, with_offset, distance, forward, backward, hops, hops_left}
 use Rattle.network.specs.PacketLaws.{OffsetRange, field-with, offset-with-same, offset-with-other, one_way, distance_is, arrived-distance, arrived-hops, landing, landing-plus, landing-minus}
 use Rattle.network.specs.Torus.{coordinate, stride, along, neighbour, moved_by}
-use Rattle.network.specs.TorusLaws.{Torus, coordinates-eq, moved_by-lt, moved_by-here, coordinate-landing}
+use Rattle.network.specs.TorusLaws.{Torus, size-pos, coordinates-eq, moved_by-lt, moved_by-here, coordinate-landing}
 use Rattle.network.specs.Layout.{held, taken, queue_part, count_of, unused_of, need, accepted, delivered, moves_made}
 use Rattle.network.specs.LayoutLaws.{taken-length, length_taken, taken-most}
 use Rattle.network.specs.Check.{longest, spare_clear, upper_spare_clear, right_place, is_queue_of, reach, near_enough, opposite, right_sign, lower_done, packet_fits, queue_fits, queues_fit, has_room, ring_has_room, rings_have_room, packets_held, work_left, most_accepted, most_work, counters_fit, is_network}
@@ -25,7 +25,7 @@ use Rattle.network.specs.Check.{longest, spare_clear, upper_spare_clear, right_p
 pub eq-T : (a b : ℕ) → a ≡ b → T (eqb a b)
 eq-T a b e = rw e (eqb_refl b)
 
--- what the longest way bounds: the distance, and one more in a queue of that dimension
+-- what is bounded by half of the size: the distance, and one more in a queue of that dimension
 pub reach-least : (i q p : ℕ) → distance i p ≤ reach i q p
 unfolding reach
 reach-least i q p = go (is_queue_of i q)
@@ -216,12 +216,12 @@ packet-by S n q p f =
         (all-by (dimension_of (direction_of q)) (λ j. eqb (distance j p) 0) (λ i h. eq-T (distance i p) 0 (f.lower e i h)))
     low (inr no') = or_l (not (is_escape q)) (all_below (dimension_of (direction_of q)) (λ j. eqb (distance j p) 0)) no'
 
--- R76 to R79: the two ways round, a hops plus and the rest of the round minus, lead to the same node, and neither is too long. So the check judges them
--- alike in the injection queue and in the queues of the other dimensions; in a queue of that dimension it lets one of them pass at most, by its sign
-module _ (S : Shape) (n q i a p : ℕ) (tor : Torus S) (node : n < nodes S) (k : i < dimensions) (some : 0 < a) (less : a < size S i) where
-  -- one of the two in the place of the other, outside the queues of that dimension
-  module _ (y z : ℤ) (ry : OffsetRange y) (rz : OffsetRange z) (ny : nat_abs y ≢ 0) (nz : nat_abs z ≤ longest S i)
-      (lands : landing (size S i) (coordinate S i n) z ≡ landing (size S i) (coordinate S i n) y) (out : T (not (is_queue_of i q))) where
+-- R76 to R79: the check judges both signs of an offset half-way round alike. They lead to the same node; and in a queue of that dimension neither
+-- passes, since a hop along it has been made
+module _ (S : Shape) (n q i h p : ℕ) (tor : Torus S) (node : n < nodes S) (k : i < dimensions) (half : 2 * h ≡ size S i) where
+  -- one of the two in the place of the other
+  module _ (y z : ℤ) (ry : OffsetRange y) (rz : OffsetRange z) (ny : nat_abs y ≡ h) (nz : nat_abs z ≡ h)
+      (lands : landing (size S i) (coordinate S i n) z ≡ landing (size S i) (coordinate S i n) y) where
     field-same : (f : ℕ) → dimensions ≤ f → digit fields f (with_offset i z p) ≡ digit fields f (with_offset i y p)
     field-same f a = field-with f i z p a k rz ∙ sym (field-with f i y p a k ry)
 
@@ -232,9 +232,13 @@ module _ (S : Shape) (n q i a p : ℕ) (tor : Torus S) (node : n < nodes S) (k :
     offset-same : (j : ℕ) → j < dimensions → j ≢ i → offset j (with_offset i z p) ≡ offset j (with_offset i y p)
     offset-same j l ne = offset-with-other i j z p k l ne rz ∙ sym (offset-with-other i j y p k l ne ry)
 
-    distance-same : (j : ℕ) → j < dimensions → j ≢ i → distance j (with_offset i z p) ≡ distance j (with_offset i y p)
+    distance-same : (j : ℕ) → j < dimensions → distance j (with_offset i z p) ≡ distance j (with_offset i y p)
     unfolding distance
-    distance-same j l ne = ap nat_abs (offset-same j l ne)
+    distance-same j l = go (ℕ_discrete j i)
+      where
+        go : Dec (j ≡ i) → nat_abs (offset j (with_offset i z p)) ≡ nat_abs (offset j (with_offset i y p))
+        go (yes e) = rw e (ap nat_abs (offset-with-same i z p k rz) ∙ nz ∙ sym ny ∙ sym (ap nat_abs (offset-with-same i y p k ry)))
+        go (no ne) = ap nat_abs (offset-same j l ne)
 
     moved_by-same : moved_by S (with_offset i z p) n ≡ moved_by S (with_offset i y p) n
     moved_by-same =
@@ -251,112 +255,66 @@ module _ (S : Shape) (n q i a p : ℕ) (tor : Torus S) (node : n < nodes S) (k :
             ∙ sym (ap (landing (size S i) (coordinate S i n)) (offset-with-same i y p k ry)))
         there j l (no ne) = ap (landing (size S j) (coordinate S j n)) (offset-same j l ne)
 
-    reach-way : reach i q (with_offset i z p) ≡ nat_abs z
-    unfolding reach distance
-    reach-way = rw (T_false (is_queue_of i q) out) (ap nat_abs (offset-with-same i z p k rz))
-
-    reach-same : (j : ℕ) → j < dimensions → j ≢ i → reach j q (with_offset i z p) ≡ reach j q (with_offset i y p)
+    reach-same : (j : ℕ) → j < dimensions → reach j q (with_offset i z p) ≡ reach j q (with_offset i y p)
     unfolding reach
-    reach-same j l ne = ap (λ (x : ℕ). cond (is_queue_of j q) (x + 1) x) (distance-same j l ne)
+    reach-same j l = ap (λ (a : ℕ). cond (is_queue_of j q) (a + 1) a) (distance-same j l)
 
-    other-dimension : q ≢ injection_queue → dimension_of (direction_of q) ≢ i
-    unfolding is_queue_of
-    other-dimension ne e =
-        T_not (is_queue_of i q) out (rw (ne_eqb q injection_queue ne, eq-eqb (dimension_of (direction_of q)) i e) tt)
+    -- in a queue of that dimension
+    too_far : PacketFits S n q (with_offset i y p) → q ≢ injection_queue → dimension_of (direction_of q) ≡ i → ⊥
+    unfolding distance
+    too_far f ne e =
+        let near = f.near (dimension_of (direction_of q)) (omega arith) in
+        let own = reach-own q (with_offset i y p) ne in
+        let far : nat_abs (offset (dimension_of (direction_of q)) (with_offset i y p)) ≡ h = rw e (ap nat_abs (offset-with-same i y p k ry) ∙ ny) in
+        let long : 2 * h ≡ size S (dimension_of (direction_of q)) = rw e half in
+        omega arith
 
-    either_way : PacketFits S n q (with_offset i y p) → PacketFits S n q (with_offset i z p)
-    unfolding hops spare upper_spare distance
-    either_way f =
+    either-sign : PacketFits S n q (with_offset i y p) → PacketFits S n q (with_offset i z p)
+    unfolding hops spare upper_spare
+    either-sign f =
         record {
           clear = field-same spare_field (omega arith) ∙ f.clear;
           upper-clear = field-same upper_spare_field (omega arith) ∙ f.upper-clear;
           addressed = let e = destination-same in let l = f.addressed in omega arith;
           arrives = moved_by-same ∙ f.arrives ∙ sym destination-same;
-          near = λ j l. near j l (ℕ_discrete j i);
-          sign = sign;
-          lower = λ e j l. lower e j l (ℕ_discrete j i);
+          near = λ j l. let e = reach-same j l in let m = f.near j l in omega arith;
+          sign = λ ne. sign ne (ℕ_discrete (dimension_of (opposite (direction_of q))) i);
+          lower = λ e j l. distance-same j (omega arith) ∙ f.lower e j l;
         }
       where
-        near : (j : ℕ) → j < dimensions → Dec (j ≡ i) → reach j q (with_offset i z p) ≤ longest S j
-        near j l (yes e) = rw e (let r = reach-way in omega arith)
-        near j l (no ne) = let r = reach-same j l ne in let m = f.near j l in omega arith
-
-        sign : q ≢ injection_queue → hops (opposite (direction_of q)) (with_offset i z p) ≡ 0
-        sign ne =
+        sign : q ≢ injection_queue → Dec (dimension_of (opposite (direction_of q)) ≡ i) → hops (opposite (direction_of q)) (with_offset i z p) ≡ 0
+        sign ne (yes e) = absurd (too_far f ne (sym (opposite-dimension (direction_of q)) ∙ e))
+        sign ne (no apart) =
             let d : ℕ = opposite (direction_of q) in
-            let same = opposite-dimension (direction_of q) in
-            let other = other-dimension ne in
-            ap (λ (o : ℤ). cond (is_plus d) (forward o) (backward o)) (offset-same (dimension_of d) (omega arith) (λ e. other (sym same ∙ e)))
+            ap (λ (o : ℤ). cond (is_plus d) (forward o) (backward o))
+            (offset-same (dimension_of d) (let same = opposite-dimension (direction_of q) in omega arith) apart)
             ∙ f.sign ne
 
-        lower : T (is_escape q) → (j : ℕ) → j < dimension_of (direction_of q) → Dec (j ≡ i) → distance j (with_offset i z p) ≡ 0
-        lower t j l (yes e) =
-            absurd (ny (ap nat_abs (sym (offset-with-same i y p k ry)) ∙ ap (λ (x : ℕ). distance x (with_offset i y p)) (sym e) ∙ f.lower t j l))
-        lower t j l (no ne) = distance-same j (omega arith) ne ∙ f.lower t j l
-
-  abbrev plus_way : ℤ
-  plus_way = pos a
-
-  abbrev minus_way : ℤ
-  minus_way = negsuc (size S i - a - 1)
-
-  plus-range : size S i ≤ largest_ring → OffsetRange plus_way
+  pub halfway-fits : size S i ≤ largest_ring → packet_fits S n q (with_offset i (pos h) p) ≡ packet_fits S n q (with_offset i (negsuc (h - 1)) p)
   unfolding forward backward
-  plus-range short = record { most = omega arith; least = omega arith }
-
-  minus-range : size S i ≤ largest_ring → OffsetRange minus_way
-  unfolding forward backward
-  minus-range short = record { most = omega arith; least = omega arith }
-
-  pub either-way-fits : size S i ≤ largest_ring → T (not (is_queue_of i q))
-      → packet_fits S n q (with_offset i (pos a) p) ≡ packet_fits S n q (with_offset i (negsuc (size S i - a - 1)) p)
-  either-way-fits short out =
-      same_test (packet_fits S n q (with_offset i plus_way p)) (packet_fits S n q (with_offset i minus_way p))
-      (λ t.
-      packet-by S n q _
-      (either_way plus_way minus_way (plus-range short) (minus-range short) (λ e. omega arith) (omega arith) (sym lands) out (packet-of S n q _ t)))
-      (λ t.
-      packet-by S n q _
-      (either_way minus_way plus_way (minus-range short) (plus-range short) (λ e. omega arith) (omega arith) lands out (packet-of S n q _ t)))
+  halfway-fits short =
+      same_test (packet_fits S n q (with_offset i (pos h) p)) (packet_fits S n q (with_offset i (negsuc (h - 1)) p))
+      (λ t. packet-by S n q _ (either-sign (pos h) (negsuc (h - 1)) plus minus refl away (sym lands) (packet-of S n q _ t)))
+      (λ t. packet-by S n q _ (either-sign (negsuc (h - 1)) (pos h) minus plus away refl lands (packet-of S n q _ t)))
     where
-      lands : landing (size S i) (coordinate S i n) plus_way ≡ landing (size S i) (coordinate S i n) minus_way
-      lands = landing-plus (size S i) (coordinate S i n) a ∙ sym (landing-minus (size S i) (coordinate S i n) a less)
+      some : 0 < size S i
+      some = size-pos S i tor k
 
-  pub one-way-fits : size S i ≤ largest_ring → T (is_queue_of i q)
-      → packet_fits S n q (with_offset i (pos a) p) && packet_fits S n q (with_offset i (negsuc (size S i - a - 1)) p) ≡ false
-  unfolding is_queue_of hops forward backward
-  one-way-fits short own = go (passed? (x && y))
-    where
-      x : Bool
-      x = packet_fits S n q (with_offset i plus_way p)
+      plus : OffsetRange (pos h)
+      plus = record { most = omega arith; least = omega arith }
 
-      y : Bool
-      y = packet_fits S n q (with_offset i minus_way p)
+      minus : OffsetRange (negsuc (h - 1))
+      minus = let s = some in record { most = omega arith; least = omega arith }
 
-      transit : q ≢ injection_queue
-      transit e = T_not (eqb q injection_queue) (and_l (not (eqb q injection_queue)) (eqb (dimension_of (direction_of q)) i) own) (eq-T q injection_queue e)
+      away : nat_abs (negsuc (h - 1)) ≡ h
+      away = let s = some in omega arith
 
-      d : ℕ
-      d = opposite (direction_of q)
-
-      along-i : dimension_of d ≡ i
-      along-i =
-          opposite-dimension (direction_of q)
-          ∙ eqb→eq (dimension_of (direction_of q)) i (and_r (not (eqb q injection_queue)) (eqb (dimension_of (direction_of q)) i) own)
-
-      -- no hop is left against the queue's direction, and one of the two has some
-      left : (z : ℤ) → OffsetRange z → T (packet_fits S n q (with_offset i z p)) → cond (is_plus d) (forward z) (backward z) ≡ 0
-      left z r t =
-          sym (ap (λ (o : ℤ). cond (is_plus d) (forward o) (backward o)) (ap (λ (j : ℕ). offset j (with_offset i z p)) along-i ∙ offset-with-same i z p k r))
-          ∙ (packet-of S n q (with_offset i z p) t).sign transit
-
-      never : (b : Bool) → cond b (forward plus_way) (backward plus_way) ≡ 0 → cond b (forward minus_way) (backward minus_way) ≡ 0 → ⊥
-      never true e f = omega arith
-      never false e f = omega arith
-
-      go : T (x && y) ⊎ T (not (x && y)) → x && y ≡ false
-      go (inl t) = absurd (never (is_plus d) (left plus_way (plus-range short) (and_l x y t)) (left minus_way (minus-range short) (and_r x y t)))
-      go (inr f) = T_false (x && y) f
+      lands : landing (size S i) (coordinate S i n) (pos h) ≡ landing (size S i) (coordinate S i n) (negsuc (h - 1))
+      lands =
+          let s = some in
+          landing-plus (size S i) (coordinate S i n) h
+          ∙ sym (landing-minus (size S i) (coordinate S i n) h (omega arith))
+          ∙ ap (λ (m : ℕ). landing (size S i) (coordinate S i n) (negsuc m)) (let rest : size S i - h - 1 ≡ h - 1 = omega arith in rest)
 
 -- R86: a packet for the very node where it stands passes in the injection queue and in the queues of a dimension along which a hop can have been
 -- made, and in no other

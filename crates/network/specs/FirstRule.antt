@@ -7,8 +7,6 @@ use Rattle.network.specs.Sizes.{Shape, sizes_in_range, nodes, injection_queue}
 use Rattle.network.specs.Layout.{shape, need, held, load, accepted}
 use Rattle.network.specs.Check.{is_network}
 use Rattle.network.specs.Routes.{routes, free_load}
-use Rattle.network.specs.Tables.{Tables}
-use Rattle.network.specs.TablesLaws.{GoodTables}
 use Rattle.network.specs.Refusals.{head}
 use Rattle.network.specs.FlowControl.{Enters}
 
@@ -50,13 +48,12 @@ network_tests w =
     ∷ test 3 (T (is_network (shape w) w) → ⊥)
     ∷ []
 
--- R189: of a node, a destination, a number of chunks, and tables
-abbrev pub offer_tests : List ℕ → ℕ → ℕ → ℕ → Tables → List Test
-offer_tests w n destination chunks t =
+-- R189: of a node, a destination, a number of chunks
+abbrev pub offer_tests : List ℕ → ℕ → ℕ → ℕ → List Test
+offer_tests w n destination chunks =
     test 4 ((nodes (shape w) ≤ n) ⊎ (nodes (shape w) ≤ destination))
     ∷ test 2 ((chunks < 1) ⊎ (8 < chunks))
     ∷ test 14 (n ≡ destination)
-    ∷ test 16 (GoodTables (shape w) t → ⊥)
     ∷ test 8 (accepted w ≡ 4294967295)
     ∷ test 7 (length (held (shape w) w n injection_queue) ≡ (shape w).injection)
     ∷ []
@@ -90,10 +87,10 @@ look_tests w n q = test 4 (nodes (shape w) ≤ n) ∷ test 5 (13 ≤ q) ∷ []
 abbrev pub numbers : List Test → List ℕ
 numbers ts = map (λ (t : Test). t.number) ts
 
-pub record InOrder (S : Shape) (w : List ℕ) (n q o destination chunks : ℕ) (t : Tables) : Type 0 where
+pub record InOrder (S : Shape) (w : List ℕ) (n q o destination chunks : ℕ) : Type 0 where
   pub make : numbers (make_tests S w) ≡ 2 ∷ 1 ∷ []
   pub check : numbers (network_tests w) ≡ 1 ∷ 2 ∷ 1 ∷ 3 ∷ []
-  pub offer : numbers (network_tests w ++ offer_tests w n destination chunks t) ≡ 1 ∷ 2 ∷ 1 ∷ 3 ∷ 4 ∷ 2 ∷ 14 ∷ 16 ∷ 8 ∷ 7 ∷ []
+  pub offer : numbers (network_tests w ++ offer_tests w n destination chunks) ≡ 1 ∷ 2 ∷ 1 ∷ 3 ∷ 4 ∷ 2 ∷ 14 ∷ 8 ∷ 7 ∷ []
   pub move : numbers (network_tests w ++ move_tests w n q o) ≡ 1 ∷ 2 ∷ 1 ∷ 3 ∷ 4 ∷ 5 ∷ 6 ∷ 9 ∷ 10 ∷ 11 ∷ 12 ∷ []
   pub credit : numbers (network_tests w ++ credit_tests w n o) ≡ 1 ∷ 2 ∷ 1 ∷ 3 ∷ 4 ∷ 6 ∷ []
   pub look : numbers (network_tests w ++ look_tests w n q) ≡ 1 ∷ 2 ∷ 1 ∷ 3 ∷ 4 ∷ 5 ∷ []

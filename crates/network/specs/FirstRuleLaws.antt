@@ -11,9 +11,7 @@ use Rattle.network.specs.Layout.{shape, header_words, need, held, load, taken, a
 use Rattle.network.specs.LayoutLaws.{taken-length}
 use Rattle.network.specs.Check.{is_network, most_accepted}
 use Rattle.network.specs.Routes.{routes, deliver, free_load}
-use Rattle.network.specs.Tables.{Tables, bad_tables}
-use Rattle.network.specs.TablesLaws.{GoodTables, good-exactly}
-use Rattle.network.specs.Refusals.{refuse, else_by, head, network_refusal, make_refusal, offer_rules, offer_by_refusal, flow_rules, move_rules, move_refusal, credit_rules, credit_refusal, look_rules, look_refusal}
+use Rattle.network.specs.Refusals.{refuse, else_by, head, network_refusal, make_refusal, offer_rules, offer_refusal, flow_rules, move_rules, move_refusal, credit_rules, credit_refusal, look_rules, look_refusal}
 use Rattle.network.specs.RefusalLaws.{else_by-zero, else_by-first}
 use Rattle.network.specs.FlowControl.{Enters, ByFree}
 use Rattle.network.specs.FlowControlLaws.{flow-by-free}
@@ -114,8 +112,8 @@ two-chains ts us earlier later F rest = go (ℕ_discrete earlier 0)
 
 -- The numbers in order --------------------------------------------------------------------------------------------------------------------
 
-pub in_order : (S : Shape) (w : List ℕ) (n q o destination chunks : ℕ) (t : Tables) → InOrder S w n q o destination chunks t
-in_order S w n q o destination chunks t = record { make = refl; check = refl; offer = refl; move = refl; credit = refl; look = refl }
+pub in_order : (S : Shape) (w : List ℕ) (n q o destination chunks : ℕ) → InOrder S w n q o destination chunks
+in_order S w n q o destination chunks = record { make = refl; check = refl; offer = refl; move = refl; credit = refl; look = refl }
 
 -- Facts that a test finds -----------------------------------------------------------------------------------------------------------------
 
@@ -181,31 +179,18 @@ check-first w =
     (λ b. one-test (ltb (length w) (need (shape w))) 0 _ _ _ (is-less (length w) (need (shape w)))
     (λ c. one-test (not (is_network (shape w) w)) 2 _ _ _ (fails (is_network (shape w) w)) (λ d. no_test))))
 
--- a table is bad exactly if the tables are not good ones
-bad-tables : (S : Shape) (t : Tables) → T (bad_tables S t) ↔ (GoodTables S t → ⊥)
-bad-tables S t = (λ b g. both (bad_tables S t) b ((good-exactly S t).1 g), λ none. neither-good (bad_tables S t) (λ n. none ((good-exactly S t).0 n)))
-  where
-    both : (b : Bool) → T b → T (not b) → ⊥
-    both true t n = n
-    both false t n = t
-
-    neither-good : (b : Bool) → (T (not b) → ⊥) → T b
-    neither-good true none = tt
-    neither-good false none = none tt
-
-pub offer-first : (w : List ℕ) (n destination chunks : ℕ) (t : Tables)
-    → FirstRule (network_tests w ++ offer_tests w n destination chunks t) (offer_by_refusal w n destination chunks t)
-unfolding offer_by_refusal offer_rules capacity
-offer-first w n destination chunks t =
-    two-chains (network_tests w) (offer_tests w n destination chunks t) (network_refusal w) (offer_rules S w n destination chunks (bad_tables S t)) (check-first w)
+pub offer-first : (w : List ℕ) (n destination chunks : ℕ)
+    → FirstRule (network_tests w ++ offer_tests w n destination chunks) (offer_refusal w n destination chunks)
+unfolding offer_refusal offer_rules capacity
+offer-first w n destination chunks =
+    two-chains (network_tests w) (offer_tests w n destination chunks) (network_refusal w) (offer_rules S w n destination chunks) (check-first w)
     (λ z.
     one-test (leb (nodes S) n || leb (nodes S) destination) 3 _ _ _
     (one_of (leb (nodes S) n) (leb (nodes S) destination) (nodes S ≤ n) (nodes S ≤ destination) (is-most (nodes S) n) (is-most (nodes S) destination))
     (λ a. one-test (not (within 1 most_chunks chunks)) 1 _ _ _ (is-outside 1 most_chunks chunks)
     (λ b. one-test (eqb n destination) 13 _ _ _ (is_same n destination)
-    (λ c. one-test (bad_tables S t) 15 _ _ _ (bad-tables S t)
-    (λ d. one-test (eqb (accepted w) most_accepted) 7 _ _ _ (is_same (accepted w) most_accepted)
-    (λ e. one-test (eqb (taken S w n injection_queue) (capacity S injection_queue)) 6 _ _ _ full (λ f. no_test)))))))
+    (λ c. one-test (eqb (accepted w) most_accepted) 7 _ _ _ (is_same (accepted w) most_accepted)
+    (λ d. one-test (eqb (taken S w n injection_queue) (capacity S injection_queue)) 6 _ _ _ full (λ e. no_test))))))
   where
     S : Shape
     S = shape w

@@ -14,8 +14,6 @@ pub mod Routes
 pub mod RoutesLaws
 pub mod Selection
 pub mod SelectionLaws
-pub mod Tables
-pub mod TablesLaws
 pub mod Refusals
 pub mod RefusalLaws
 pub mod FlowControl
@@ -43,5 +41,4 @@ pub mod TogetherLaws
 pub mod ByHand
 pub mod Rows
 pub mod TogetherRows
-pub mod TablesRows
 pub mod Cases

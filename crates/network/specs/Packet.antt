@@ -1,6 +1,6 @@
 -- R26, R60 to R63, R67 to R69, R84, R110, R145 and R228: the packet word. Order: the fields of a word; its offsets; the word of some fields; hops left; a hop; the
 -- label; the shorter way of an offer. Assumes nothing.
-use Rattle.std.specs.Prelude.{Bool, cond, ◌&&◌, ◌||◌, ℕ, zero, suc, ◌+◌, ◌*◌, ◌-◌, ◌/◌, ◌%◌, ltb, eqb, ℤ, pos, negsuc, nat_abs, List, [], ◌∷◌, ◌++◌, get_or, replicate}
+use Rattle.std.specs.Prelude.{Bool, cond, ◌&&◌, ◌||◌, ℕ, zero, suc, ◌+◌, ◌*◌, ◌-◌, ◌/◌, ◌%◌, ltb, eqb, ℤ, pos, negsuc, nat_abs, List, [], ◌∷◌, ◌++◌, replicate}
 use Rattle.base.specs.Sums.{sum_below}
 use Rattle.base.specs.Digits.{product, digit, put_digit}
 use Rattle.network.specs.Sizes.{dimensions, most_chunks, dimension_of, is_plus, plus, minus}
@@ -72,10 +72,6 @@ with_offset i z p = put_digit fields (offset_field i) (unsigned z) p
 unfoldable pub with_offsets : ℕ → (ℕ → ℤ) → ℕ → ℕ
 with_offsets zero offsets p = p
 with_offsets (suc i) offsets p = with_offset i (offsets i) (with_offsets i offsets p)
-
--- three offsets, by their dimension
-abbrev pub offsets : ℤ → ℤ → ℤ → ℕ → ℤ
-offsets dx dy dz i = get_or (dx ∷ dy ∷ dz ∷ []) i (pos 0)
 
 -- R60: the word of these fields
 unfoldable pub packet_word : ℕ → ℕ → ℕ → (ℕ → ℤ) → ℕ

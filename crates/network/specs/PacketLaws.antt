@@ -345,9 +345,6 @@ unfolding forward backward
 nat_abs-is (pos n) = omega arith
 nat_abs-is (negsuc n) = omega arith
 
-pub small-range : (z : ℤ) → nat_abs z < half_offsets → OffsetRange z
-small-range z h = let parts = nat_abs-is z in record { most = omega arith; least = omega arith }
-
 pub distance_is : (i p : ℕ) → distance i p ≡ hops (plus i) p + hops (minus i) p
 unfolding distance
 distance_is i p = nat_abs-is (offset i p) ∙ ap₂ (λ (a b : ℕ). a + b) (sym (hops-plus i p)) (sym (hops-minus i p))
@@ -565,7 +562,10 @@ pub shorter_way-half : (size ahead from : ℕ) → ahead < size → nat_abs (sho
 shorter_way-half size ahead from h = shorter_way-by (λ z. nat_abs z ≤ size / 2) size ahead from (λ l. omega arith) (λ l. omega arith)
 
 pub shorter_way-range : (size ahead from : ℕ) → ahead < size → size < offset_values → OffsetRange (shorter_way size ahead from)
-shorter_way-range size ahead from h s = let half = shorter_way-half size ahead from h in small-range (shorter_way size ahead from) (omega arith)
+shorter_way-range size ahead from h s =
+    let half = shorter_way-half size ahead from h in
+    let parts = nat_abs-is (shorter_way size ahead from) in
+    record { most = omega arith; least = omega arith }
 
 -- fewer steps than a round are ahead
 pub ahead-lt : (size from to : ℕ) → from < size → steps_ahead size from to < size
@@ -608,13 +608,8 @@ ahead-reaches size from to h k =
     ∙ add-mod_right to size
     ∙ mod-eq_of_lt k
 
--- both ways lead there
-pub plus-reaches : (size from to : ℕ) → from < size → to < size → landing size from (pos (steps_ahead size from to)) ≡ to
-plus-reaches size from to h k = landing-plus size from (steps_ahead size from to) ∙ ahead-reaches size from to h k
-
-pub minus-reaches : (size from to : ℕ) → from < size → to < size → landing size from (negsuc (size - steps_ahead size from to - 1)) ≡ to
-minus-reaches size from to h k = landing-minus size from (steps_ahead size from to) (ahead-lt size from to h) ∙ ahead-reaches size from to h k
-
 pub shorter_way-reaches : (size from to c : ℕ) → from < size → to < size → landing size from (shorter_way size (steps_ahead size from to) c) ≡ to
 shorter_way-reaches size from to c h k =
-    shorter_way-by (λ z. landing size from z ≡ to) size (steps_ahead size from to) c (λ l. plus-reaches size from to h k) (λ l. minus-reaches size from to h k)
+    shorter_way-by (λ z. landing size from z ≡ to) size (steps_ahead size from to) c
+    (λ l. landing-plus size from (steps_ahead size from to) ∙ ahead-reaches size from to h k)
+    (λ l. landing-minus size from (steps_ahead size from to) (ahead-lt size from to h) ∙ ahead-reaches size from to h k)

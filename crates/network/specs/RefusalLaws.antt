@@ -14,7 +14,7 @@ use Rattle.network.specs.Check.{is_network}
 use Rattle.network.specs.CheckLaws.{Network, network-of, network-by}
 use Rattle.network.specs.Routes.{routes, deliver, target, free_load, load_needed}
 use Rattle.network.specs.RoutesLaws.{free-load-is, load-needed}
-use Rattle.network.specs.Refusals.{refuse, else_by, network_refusal, wrong_chunks, is_own_node, count_is_spent, injection_is_full, offer_rules, head, flow_rules, move_rules, short_store, wrong_size, no_network, no_such_node, no_such_queue, no_such_output, injection_full, count_spent, queue_empty, no_route, no_slot, no_bubble, own_node, bad_table}
+use Rattle.network.specs.Refusals.{refuse, else_by, network_refusal, wrong_chunks, is_own_node, count_is_spent, injection_is_full, offer_rules, head, flow_rules, move_rules, short_store, wrong_size, no_network, no_such_node, no_such_queue, no_such_output, injection_full, count_spent, queue_empty, no_route, no_slot, no_bubble, own_node}
 
 -- a test that would refuse by k + 1 did not apply, and the later ones say 0
 pub not-refused : (b : Bool) (k later : ℕ) → refuse b (suc k) later ≡ 0 → (b ≡ false) × (later ≡ 0)
@@ -61,47 +61,45 @@ network-passes w f =
     (passes (not (is_network (shape w) w)) no_network 0 (ap not (T_true (is_network (shape w) w) (network-by (shape w) w f))) refl)))
 
 -- R162, R189: 2 is told exactly where node and destination are nodes and the chunk number is outside 1 to 8, whatever the later tests would say
-pub chunks-exactly : (S : Shape) (w : List ℕ) (n destination chunks : ℕ) (bad : Bool)
-    → (offer_rules S w n destination chunks bad ≡ wrong_size) ↔ ((n < nodes S) × (destination < nodes S) × T (wrong_chunks chunks))
+pub chunks-exactly : (S : Shape) (w : List ℕ) (n destination chunks : ℕ)
+    → (offer_rules S w n destination chunks ≡ wrong_size) ↔ ((n < nodes S) × (destination < nodes S) × T (wrong_chunks chunks))
 unfolding offer_rules
-chunks-exactly S w n destination chunks bad =
-    (told (leb (nodes S) n) (leb (nodes S) destination) (wrong_chunks chunks) (is_own_node n destination) bad (count_is_spent w) (injection_is_full S w n) refl refl, tells)
+chunks-exactly S w n destination chunks =
+    (told (leb (nodes S) n) (leb (nodes S) destination) (wrong_chunks chunks) (is_own_node n destination) (count_is_spent w) (injection_is_full S w n) refl refl, tells)
   where
-    told : (a b c d h f g : Bool) → leb (nodes S) n ≡ a → leb (nodes S) destination ≡ b
-        → refuse (a || b) no_such_node (refuse c wrong_size (refuse d own_node (refuse h bad_table (refuse f count_spent (refuse g injection_full 0))))) ≡ wrong_size
+    told : (a b c d f g : Bool) → leb (nodes S) n ≡ a → leb (nodes S) destination ≡ b
+        → refuse (a || b) no_such_node (refuse c wrong_size (refuse d own_node (refuse f count_spent (refuse g injection_full 0)))) ≡ wrong_size
         → (n < nodes S) × (destination < nodes S) × T c
-    told true b c d h f g ea eb e = absurd (omega (arith, e))
-    told false true c d h f g ea eb e = absurd (omega (arith, e))
-    told false false true d h f g ea eb e = (leb-false (nodes S) n ea, leb-false (nodes S) destination eb, tt)
-    told false false false true h f g ea eb e = absurd (omega (arith, e))
-    told false false false false true f g ea eb e = absurd (omega (arith, e))
-    told false false false false false true g ea eb e = absurd (omega (arith, e))
-    told false false false false false false true ea eb e = absurd (omega (arith, e))
-    told false false false false false false false ea eb e = absurd (omega (arith, e))
+    told true b c d f g ea eb e = absurd (omega (arith, e))
+    told false true c d f g ea eb e = absurd (omega (arith, e))
+    told false false true d f g ea eb e = (leb-false (nodes S) n ea, leb-false (nodes S) destination eb, tt)
+    told false false false true f g ea eb e = absurd (omega (arith, e))
+    told false false false false true g ea eb e = absurd (omega (arith, e))
+    told false false false false false true ea eb e = absurd (omega (arith, e))
+    told false false false false false false ea eb e = absurd (omega (arith, e))
 
-    tells : (n < nodes S) × (destination < nodes S) × T (wrong_chunks chunks) → offer_rules S w n destination chunks bad ≡ wrong_size
+    tells : (n < nodes S) × (destination < nodes S) × T (wrong_chunks chunks) → offer_rules S w n destination chunks ≡ wrong_size
     tells (h, k, t) = rw (lt-leb (nodes S) n h, lt-leb (nodes S) destination k, T_true (wrong_chunks chunks) t)
 
 -- R174, R189: 14 is told exactly where a node offers to itself by a right chunk number, whatever was accepted and however full its queue is
-pub own-node-exactly : (S : Shape) (w : List ℕ) (n destination chunks : ℕ) (bad : Bool)
-    → (offer_rules S w n destination chunks bad ≡ own_node) ↔ ((n < nodes S) × (n ≡ destination) × T (within 1 most_chunks chunks))
+pub own-node-exactly : (S : Shape) (w : List ℕ) (n destination chunks : ℕ)
+    → (offer_rules S w n destination chunks ≡ own_node) ↔ ((n < nodes S) × (n ≡ destination) × T (within 1 most_chunks chunks))
 unfolding offer_rules
-own-node-exactly S w n destination chunks bad =
-    (told (leb (nodes S) n) (leb (nodes S) destination) (within 1 most_chunks chunks) (eqb n destination) bad (count_is_spent w) (injection_is_full S w n) refl refl, tells)
+own-node-exactly S w n destination chunks =
+    (told (leb (nodes S) n) (leb (nodes S) destination) (within 1 most_chunks chunks) (eqb n destination) (count_is_spent w) (injection_is_full S w n) refl refl, tells)
   where
-    told : (a b c d h f g : Bool) → leb (nodes S) n ≡ a → eqb n destination ≡ d
-        → refuse (a || b) no_such_node (refuse (not c) wrong_size (refuse d own_node (refuse h bad_table (refuse f count_spent (refuse g injection_full 0))))) ≡ own_node
+    told : (a b c d f g : Bool) → leb (nodes S) n ≡ a → eqb n destination ≡ d
+        → refuse (a || b) no_such_node (refuse (not c) wrong_size (refuse d own_node (refuse f count_spent (refuse g injection_full 0)))) ≡ own_node
         → (n < nodes S) × (n ≡ destination) × T c
-    told true b c d h f g ea ed e = absurd (omega (arith, e))
-    told false true c d h f g ea ed e = absurd (omega (arith, e))
-    told false false false d h f g ea ed e = absurd (omega (arith, e))
-    told false false true true h f g ea ed e = (leb-false (nodes S) n ea, eqb→eq n destination (true-T (eqb n destination) ed), tt)
-    told false false true false true f g ea ed e = absurd (omega (arith, e))
-    told false false true false false true g ea ed e = absurd (omega (arith, e))
-    told false false true false false false true ea ed e = absurd (omega (arith, e))
-    told false false true false false false false ea ed e = absurd (omega (arith, e))
+    told true b c d f g ea ed e = absurd (omega (arith, e))
+    told false true c d f g ea ed e = absurd (omega (arith, e))
+    told false false false d f g ea ed e = absurd (omega (arith, e))
+    told false false true true f g ea ed e = (leb-false (nodes S) n ea, eqb→eq n destination (true-T (eqb n destination) ed), tt)
+    told false false true false true g ea ed e = absurd (omega (arith, e))
+    told false false true false false true ea ed e = absurd (omega (arith, e))
+    told false false true false false false ea ed e = absurd (omega (arith, e))
 
-    tells : (n < nodes S) × (n ≡ destination) × T (within 1 most_chunks chunks) → offer_rules S w n destination chunks bad ≡ own_node
+    tells : (n < nodes S) × (n ≡ destination) × T (within 1 most_chunks chunks) → offer_rules S w n destination chunks ≡ own_node
     tells (h, e, t) =
         rw (
           lt-leb (nodes S) n h,
@@ -111,9 +109,9 @@ own-node-exactly S w n destination chunks bad =
         )
 
 -- R164, R189: one number, given twice, that is no node, whatever the chunk number
-pub no-node-first : (S : Shape) (w : List ℕ) (n chunks : ℕ) (bad : Bool) → nodes S ≤ n → offer_rules S w n n chunks bad ≡ no_such_node
+pub no-node-first : (S : Shape) (w : List ℕ) (n chunks : ℕ) → nodes S ≤ n → offer_rules S w n n chunks ≡ no_such_node
 unfolding offer_rules
-no-node-first S w n chunks bad h = rw (le-leb (nodes S) n h)
+no-node-first S w n chunks h = rw (le-leb (nodes S) n h)
 
 -- a move that no rule refuses
 pub record Permitted (S : Shape) (w : List ℕ) (n q o : ℕ) : Type 0 where

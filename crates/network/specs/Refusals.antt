@@ -6,7 +6,6 @@ use Rattle.network.specs.Sizes.{Shape, within, sizes_in_range, most_chunks, node
 use Rattle.network.specs.Layout.{shape, header_words, need, held, load, taken, accepted}
 use Rattle.network.specs.Check.{is_network, most_accepted}
 use Rattle.network.specs.Routes.{routes, deliver, free_load, load_needed}
-use Rattle.network.specs.Tables.{Tables, no_tables, bad_tables}
 
 -- R161 to R175, with the trade's words where they are others
 abbrev pub short_store : ℕ
@@ -59,10 +58,6 @@ own_node = 14
 -- R175: of a page or a list of fills that is too short for a step of a dump
 abbrev pub short_page : ℕ
 short_page = 15
-
--- R176: of a direction table of an offer
-abbrev pub bad_table : ℕ
-bad_table = 16
 
 -- refused by this number if the test applies, else whatever the later tests say
 abbrev pub refuse : Bool → ℕ → ℕ → ℕ
@@ -135,21 +130,17 @@ network_refusal w =
 unfoldable pub make_refusal : Shape → List ℕ → ℕ
 make_refusal S w = refuse (not (sizes_in_range S)) wrong_size (refuse (ltb (length w) (need S)) short_store 0)
 
--- R189: 4, 2, 14, 16, 8, 7; whether a table is bad is told by R627
-unfoldable pub offer_rules : Shape → List ℕ → ℕ → ℕ → ℕ → Bool → ℕ
-offer_rules S w n destination chunks bad =
+-- R189: 4, 2, 14, 8, 7
+unfoldable pub offer_rules : Shape → List ℕ → ℕ → ℕ → ℕ → ℕ
+offer_rules S w n destination chunks =
     refuse (no_node S n || no_node S destination) no_such_node
     (refuse (wrong_chunks chunks) wrong_size
     (refuse (is_own_node n destination) own_node
-    (refuse bad bad_table
     (refuse (count_is_spent w) count_spent
-    (refuse (injection_is_full S w n) injection_full 0)))))
+    (refuse (injection_is_full S w n) injection_full 0))))
 
-unfoldable pub offer_by_refusal : List ℕ → ℕ → ℕ → ℕ → Tables → ℕ
-offer_by_refusal w n destination chunks t = else_by (network_refusal w) (offer_rules (shape w) w n destination chunks (bad_tables (shape w) t))
-
-abbrev pub offer_refusal : List ℕ → ℕ → ℕ → ℕ → ℕ
-offer_refusal w n destination chunks = offer_by_refusal w n destination chunks no_tables
+unfoldable pub offer_refusal : List ℕ → ℕ → ℕ → ℕ → ℕ
+offer_refusal w n destination chunks = else_by (network_refusal w) (offer_rules (shape w) w n destination chunks)
 
 -- R184: 4, 5, 6, 9, 10, 11, 12; a delivery has no target and needs no slot (R153). The last two are of packet p, the head of queue q of node n
 unfoldable pub flow_rules : Shape → List ℕ → ℕ → ℕ → ℕ → ℕ → ℕ

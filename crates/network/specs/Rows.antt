@@ -3,7 +3,7 @@
 -- own, `kept_rows` has them all, and `kept_cases` (Cases.antt) takes it. Words are counted from 0, as in R42. Order: the words; places and the packet word;
 -- the ranges of the sizes; the check; the order of refusals; what refused calls leave; what is read of an answer; routes; flow; first in, first out;
 -- Credit; First; Drain; a run of calls; all of them. Assumes nothing.
-use Rattle.std.specs.Prelude.{◌≡◌, refl, true, false, cond, List, [], ◌∷◌, ◌++◌, map, ℕ, ◌+◌, ◌*◌, ◌-◌, ◌%◌, ◌^◌, ltb, ℤ, pos, negsuc, take, drop, set, replicate}
+use Rattle.std.specs.Prelude.{◌≡◌, refl, true, false, List, [], ◌∷◌, ◌++◌, map, ℕ, ◌+◌, ◌*◌, ◌-◌, ◌%◌, ◌^◌, ℤ, pos, negsuc, take, drop, set, replicate}
 use Rattle.std.proofs.Common.{ap, arith}
 use Rattle.network.specs.declared.Sizes.{Sizes}
 use Rattle.network.specs.declared.Moved.{Moved}
@@ -12,22 +12,26 @@ use Rattle.network.specs.declared.Found.{Found}
 use Rattle.network.specs.declared.Stop.{Stop}
 use Rattle.network.specs.declared.Drained.{Drained}
 use Rattle.network.specs.Sizes.{Shape, shape_of, sized, size, nodes, most_nodes, capacity}
-use Rattle.network.specs.Packet.{signed, tag, destination, chunks, spare, upper_spare, offset, label, work, hop}
+use Rattle.network.specs.Packet.{tag, destination, chunks, spare, upper_spare, offset, label, work, hop}
 use Rattle.network.specs.Torus.{neighbour, moved_by}
 use Rattle.network.specs.Layout.{shape, accepted, delivered, moves_made, need, queue_start, queue_words, put_queue}
 use Rattle.network.specs.Check.{packet_fits, work_left}
-use Rattle.network.specs.Routes.{in_order, routes, target}
+use Rattle.network.specs.Routes.{routes, target}
 use Rattle.network.specs.Refusals.{bad_line, short_page, network_refusal, make_refusal, offer_refusal, move_refusal, look_refusal}
 use Rattle.network.specs.Calls.{make_words, offered, offer_words, move_words, move_answer, credit_answer, look_part, look_at, first_answer, drain_words, drain_ledger, drain_answer}
 use Rattle.network.specs.Calls.{NamedMove, move_of, Delivery, moved_number, moved_packets, credit_number, credit_free, found_number, found_move, drained_number, drained_moves, drained_delivered, drained_stop}
 use Rattle.network.specs.Choices.{Permits}
 use Rattle.network.specs.Run.{move, drain, Ledger, Outcome, delivery_nodes, at_nodes, ledger_of, words_written, outcome, run, is_labelled, held_with, handed_with, hops_of, hops_with, at_destination}
 use Rattle.network.specs.FirstMoves.{ByFirst}
-use Rattle.network.specs.ByHand.{packet, here, straight, of_chunks, empty, holding, only, counting, chosen, definitions}
+use Rattle.network.specs.ByHand.{packet, here, of_chunks, empty, holding, only, chosen, definitions}
 
 -- the numbers of the queues
 abbrev thirteen : List ℕ
 thirteen = 0 ∷ 1 ∷ 2 ∷ 3 ∷ 4 ∷ 5 ∷ 6 ∷ 7 ∷ 8 ∷ 9 ∷ 10 ∷ 11 ∷ 12 ∷ []
+
+-- the words with these numbers of packets accepted, packets delivered and moves made
+abbrev counting : List ℕ → ℕ → ℕ → ℕ → List ℕ
+counting w a d m = set (set (set w 6 a) 7 d) 8 m
 
 -- The words -----------------------------------------------------------------------------------------------------------------------------
 
@@ -407,52 +411,26 @@ where-offsets-lead : WhereOffsetsLead
 unfolding definitions
 where-offsets-lead = refl
 
--- R76 to R78, 4 by 1 by 1: in which queues of node 0 a packet may stand that has dx = 1; −1; 0; 2; −2; 3; −3; 4. Once round is four hops, so three may be
--- left; in an x queue two, in a plus queue none back and in a minus queue none forward; the y and z queues are those of rings of one node
+-- R76 to R78, 4 by 1 by 1: in which queues of node 0 a packet may stand that has dx = 1; −1; 0; 2; −2; 3. In an x queue one hop less is left than half of 4, in a
+-- plus queue none back and in a minus queue none forward; the y and z queues are those of rings of one node
 abbrev pub QueuesBySign : Type 0
 QueuesBySign = map (λ p. chosen (λ q. packet_fits (shape_of (sized 4 1 1 2 1 1)) 0 q p) thirteen)
     (packet 1 (pos 1) (pos 0) (pos 0) ∷ packet 3 (negsuc 0) (pos 0) (pos 0) ∷ here 0
-    ∷ packet 2 (pos 2) (pos 0) (pos 0) ∷ packet 2 (negsuc 1) (pos 0) (pos 0) ∷ packet 3 (pos 3) (pos 0) (pos 0) ∷ packet 1 (negsuc 2) (pos 0) (pos 0)
-    ∷ packet 0 (pos 4) (pos 0) (pos 0) ∷ [])
-    ≡ (0 ∷ 1 ∷ 7 ∷ []) ∷ (0 ∷ 2 ∷ 8 ∷ []) ∷ (0 ∷ 1 ∷ 2 ∷ 7 ∷ 8 ∷ []) ∷ (0 ∷ 1 ∷ 7 ∷ []) ∷ (0 ∷ 2 ∷ 8 ∷ []) ∷ (0 ∷ []) ∷ (0 ∷ []) ∷ [] ∷ []
+    ∷ packet 2 (pos 2) (pos 0) (pos 0) ∷ packet 2 (negsuc 1) (pos 0) (pos 0) ∷ packet 3 (pos 3) (pos 0) (pos 0) ∷ [])
+    ≡ (0 ∷ 1 ∷ 7 ∷ []) ∷ (0 ∷ 2 ∷ 8 ∷ []) ∷ (0 ∷ 1 ∷ 2 ∷ 7 ∷ 8 ∷ []) ∷ (0 ∷ []) ∷ (0 ∷ []) ∷ [] ∷ []
 
 queues-by-sign : QueuesBySign
 unfolding definitions
 queues-by-sign = refl
 
--- R76 to R78, rings of 1, 2 and 5 nodes along x: in queues 0, 1, 7, 2 and 8 of node 0, which of the 32 numbers that the field of dx can have pass, each with
--- the node to which it leads; 16 to 31 stand for −16 to −1. So of the ring of 5 in queue 0 the offsets −4 to 4, in the plus queues 0 to 3, in the minus
--- queues −3 to 0. And what Check says of the ring of 5: in queue 0 of −5, −4, 4 and 5; in queue 1 of 3 and 4
-abbrev leads_to : ℕ → ℕ → ℕ
-leads_to nodes' b = cond (ltb b 16) b (b + 32 * nodes' - 32) % nodes'
-
-abbrev with_field : ℕ → ℕ → ℕ
-with_field nodes' b = straight (leads_to nodes' b) 0 (signed b)
-
-abbrev ring_of : ℕ → Shape
-ring_of nodes' = shape_of (sized nodes' 1 1 2 1 1)
-
-abbrev pub OffsetsByRing : Type 0
-OffsetsByRing = (map (λ k. map (λ q. chosen (λ b. packet_fits (ring_of k) 0 q (with_field k b)) (in_order 0 32)) (0 ∷ 1 ∷ 7 ∷ 2 ∷ 8 ∷ [])) (1 ∷ 2 ∷ 5 ∷ [])
-    ≡ ((0 ∷ []) ∷ replicate 4 [])
-    ∷ ((0 ∷ 1 ∷ 31 ∷ []) ∷ replicate 4 (0 ∷ []))
-    ∷ ((0 ∷ 1 ∷ 2 ∷ 3 ∷ 4 ∷ 28 ∷ 29 ∷ 30 ∷ 31 ∷ []) ∷ (0 ∷ 1 ∷ 2 ∷ 3 ∷ []) ∷ (0 ∷ 1 ∷ 2 ∷ 3 ∷ []) ∷ (0 ∷ 29 ∷ 30 ∷ 31 ∷ []) ∷ (0 ∷ 29 ∷ 30 ∷ 31 ∷ []) ∷ [])
-    ∷ [])
-    × (map (λ b. network_refusal (only (ring_of 5) 0 (with_field 5 b))) (27 ∷ 28 ∷ 4 ∷ 5 ∷ []) ≡ 3 ∷ 0 ∷ 0 ∷ 3 ∷ [])
-    × (map (λ b. network_refusal (only (ring_of 5) 1 (with_field 5 b))) (3 ∷ 4 ∷ []) ≡ 0 ∷ 3 ∷ [])
-
-offsets-by-ring : OffsetsByRing
-unfolding definitions
-offsets-by-ring = (refl, refl, refl)
-
--- R77, 4 by 4 by 4: in which queues of node 0 a packet may stand that has three hops plus along x, for node 3; along y, for node 12; along z, for node 48. In
--- the queues of that dimension it would have come once round; R79 keeps the first out of the escape queues of y and z, and the second out of those of z
+-- R77, 4 by 4 by 4: in which queues of node 0 a packet may stand that is half-way round along x, for node 2; along y, for node 8; along z, for node 32. In the queues
+-- of that dimension it would have come further than half-way; R79 keeps the first out of the escape queues of y and z, and the second out of those of z
 abbrev four-cubed : Shape
 four-cubed = shape_of (sized 4 4 4 2 1 1)
 
 abbrev pub QueuesByDistance : Type 0
 QueuesByDistance = map (λ p. chosen (λ q. packet_fits four-cubed 0 q p) thirteen)
-    (packet 3 (pos 3) (pos 0) (pos 0) ∷ packet 12 (pos 0) (pos 3) (pos 0) ∷ packet 48 (pos 0) (pos 0) (pos 3) ∷ [])
+    (packet 2 (pos 2) (pos 0) (pos 0) ∷ packet 8 (pos 0) (pos 2) (pos 0) ∷ packet 32 (pos 0) (pos 0) (pos 2) ∷ [])
     ≡ (0 ∷ 3 ∷ 4 ∷ 5 ∷ 6 ∷ []) ∷ (0 ∷ 1 ∷ 2 ∷ 5 ∷ 6 ∷ 7 ∷ 8 ∷ []) ∷ (0 ∷ 1 ∷ 2 ∷ 3 ∷ 4 ∷ 7 ∷ 8 ∷ 9 ∷ 10 ∷ []) ∷ []
 
 queues-by-distance : QueuesByDistance
@@ -591,19 +569,19 @@ delivered-and-held : DeliveredAndHeld
 unfolding definitions
 delivered-and-held = (refl, refl)
 
--- R84: the work of a packet that has arrived; with offsets −2, 3, −16; with 15, −15, 15, the most that an offer can have
+-- R84: the work of a packet that has arrived; with offsets −2, 3, −16; with 8, 8, 8
 abbrev pub WorkOfWords : Type 0
-WorkOfWords = map work (here 0 ∷ packet 0 (negsuc 1) (pos 3) (negsuc 15) ∷ packet 0 (pos 15) (negsuc 14) (pos 15) ∷ []) ≡ 1 ∷ 22 ∷ 46 ∷ []
+WorkOfWords = map work (here 0 ∷ packet 0 (negsuc 1) (pos 3) (negsuc 15) ∷ packet 0 (pos 8) (pos 8) (pos 8) ∷ []) ≡ 1 ∷ 22 ∷ 25 ∷ []
 
 work-of-words : WorkOfWords
 unfolding definitions
 work-of-words = refl
 
--- R84, R85: three accepted, one delivered, and two held, with one hop left and with none: work 2 + 1. So 46 × 3 − 3 = 135 moves may have been made, not 136,
--- and not 2^64 − 1, which a sum of 64 bits would bring below 138
+-- R84, R85: three accepted, one delivered, and two held, with one hop left and with none: work 2 + 1. So 25 × 3 − 3 = 72 moves may have been made, not 73, and not
+-- 2^64 − 1, which a sum of 64 bits would bring below 75
 abbrev pub MostMoves : Type 0
 MostMoves = map (λ m. network_refusal (counting (holding (only two 0 (packet 1 (pos 1) (pos 0) (pos 0))) 1 1 (here 1 ∷ [])) 3 1 m))
-    (135 ∷ 136 ∷ 18446744073709551615 ∷ [])
+    (72 ∷ 73 ∷ 18446744073709551615 ∷ [])
     ≡ 0 ∷ 3 ∷ 3 ∷ []
 
 most-moves : MostMoves
@@ -1489,7 +1467,6 @@ pub record KeptRows : Type 0 where
   pub leads-there : LeadsThere
   pub where-offsets-lead : WhereOffsetsLead
   pub queues-by-sign : QueuesBySign
-  pub offsets-by-ring : OffsetsByRing
   pub queues-by-distance : QueuesByDistance
   pub queues-by-lower-offsets : QueuesByLowerOffsets
   pub queues-by-minus : QueuesByMinus
@@ -1631,7 +1608,6 @@ kept_rows =
       leads-there = leads-there;
       where-offsets-lead = where-offsets-lead;
       queues-by-sign = queues-by-sign;
-      offsets-by-ring = offsets-by-ring;
       queues-by-distance = queues-by-distance;
       queues-by-lower-offsets = queues-by-lower-offsets;
       queues-by-minus = queues-by-minus;

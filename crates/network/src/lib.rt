@@ -1,6 +1,8 @@
 // What all crates share: the sizes of a network, every number that a rule of docs/RULES.md fixes (R5 in a comment is that clause), the
 // sign of an offset, and the answers of the calls. specs/ has the definitions: Sizes.antt, Layout.antt, Check.antt and Refusals.antt those
 // of the numbers, under the same names, Selection.antt what follows from a sign, and Calls.antt when a call gives which answer, and what is read of it.
+#![tactic(auto)]
+
 ghost use Rattle.std.specs.Prelude.{◌≡◌, ◌<◌};
 ghost use Rattle.network.specs.Sizes.{sized, direction_of, is_adaptive};
 ghost use Rattle.network.specs.Calls.{drained_number, drained_moves, drained_delivered};
@@ -120,19 +122,11 @@ pub enum Sign {
     Zero,
 }
 
-// R620, R621: the words of a row of a direction table, and the last of them where the row goes minus; 0 is plus.
-pub const ROW_WORDS: usize = 3;
-
-pub const MINUS_WAY: u64 = 1;
-
-// R626, R627: a bit for each dimension says whether a table is given for it, and there is no bit above them.
-pub const GIVEN_VALUES: u64 = 8;
-
 // R82: the largest number of packets accepted, 2^32 - 1.
 pub const MOST_ACCEPTED: u64 = 4294967295;
 
-// R85: the most work that a packet starts with, 15 hops in each dimension and its delivery.
-pub const MOST_WORK: u64 = 46;
+// R85: the most work that a packet starts with, 8 hops in each dimension and its delivery.
+pub const MOST_WORK: u64 = 25;
 
 // The numbers of the refusals.
 
@@ -180,9 +174,6 @@ pub const OWN_NODE: u64 = 14;
 
 // R175: a page or a list of fills too short for a step of a dump.
 pub const SHORT_PAGE: u64 = 15;
-
-// R176: a direction table of an offer that is not lawful.
-pub const BAD_TABLE: u64 = 16;
 
 // Move: refused by a rule, passed on to a neighbour, or delivered, with the packet word that it hands out.
 #[derive(Drop)]

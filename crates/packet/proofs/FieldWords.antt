@@ -1,15 +1,20 @@
--- The fields of a word as the code reads and writes them. Order: their weights; an offset's field; the word with an offset replaced; the word of
--- some fields, from its start to its last offset. Assumes nothing.
+-- The fields of a word as the code reads and writes them. Order: their weights; an offset's field; the word with an offset replaced; the word of an
+-- offer, from its start to its last offset. Assumes nothing.
 use mathlib.Core.Path.{◌≡◌, refl, ap, ap₂, sym, ◌∙◌}
 use Prim.Native.Nat.{ℕ, ◌+◌, ◌*◌, ◌-◌, ◌/◌, ◌%◌, ◌^◌, ◌<◌, ◌≤◌}
 use native.Mathlib.Numerals.{add-one}
 use native.Mathlib.Omega.{arith}
+use lib.Dec.{T}
 use lib.IntN.{ℤ}
-use Rattle.network.specs.Sizes.{dimensions, most_chunks}
+use Rattle.network.specs.Sizes.{shape_of, sizes_in_range, dimensions, most_chunks}
+use Rattle.network.specs.declared.Sizes.{Sizes}
 use Rattle.network.specs.PacketLaws.{OffsetRange, fields-positive, offset-values, offset-field-lt, tag_is, tag-with}
 use Rattle.base.specs.Digits.{product, digit, put_digit, weight, weight-pos, digit-multiple, digit-put-other, digit-weight, put-weight}
 use native.Mathlib.Nat.{zero-mul}
 use Rattle.network.specs.Packet.{offset_values, fields, offset_field, destination_field, chunk_field, unsigned, with_offset, with_offsets}
+use Rattle.network.specs.TorusLaws.{sizes-torus, in_range-size}
+use Rattle.network.specs.Calls.{offered_way}
+use Rattle.network.specs.OfferLaws.{offered-range}
 
 -- the weight of an offset's field, of each dimension
 pub field-weight-x : (i : ℕ) → i ≡ 0 → offset_values * offset_values ≡ weight fields (offset_field i)
@@ -56,6 +61,10 @@ module _ (i p w : ℕ) (h : i < dimensions) (e : w ≡ weight fields (offset_fie
         let v = tag_is p in
         omega arith
 
+-- the way of an offer is of an offset's range
+pub sizes-way : (s : Sizes) (n destination i : ℕ) → T (sizes_in_range (shape_of s)) → i < dimensions → OffsetRange (offered_way (shape_of s) n destination i)
+sizes-way s n destination i t h = offered-range (shape_of s) n destination i (sizes-torus s t) (λ j k. in_range-size (shape_of s) j t) h
+
 -- the word of a tag, chunks and a destination, before any offset
 abbrev pub word_start : ℕ → ℕ → ℕ → ℕ
 word_start t c dest = put_digit fields destination_field dest (put_digit fields chunk_field (c - 1) (t * product fields))
@@ -80,3 +89,7 @@ word-start t c dest offs l m h =
 pub word_more : (i p r w : ℕ) (z : ℤ) (offs : ℕ → ℤ) → r ≡ with_offset i z p → z ≡ offs i → p ≡ with_offsets i offs w → r ≡ with_offsets (i + 1) offs w
 unfolding with_offsets
 word_more i p r w z offs e f g = e ∙ ap₂ (λ (y : ℤ) (q : ℕ). with_offset i y q) f g ∙ ap (λ (j : ℕ). with_offsets j offs w) (sym (add-one i))
+
+-- all of them
+pub word_end : (i p w : ℕ) (offs : ℕ → ℤ) → p ≡ with_offsets i offs w → i ≡ dimensions → p ≡ with_offsets dimensions offs w
+word_end i p w offs e f = e ∙ ap (λ (j : ℕ). with_offsets j offs w) f

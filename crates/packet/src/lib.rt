@@ -1,18 +1,20 @@
 // The packet word in code: its offsets as signed numbers, its fields, a hop, and the packet of an offer. Every function equals the definition of
 // its name in the crate `network` (specs/Packet.antt, Calls.antt). The torus that packets cross is the crate `torus`.
+#![tactic(auto)]
+
 ghost use Rattle.std.specs.Prelude.{◌≡◌, ◌&&◌, ◌<◌, ◌≤◌, T, nat_abs};
 ghost use Rattle.base.specs.Digits.{digit, weight};
 ghost use Rattle.network.specs.Sizes.{shape_of, sizes_in_range, dimensions, largest_ring, most_chunks, nodes};
-ghost use Rattle.network.specs.Packet.{offset_values, destination_values, packet_word, offsets, fields, offset_field, signed, unsigned, offset, with_offset, shrunk, hop, destination, chunks, spare, upper_spare, shorter_way};
+ghost use Rattle.network.specs.Packet.{offset_values, fields, offset_field, signed, unsigned, offset, with_offset, shrunk, hop, destination, chunks, spare, upper_spare, shorter_way};
 ghost use Rattle.network.specs.Layout.{load};
 ghost use Rattle.network.specs.Check.{spare_clear, upper_spare_clear};
 ghost use Rattle.network.specs.PacketLaws.{OffsetRange};
 ghost use Rattle.network.specs.Selection.{sign};
-ghost use Rattle.network.specs.Calls.{offered_steps, default_way};
+ghost use Rattle.network.specs.Calls.{offered_way, offered};
 
 use network::{
-    CHUNKS_AT, DESTINATION_AT, DESTINATION_VALUES, MOST_CHUNKS, OFFSET_VALUES, SPARE_AT,
-    SPARE_VALUES, Sign, Sizes, TAG_AT, UPPER_SPARE_AT, is_adaptive,
+    CHUNKS_AT, DESTINATION_AT, DESTINATION_VALUES, DIMENSIONS, MOST_CHUNKS, OFFSET_VALUES,
+    SPARE_AT, SPARE_VALUES, Sign, Sizes, TAG_AT, UPPER_SPARE_AT, is_adaptive,
 };
 use torus::{coordinate, size};
 
@@ -189,35 +191,28 @@ pub fn shorter_way(size: u64, ahead: u64, from: u64) -> i64
 
 // The packet of an offer ----------------------------------------------------------------------------------------------------
 
-// How many steps ahead the destination is along dimension i, going plus.
-pub fn steps_ahead(s: Sizes, i: u64, n: u64, destination: u64) -> u64
+// The offset of an offer in dimension i.
+fn way(s: Sizes, i: u64, n: u64, destination: u64) -> i64
     requires { T (sizes_in_range (shape_of s)) × (i < dimensions) × (n < nodes (shape_of s)) × (destination < nodes (shape_of s)) }
-    ensures { result ≡ offered_steps (shape_of s) n destination i }
+    ensures { result ≡ offered_way (shape_of s) n destination i }
 {
     let k = size(s, i);
     let from = coordinate(s, i, n);
     let to = coordinate(s, i, destination);
-    (to + (k - from)) % k
+    let ahead = (to + (k - from)) % k;
+    shorter_way(k, ahead, from)
 }
 
-// The offset of an offer in dimension i where no table says otherwise.
-pub fn default_way(s: Sizes, i: u64, n: u64, destination: u64) -> i64
-    requires { T (sizes_in_range (shape_of s)) × (i < dimensions) × (n < nodes (shape_of s)) × (destination < nodes (shape_of s)) }
-    ensures { result ≡ default_way (shape_of s) n destination i }
+// The packet word of an offer.
+pub fn offered(s: Sizes, n: u64, destination: u64, tag: u32, chunks: u64) -> u64
+    requires { T (sizes_in_range (shape_of s)) × (n < nodes (shape_of s)) × (destination < nodes (shape_of s)) × (1 ≤ chunks) × (chunks ≤ most_chunks) }
+    ensures { result ≡ offered (shape_of s) n destination tag chunks }
 {
-    let ahead = steps_ahead(s, i, n, destination);
-    let own = coordinate(s, i, n);
-    shorter_way(size(s, i), ahead, own)
-}
-
-// The word of these fields.
-pub fn packet_word(tag: u32, chunks: u64, destination: u64, dx: i64, dy: i64, dz: i64) -> u64
-    requires le_chunks { (1 ≤ chunks) × (chunks ≤ most_chunks) × (destination < destination_values) }
-    requires offset_range { OffsetRange dx × OffsetRange dy × OffsetRange dz }
-    ensures { result ≡ packet_word tag chunks destination (offsets dx dy dz) }
-{
-    let p = (tag as u64) * TAG_AT + (chunks - 1) * CHUNKS_AT + destination * DESTINATION_AT;
-    let x = with_offset(0, dx, p);
-    let y = with_offset(1, dy, x);
-    with_offset(2, dz, y)
+    let mut p = (tag as u64) * TAG_AT + (chunks - 1) * CHUNKS_AT + destination * DESTINATION_AT;
+    let mut i = 0;
+    while i < DIMENSIONS {
+        p = with_offset(i, way(s, i, n, destination), p);
+        i += 1;
+    }
+    p
 }

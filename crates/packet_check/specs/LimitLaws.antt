@@ -1,6 +1,6 @@
 -- A packet's clauses of the check are the limits on its hops, with the node that they lead to. Order: the limits by the queue's direction; limits
 -- are small; the limits from the clauses, and the clauses from the limits. `d` is a direction, `i` a dimension. Assumes nothing.
-use Rattle.std.specs.Prelude.{◌≡◌, refl, ◌⊎◌, ◌≢◌, not, ◌&&◌, ℕ, ◌+◌, ◌-◌, ◌%◌, ◌<◌, ◌≤◌, T}
+use Rattle.std.specs.Prelude.{◌≡◌, refl, ◌⊎◌, ◌≢◌, not, ◌&&◌, ℕ, ◌+◌, ◌/◌, ◌%◌, ◌<◌, ◌≤◌, T}
 use Rattle.std.proofs.Common.{ap, sym, ◌∙◌, inl, inr, ltb→lt, lt→ltb, eqb→eq}
 use Rattle.std.proofs.Math.Bool.{Bool, true, false, cond}
 use mathlib.Core.List.{List, [], ◌∷◌}
@@ -76,7 +76,7 @@ module _ (S : Shape) (q d : ℕ) where
       other true = refl
       other false = refl
 
-  -- none is more than one above the longest way
+  -- none is more than one above half of the ring
   pub limit-most : limit S q d ≤ longest S (dimension_of d) + 1
   unfolding limit
   limit-most = go (eqb q injection_queue) (eqb (direction_of q) d) (eqb (dimension_of (direction_of q)) (dimension_of d)) (is_escape q && ltb (dimension_of d) (dimension_of (direction_of q)))
@@ -91,14 +91,17 @@ module _ (S : Shape) (q d : ℕ) where
 
 -- Limits are small --------------------------------------------------------------------------------------------------------------------
 
+half-most : (k : ℕ) → 1 ≤ k → k / 2 + 1 ≤ k
+half-most k h = omega arith
+
 -- none is more than the whole ring
 pub limit-size : (s : Sizes) (q d : ℕ) → T (sizes_in_range (shape_of s)) → d < directions → limit (shape_of s) q d ≤ size (shape_of s) (dimension_of d)
 limit-size s q d t h =
     let m : limit (shape_of s) q d ≤ longest (shape_of s) (dimension_of d) + 1 = limit-most (shape_of s) q d in
-    let some : 0 < size (shape_of s) (dimension_of d) = size-pos (shape_of s) (dimension_of d) (sizes-torus s t) (dimension-lt d h) in
+    let k = half-most (size (shape_of s) (dimension_of d)) (size-pos (shape_of s) (dimension_of d) (sizes-torus s t) (dimension-lt d h)) in
     omega arith
 
--- nor more than half of the numbers that an offset's field stands for
+-- nor more than lets every offset that a ring can need pass
 pub limit-half : (s : Sizes) (q d : ℕ) → T (sizes_in_range (shape_of s)) → limit (shape_of s) q d ≤ half_offsets
 limit-half s q d t =
     let m : limit (shape_of s) q d ≤ longest (shape_of s) (dimension_of d) + 1 = limit-most (shape_of s) q d in
@@ -201,7 +204,7 @@ module _ (S : Shape) (n q p : ℕ) where
       go (ℕ_discrete q injection_queue) (ℕ_discrete (direction_of q) d) (ℕ_discrete (dimension_of (direction_of q)) (dimension_of d)) (passed? (is_escape q))
       (dec_lt (dimension_of d) (dimension_of (direction_of q)))
     where
-      -- what the longest way bounds
+      -- what half of the ring bounds
       far : hops d p < longest S (dimension_of d) + 1
       far =
           let a = hops-le d p in

@@ -10,8 +10,8 @@ use Rattle.network.specs.Packet.{hops}
 abbrev pub spares_clear : ℕ → Bool
 spares_clear p = spare_clear p && upper_spare_clear p
 
--- A packet of queue q has fewer hops left in direction d than this. In the queue's own direction they stay below the longest way, the other way
--- along its dimension there are none, and in an escape queue there are none along a lower dimension. All others reach the longest way.
+-- A packet of queue q has fewer hops left in direction d than this. In the queue's own direction they stay below half of the ring, the other way
+-- along its dimension there are none, and in an escape queue there are none along a lower dimension. All others reach half of the ring.
 unfoldable pub limit : Shape → ℕ → ℕ → ℕ
 limit S q d =
     cond (eqb q injection_queue) (longest S (dimension_of d) + 1)

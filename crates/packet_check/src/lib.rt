@@ -1,6 +1,8 @@
 // A packet's clauses of the check, by the hops that it has left in each direction: each is below a limit that its queue sets, and together
 // they lead to its destination; and by its spare bit. Where hops lead, how many there are and which offsets a queue lets pass is looked up in
 // tables, which are filled once for a check. Order: the offsets that pass in a queue; the tables; a packet.
+#![tactic(auto)]
+
 ghost use Rattle.std.specs.Prelude.{◌≡◌, cond, ℕ, ◌+◌, ◌*◌, ◌-◌, ◌%◌, ◌<◌, ◌≤◌, T, length, get_or};
 ghost use Rattle.base.specs.Bits.{bit};
 ghost use Rattle.base.specs.Digits.{weight};
@@ -28,28 +30,28 @@ fn row(forward: u64, back: u64) -> u64
     ones << (HALF_OFFSETS + 1 - back)
 }
 
-// The offsets of dimension i that pass in queue q. None is as long as once round; in the queue's own direction a hop has been made already, so there is one
-// less; the other way along its dimension there are no hops, and in an escape queue there are none along a lower dimension.
+// The offsets of dimension i that pass in queue q. In the queue's own direction hops stay below half of the ring, the other way along its dimension
+// there are none, and in an escape queue there are none along a lower dimension. All others reach half of the ring.
 fn passing(s: Sizes, q: u64, i: u64) -> u64
     requires { T (sizes_in_range (shape_of s)) × (i < dimensions) }
     ensures { result ≡ passing (shape_of s) q i }
 {
-    let round = size(s, i);
+    let half = size(s, i) / 2;
     if q == INJECTION_QUEUE {
-        return row(round, round);
+        return row(half + 1, half + 1);
     }
     let own = direction_of(q);
     if own == 2 * i {
-        return row(round - 1, 1);
+        return row(half, 1);
     }
     if own == 2 * i + 1 {
-        return row(1, round - 1);
+        return row(1, half);
     }
     if q <= DIRECTIONS {
-        return row(round, round);
+        return row(half + 1, half + 1);
     }
     if own / 2 < i {
-        return row(round, round);
+        return row(half + 1, half + 1);
     }
     row(1, 1)
 }

@@ -1,6 +1,8 @@
 // A queue as a part of the lent words: one word for the number held, the packets, oldest first, and zeros.
 // Order: the leaves on a queue's own words; the same at a place in more words; where the queues of a network stand;
 // what a queue of a network holds; the leaves again, for a queue of a network.
+#![tactic(auto)]
+
 ghost use Rattle.std.specs.Prelude.{◌≡◌, [], ◌∷◌, ◌++◌, ◌<◌, ◌≤◌, T, length, drop};
 ghost use Rattle.base.specs.Sums.{sum_below, sum_of};
 ghost use Rattle.base.specs.Parts.{span, splice};

@@ -1,4 +1,6 @@
 // The queues' clauses of the check, and the sums over their packets, in one pass over the words: from a queue's own words to all nodes.
+#![tactic(auto)]
+
 ghost use Rattle.std.specs.Prelude.{◌≡◌, false, ℕ, ◌+◌, ◌<◌, ◌≤◌, eqb, leb, length, drop};
 ghost use Rattle.base.specs.Tests.{all_of};
 ghost use Rattle.base.specs.Sums.{sum_of};

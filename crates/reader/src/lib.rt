@@ -1,4 +1,6 @@
 // A line read as a command: the numbers of its fields, then the command of its letter.
+#![tactic(auto)]
+
 ghost use Rattle.std.specs.Prelude.{◌≡◌, List, ℕ, ◌+◌, ◌≤◌, length, drop};
 ghost use Rattle.reader.specs.Reading.{number_of, digits_from, Separator, first_numbers, NumbersOf};
 ghost use Rattle.sheet.specs.Commands.{up_to, later_fields, command_with, command_of};

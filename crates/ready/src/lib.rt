@@ -1,5 +1,7 @@
 // The set of heads that may have a permitted move (specs/ReadyHeads.antt), as a Drain keeps it: what a move adds to it, and First's move found from it. The
 // set is words of the crate `headset`; the neighbours and the loads come out of tables (crates `near` and `loads`).
+#![tactic(auto)]
+
 ghost use Rattle.std.specs.Prelude.{◌≡◌, ◌<◌, T};
 ghost use Rattle.network.specs.Sizes.{shape_of, nodes, queues, sizes_in_range};
 ghost use Rattle.network.specs.CheckLaws.{Network};

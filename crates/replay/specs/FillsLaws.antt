@@ -5,12 +5,11 @@ use Rattle.std.proofs.Common.{ap, sym, ◌∙◌, subst, true≢false, inl, inr,
 use Rattle.std.proofs.Math.Seq.{take-append_seam}
 use Rattle.network.specs.SizesLaws.{range-of}
 use Rattle.network.specs.Layout.{shape, moves_made}
-use Rattle.network.specs.Tables.{no_tables}
-use Rattle.network.specs.Refusals.{network_refusal}
-use Rattle.network.specs.RefusalLaws.{network-passed}
-use Rattle.network.specs.Calls.{move_of, make_words, offer_by_words, move_words}
+use Rattle.network.specs.Refusals.{network_refusal, offer_refusal, offer_rules}
+use Rattle.network.specs.RefusalLaws.{neither, network-passed}
+use Rattle.network.specs.Calls.{move_of, make_words, offer_words, move_words}
 use Rattle.network.specs.Run.{move, outcome, run, Demand3}
-use Rattle.network.specs.CallLaws.{offer-passed, offer-call}
+use Rattle.network.specs.CallLaws.{offer-call}
 use Rattle.run.specs.Theorem.{demand3}
 use Rattle.sheet.specs.declared.Command.{Command}
 use Rattle.session.specs.Session.{perform, new_store}
@@ -62,13 +61,13 @@ whole_tells first w v list page later is =
 
 -- a command that changes something and begins no dump, and one that changes nothing
 command-follows : (c : Command) (w : List ℕ) → changed c w ≡ true → begins_dump c ≡ false → Follows w (carried_out c w)
-unfolding changed begins_dump carried_out perform run outcome Demand3
+unfolding changed begins_dump carried_out perform offer_refusal run outcome Demand3
 command-follows (Command.Make x y z e a j) w t f = absurd (true≢false f)
 command-follows (Command.Offer node destination tag chunks) w t f =
     let z = eqb-true _ 0 t in
     record {
-      network = (offer-passed w node destination chunks no_tables z).network;
-      same_shape = (offer-call w node destination tag chunks no_tables z).kept.same_shape;
+      network = (neither (network_refusal w) (offer_rules (shape w) w node destination chunks) z).0;
+      same_shape = (offer-call w node destination tag chunks z).kept.same_shape;
     }
 command-follows (Command.Move node queue output) w t f =
     let z = moved-network w node queue output (eqb-true _ 0 t) in
@@ -77,7 +76,7 @@ command-follows (Command.Drain budget) w t f = absurd (true≢false (sym t))
 command-follows Command.Bad w t f = absurd (true≢false (sym t))
 
 command-idle : (c : Command) (w : List ℕ) → changed c w ≡ false → carried_out c w ≡ w
-unfolding changed carried_out perform make_words offer_by_words move_words
+unfolding changed carried_out perform make_words offer_words move_words
 command-idle (Command.Make x y z e a j) w f = rw f refl
 command-idle (Command.Offer node destination tag chunks) w f = rw f refl
 command-idle (Command.Move node queue output) w f = rw f refl

@@ -7,7 +7,6 @@ use Rattle.std.proofs.Math.Decide.{ℕ_discrete}
 use Rattle.std.proofs.lemmas.List.{length-replicate}
 use Rattle.network.specs.Sizes.{shape_of, sized}
 use Rattle.network.specs.Layout.{shape}
-use Rattle.network.specs.Tables.{no_tables}
 use Rattle.network.specs.Refusals.{network_refusal, move_refusal, move_rules}
 use Rattle.network.specs.RefusalLaws.{neither, not-refused, else_by-zero}
 use Rattle.network.specs.Calls.{move_of, unless_refused, drain_words}
@@ -90,7 +89,7 @@ move-passes w n q o z = (demand3 w (move (move_of n q o) ∷ []) (moved-network 
 changed-passes : (c : Command) (w : List ℕ) → changed c w ≡ true → network_refusal (carried_out c w) ≡ 0
 unfolding changed carried_out perform shape_of
 changed-passes (Command.Make x y z e a j) w t = make-passes (shape_of (sized x y z e a j)) w refl (eqb-true _ 0 t)
-changed-passes (Command.Offer node destination tag chunks) w t = offer-passes w node destination tag chunks no_tables (eqb-true _ 0 t)
+changed-passes (Command.Offer node destination tag chunks) w t = offer-passes w node destination tag chunks (eqb-true _ 0 t)
 changed-passes (Command.Move node queue output) w t = move-passes w node queue output (eqb-true _ 0 t)
 changed-passes (Command.Drain budget) w t = absurd (true≢false (sym t))
 changed-passes Command.Bad w t = absurd (true≢false (sym t))
@@ -106,7 +105,7 @@ moved_passes w room t = by (move-told w room)
 changed-length : (c : Command) (w : List ℕ) → changed c w ≡ true → length (carried_out c w) ≡ length w
 unfolding changed carried_out perform shape_of run outcome Demand3
 changed-length (Command.Make x y z e a j) w t = make-length (shape_of (sized x y z e a j)) w refl (eqb-true _ 0 t)
-changed-length (Command.Offer node destination tag chunks) w t = offer-length w node destination tag chunks no_tables (eqb-true _ 0 t)
+changed-length (Command.Offer node destination tag chunks) w t = offer-length w node destination tag chunks (eqb-true _ 0 t)
 changed-length (Command.Move node queue output) w t = (demand3 w (move (move_of node queue output) ∷ []) (moved-network w node queue output (eqb-true _ 0 t))).same_length
 changed-length (Command.Drain budget) w t = refl
 changed-length Command.Bad w t = refl

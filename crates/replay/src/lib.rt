@@ -1,5 +1,7 @@
 // A sheet replayed as a dump (R423, R424): what a command does to the store, and the step that shows it, written onto a lent page. A D is
 // replayed move by move, so that each of its moves is a step of its own. Order: a step; a command at once; a move of a D; the next of a read.
+#![tactic(auto)]
+
 ghost use Rattle.std.specs.Prelude.{◌≡◌, List, ℕ, ◌<◌, ◌≤◌, eqb, length};
 ghost use Rattle.network.specs.Calls.{moved_number};
 ghost use Rattle.waveform.specs.Calls.{written_length};

@@ -1,5 +1,7 @@
 // The rings' clause of the check (R80, R81): no escape ring is full. The queues of a ring stand at equal distances in the words, so do
 // the rings of a group and the groups of a dimension: each ring is looked at once, and no node is computed.
+#![tactic(auto)]
+
 ghost use Rattle.std.specs.Prelude.{◌≡◌, ◌<◌};
 ghost use Rattle.base.specs.Tests.{all_below};
 ghost use Rattle.network.specs.Sizes.{shape_of, directions, nodes};

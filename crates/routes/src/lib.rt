@@ -1,6 +1,8 @@
 // The routes of a head (R140 to R149), decided case by case, line after line of the paper's selection list: by the number of its queue and the
 // signs of its offsets. The cases are those of the crate `network` (specs/Selection.antt): `adaptive_x`, `adaptive_y`, `adaptive_z` and `last_case`
 // under the same names, and `in_turn` as the match in `routes`. What they give together is proved to be `routes` (specs/Routes.antt there).
+#![tactic(auto)]
+
 ghost use Rattle.std.specs.Prelude.{◌≡◌, ◌<◌, length};
 ghost use Rattle.base.specs.Tests.{elem};
 ghost use Rattle.network.specs.Sizes.{queues};

@@ -1,5 +1,7 @@
 // The tests that each call makes after the check, in the order of R184 to R186 and R189: the number of the first that applies, or 0. Every
 // function equals the definition of its name in the crate `network` (specs/Refusals.antt).
+#![tactic(auto)]
+
 ghost use Rattle.std.specs.Prelude.{◌≡◌, T};
 ghost use Rattle.network.specs.Sizes.{shape_of, sizes_in_range};
 ghost use Rattle.network.specs.CheckLaws.{Network};
@@ -7,9 +9,9 @@ ghost use Rattle.network.specs.Refusals.{wrong_chunks, offer_rules, move_rules, 
 
 use flow::flow_rules;
 use network::{
-    ACCEPTED_AT, BAD_TABLE, COUNT_SPENT, DELIVER, INJECTION_FULL, INJECTION_QUEUE, MOST_ACCEPTED,
-    MOST_CHUNKS, NO_ROUTE, NO_SUCH_NODE, NO_SUCH_OUTPUT, NO_SUCH_QUEUE, OWN_NODE, QUEUE_EMPTY,
-    QUEUES, Sizes, WRONG_SIZE,
+    ACCEPTED_AT, COUNT_SPENT, DELIVER, INJECTION_FULL, INJECTION_QUEUE, MOST_ACCEPTED, MOST_CHUNKS,
+    NO_ROUTE, NO_SUCH_NODE, NO_SUCH_OUTPUT, NO_SUCH_QUEUE, OWN_NODE, QUEUE_EMPTY, QUEUES, Sizes,
+    WRONG_SIZE,
 };
 use queue::{capacity, head, held_count};
 use routes::is_route;
@@ -25,10 +27,9 @@ fn wrong_chunks(chunks: u64) -> bool
     MOST_CHUNKS < chunks
 }
 
-// Whether a table that the offer is given is bad has been found before (R627).
-pub fn offer_rules(words: &[u64], s: Sizes, n: u64, destination: u64, chunks: u64, bad: bool) -> u64
+pub fn offer_rules(words: &[u64], s: Sizes, n: u64, destination: u64, chunks: u64) -> u64
     requires { Network (shape_of s) words.now }
-    ensures { result ≡ offer_rules (shape_of s) words.now n destination chunks bad }
+    ensures { result ≡ offer_rules (shape_of s) words.now n destination chunks }
 {
     let count = nodes(s);
     let accepted = words[ACCEPTED_AT];
@@ -44,9 +45,6 @@ pub fn offer_rules(words: &[u64], s: Sizes, n: u64, destination: u64, chunks: u6
     }
     if n == destination {
         return OWN_NODE;
-    }
-    if bad {
-        return BAD_TABLE;
     }
     let slots = capacity(s, INJECTION_QUEUE);
     let held = held_count(words, s, n, INJECTION_QUEUE);

@@ -16,8 +16,7 @@ use Rattle.network.specs.Refusals.{network_refusal}
 use Rattle.network.specs.RefusalLaws.{network-passed, Permitted}
 use Rattle.network.specs.FirstLaws.{Finds, nothing, named, first_finds, first-nothing}
 use Rattle.network.specs.FirstMovesLaws.{held-some}
-use Rattle.network.specs.Tables.{Tables}
-use Rattle.network.specs.Calls.{Progress, first_move, first_answer, drain_from, drained, drain_answer, drained_moves, offer_by_words}
+use Rattle.network.specs.Calls.{Progress, first_move, first_answer, drain_from, drained, drain_answer, drained_moves, offer_words}
 use Rattle.network.specs.CallLaws.{torus}
 use Rattle.network.specs.Run.{Call, drain, Outcome, outcome, run, is_labelled, held_with, handed_with, hops_with, Demand3}
 use Rattle.run.specs.Step.{Ran}
@@ -125,16 +124,16 @@ any_order w calls others e a b =
 -- R409: what may come between two steps of a dump: runs and Offers. No Make, which sets the moves made to 0 (R92)
 pub data Event : Type 0 where
   ran : List Call → Event
-  offered : ℕ → ℕ → ℕ → ℕ → Tables → Event
+  offered : ℕ → ℕ → ℕ → ℕ → Event
 
 -- the words after it, and the moves that it makes
 unfoldable pub event_words : Event → List ℕ → List ℕ
 event_words (ran calls) w = (run calls w).words
-event_words (offered n destination tag chunks t) w = offer_by_words w n destination tag chunks t
+event_words (offered n destination tag chunks) w = offer_words w n destination tag chunks
 
 unfoldable pub event_moves : Event → List ℕ → ℕ
 event_moves (ran calls) w = length (run calls w).moves
-event_moves (offered n destination tag chunks t) w = 0
+event_moves (offered n destination tag chunks) w = 0
 
 -- and the same of any number of them, each on the words as the one before left them
 unfoldable pub later_words : List Event → List ℕ → List ℕ
@@ -155,9 +154,9 @@ unfolding Demand3 event_words event_moves
 event-counted (ran calls) w z =
     let after = demand3 w calls z in
     record { counts = after.moves-made; network = after.still-a-network }
-event-counted (offered n destination tag chunks t) w z =
-    let m = offer-moves w n destination tag chunks t in
-    record { counts = omega arith; network = offer-network w n destination tag chunks t z }
+event-counted (offered n destination tag chunks) w z =
+    let m = offer-moves w n destination tag chunks in
+    record { counts = omega arith; network = offer-network w n destination tag chunks z }
 
 -- R409: a stamp is the moves made (R404), so a later one is the earlier one and the moves made in between
 pub stamp-since : (es : List Event) (w : List ℕ) → network_refusal w ≡ 0 → moves_made (later_words es w) ≡ moves_made w + moves_between es w

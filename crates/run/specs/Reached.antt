@@ -25,13 +25,12 @@ use Rattle.network.specs.LayoutLaws.{start-header, start-end, end-start, end-nee
 use Rattle.network.specs.Check.{reach, is_queue_of, packet_fits, ring_has_room, packets_held, work_left, most_accepted, most_work}
 use Rattle.network.specs.CheckLaws.{PacketFits, packet-by, Network}
 use Rattle.network.specs.SameWords.{same?, queue-stored}
-use Rattle.network.specs.Tables.{Tables, bad_tables}
-use Rattle.network.specs.Refusals.{network_refusal, make_refusal, offer_by_refusal}
+use Rattle.network.specs.Refusals.{network_refusal, make_refusal, offer_rules, offer_refusal}
 use Rattle.network.specs.RefusalLaws.{not-refused, neither, network-passed, network-passes, own-node-exactly}
 use Rattle.network.specs.OfferLaws.{ShortRings, field-offered, distance-offered, work-offered, moved_by-offered, hops-offered}
-use Rattle.network.specs.Calls.{empty_header, empty_network, make_words, offered_by, after_offer, offer_by_words}
+use Rattle.network.specs.Calls.{empty_header, empty_network, make_words, offered, after_offer, offer_words}
 use Rattle.network.specs.AfterLaws.{OfferTaken}
-use Rattle.network.specs.CallLaws.{torus, Accepting, offer-passed, few-chunks, accepted-taken, offer-call, empty-length}
+use Rattle.network.specs.CallLaws.{torus, Accepting, accepting, few-chunks, accepted-taken, offer-call, empty-length}
 use Rattle.run.specs.Queues.{fits_by, one, packets-sum, all_of-newest}
 use Rattle.run.specs.Rings.{Room, RingRoom, ring_of, ring-by, escape-lt}
 
@@ -204,11 +203,10 @@ make-length S w all-dimensions e =
 
 -- The packet of an offer ----------------------------------------------------------------------------------------------------------------
 
-module _ (S : Shape) (w v : List ℕ) (n dest tag chunks : ℕ) (tab : Tables) (tor : Torus S) (N : Network S w) (hn : n < nodes S) (hd : dest < nodes S)
-    (few : chunks ≤ most_chunks) (good : bad_tables S tab ≡ false) (fewer : accepted w < most_accepted)
-    (room : taken S w n injection_queue < capacity S injection_queue) (O : OfferTaken S w v n (offered_by S n dest tag chunks tab)) where
+module _ (S : Shape) (w v : List ℕ) (n dest tag chunks : ℕ) (tor : Torus S) (N : Network S w) (hn : n < nodes S) (hd : dest < nodes S)
+    (few : chunks ≤ most_chunks) (fewer : accepted w < most_accepted) (room : taken S w n injection_queue < capacity S injection_queue) (O : OfferTaken S w v n (offered S n dest tag chunks)) where
   abbrev p : ℕ
-  p = offered_by S n dest tag chunks tab
+  p = offered S n dest tag chunks
 
   few-nodes : nodes S ≤ destination_values
   few-nodes = in_range-nodes S N.in-range tor.dims
@@ -219,13 +217,13 @@ module _ (S : Shape) (w v : List ℕ) (n dest tag chunks : ℕ) (tab : Tables) (
   offered-fits : PacketFits S n injection_queue p
   unfolding reach is_queue_of spare upper_spare destination
   offered-fits =
-      let there : destination p ≡ dest = field-offered S n dest tag chunks tab tor hn hd few-nodes few small good destination_field (omega arith) in
+      let there : destination p ≡ dest = field-offered S n dest tag chunks tor hn hd few-nodes few small destination_field (omega arith) in
       record {
-        clear = field-offered S n dest tag chunks tab tor hn hd few-nodes few small good spare_field (omega arith);
-        upper-clear = field-offered S n dest tag chunks tab tor hn hd few-nodes few small good upper_spare_field (omega arith);
+        clear = field-offered S n dest tag chunks tor hn hd few-nodes few small spare_field (omega arith);
+        upper-clear = field-offered S n dest tag chunks tor hn hd few-nodes few small upper_spare_field (omega arith);
         addressed = rw there hd;
-        arrives = moved_by-offered S n dest tag chunks tab tor hn hd few-nodes few small good ∙ sym there;
-        near = λ i h. distance-offered S n dest tag chunks tab tor hn hd few-nodes few small good i h;
+        arrives = moved_by-offered S n dest tag chunks tor hn hd few-nodes few small ∙ sym there;
+        near = λ i h. distance-offered S n dest tag chunks tor hn hd few-nodes few small i h;
         sign = λ ne. absurd (ne refl);
         lower = λ t. absurd t;
       }
@@ -277,7 +275,7 @@ module _ (S : Shape) (w v : List ℕ) (n dest tag chunks : ℕ) (tab : Tables) (
       let z : moves_made v ≡ moves_made w = O.same-moves in
       let h : packets_held S v ≡ packets_held S w + 1 = packets-sum S v ∙ offer-sum one ∙ ap (λ (k : ℕ). k + 1) (sym (packets-sum S w)) in
       let k : total S v (sum_of work) ≡ total S w (sum_of work) + work p = offer-sum work in
-      let most : work p ≤ most_work = work-offered S n dest tag chunks tab tor hn hd few-nodes few small good in
+      let most : work p ≤ most_work = work-offered S n dest tag chunks tor hn hd few-nodes few small in
       let c : delivered w + packets_held S w ≡ accepted w = N.counted in
       let b : moves_made w + total S w (sum_of work) ≤ most_work * accepted w = N.bounded in
       record {
@@ -293,54 +291,51 @@ module _ (S : Shape) (w v : List ℕ) (n dest tag chunks : ℕ) (tab : Tables) (
       }
 
 -- R86: words that such a packet has joined pass the check, one for the very node where it stands too, which no Offer takes any more (R174)
-pub joined-passes : (w : List ℕ) (n dest tag chunks : ℕ) (tab : Tables) → network_refusal w ≡ 0 → Accepting (shape w) w n dest chunks
-    → bad_tables (shape w) tab ≡ false → network_refusal (after_offer (shape w) w n (offered_by (shape w) n dest tag chunks tab)) ≡ 0
-joined-passes w n dest tag chunks tab e A good =
+pub joined-passes : (w : List ℕ) (n dest tag chunks : ℕ) → network_refusal w ≡ 0 → Accepting (shape w) w n dest chunks
+    → network_refusal (after_offer (shape w) w n dest tag chunks) ≡ 0
+joined-passes w n dest tag chunks e A =
     let N : Network (shape w) w = network-passed w e in
-    let p : ℕ = offered_by (shape w) n dest tag chunks tab in
-    let v : List ℕ = after_offer (shape w) w n p in
-    let O : OfferTaken (shape w) w v n p = accepted-taken (shape w) w n dest chunks p N A in
-    let M : Network (shape w) v = taken-network (shape w) w v n dest tag chunks tab (torus w N) N A.node A.addressed (few-chunks A) good A.fewer A.free O in
+    let v : List ℕ = after_offer (shape w) w n dest tag chunks in
+    let O : OfferTaken (shape w) w v n (offered (shape w) n dest tag chunks) = accepted-taken (shape w) w n dest tag chunks N A in
+    let M : Network (shape w) v = taken-network (shape w) w v n dest tag chunks (torus w N) N A.node A.addressed (few-chunks A) A.fewer A.free O in
     network-passes v (subst (λ (S : Shape). Network S v) (sym O.kept.same_shape) M)
 
 -- R101, R102: an offer that is not refused keeps the check
-pub offer-passes : (w : List ℕ) (n dest tag chunks : ℕ) (tab : Tables) → offer_by_refusal w n dest chunks tab ≡ 0
-    → network_refusal (offer_by_words w n dest tag chunks tab) ≡ 0
-unfolding offer_by_words
-offer-passes w n dest tag chunks tab e =
-    let P = offer-passed w n dest chunks tab e in
-    rw (eq-eqb (offer_by_refusal w n dest chunks tab) 0 e) (joined-passes w n dest tag chunks tab P.network P.needs P.good)
+pub offer-passes : (w : List ℕ) (n dest tag chunks : ℕ) → offer_refusal w n dest chunks ≡ 0 → network_refusal (offer_words w n dest tag chunks) ≡ 0
+unfolding offer_words offer_refusal
+offer-passes w n dest tag chunks e =
+    let (network, rules) = neither (network_refusal w) (offer_rules (shape w) w n dest chunks) e in
+    let A : Accepting (shape w) w n dest chunks = accepting (shape w) w n dest chunks (network-passed w network) rules in
+    rw (eq-eqb (offer_refusal w n dest chunks) 0 e) (joined-passes w n dest tag chunks network A)
 
 -- and leaves the store as long as it was
-pub offer-length : (w : List ℕ) (n dest tag chunks : ℕ) (tab : Tables) → offer_by_refusal w n dest chunks tab ≡ 0 → length (offer_by_words w n dest tag chunks tab) ≡ length w
-offer-length w n dest tag chunks tab e = (offer-call w n dest tag chunks tab e).kept.same_length
+pub offer-length : (w : List ℕ) (n dest tag chunks : ℕ) → offer_refusal w n dest chunks ≡ 0 → length (offer_words w n dest tag chunks) ≡ length w
+offer-length w n dest tag chunks e = (offer-call w n dest tag chunks e).kept.same_length
 
 -- refused or not, an offer leaves a network where there was one, and makes no move
-pub offer-network : (w : List ℕ) (n dest tag chunks : ℕ) (tab : Tables) → network_refusal w ≡ 0 → network_refusal (offer_by_words w n dest tag chunks tab) ≡ 0
-unfolding offer_by_words
-offer-network w n dest tag chunks tab z = go (ℕ_discrete (offer_by_refusal w n dest chunks tab) 0)
+pub offer-network : (w : List ℕ) (n dest tag chunks : ℕ) → network_refusal w ≡ 0 → network_refusal (offer_words w n dest tag chunks) ≡ 0
+unfolding offer_words
+offer-network w n dest tag chunks z = go (ℕ_discrete (offer_refusal w n dest chunks) 0)
   where
-    go : Dec (offer_by_refusal w n dest chunks tab ≡ 0) → network_refusal (offer_by_words w n dest tag chunks tab) ≡ 0
-    go (yes e) = offer-passes w n dest tag chunks tab e
-    go (no ne) = rw (ne_eqb (offer_by_refusal w n dest chunks tab) 0 ne) z
+    go : Dec (offer_refusal w n dest chunks ≡ 0) → network_refusal (offer_words w n dest tag chunks) ≡ 0
+    go (yes e) = offer-passes w n dest tag chunks e
+    go (no ne) = rw (ne_eqb (offer_refusal w n dest chunks) 0 ne) z
 
-pub offer-moves : (w : List ℕ) (n dest tag chunks : ℕ) (tab : Tables) → moves_made (offer_by_words w n dest tag chunks tab) ≡ moves_made w
-unfolding offer_by_words
-offer-moves w n dest tag chunks tab = go (ℕ_discrete (offer_by_refusal w n dest chunks tab) 0)
+pub offer-moves : (w : List ℕ) (n dest tag chunks : ℕ) → moves_made (offer_words w n dest tag chunks) ≡ moves_made w
+unfolding offer_words
+offer-moves w n dest tag chunks = go (ℕ_discrete (offer_refusal w n dest chunks) 0)
   where
-    go : Dec (offer_by_refusal w n dest chunks tab ≡ 0) → moves_made (offer_by_words w n dest tag chunks tab) ≡ moves_made w
-    go (yes e) = (offer-call w n dest tag chunks tab e).same-moves
-    go (no ne) = rw (ne_eqb (offer_by_refusal w n dest chunks tab) 0 ne) refl
+    go : Dec (offer_refusal w n dest chunks ≡ 0) → moves_made (offer_words w n dest tag chunks) ≡ moves_made w
+    go (yes e) = (offer-call w n dest tag chunks e).same-moves
+    go (no ne) = rw (ne_eqb (offer_refusal w n dest chunks) 0 ne) refl
 
 -- R174: the packet of an offer that is not refused has a hop to make: where it is handed out, it has crossed a link
-pub offer-hops : (w : List ℕ) (n dest tag chunks : ℕ) (tab : Tables) → offer_by_refusal w n dest chunks tab ≡ 0 → hops_left (offered_by (shape w) n dest tag chunks tab) ≢ 0
-offer-hops w n dest tag chunks tab e =
-    let P = offer-passed w n dest chunks tab e in
-    let N : Network (shape w) w = network-passed w P.network in
-    let A = P.needs in
-    hops-offered (shape w) n dest tag chunks tab (torus w N) A.node A.addressed (in_range-nodes (shape w) N.in-range (torus w N).dims) (few-chunks A)
-    (λ i h. in_range-size (shape w) i N.in-range) P.good
-    (λ same.
-    let told = (own-node-exactly (shape w) w n dest chunks (bad_tables (shape w) tab)).1 (A.node, same, A.right) in
-    let none = P.rules in
-    omega arith)
+pub offer-hops : (w : List ℕ) (n dest tag chunks : ℕ) → offer_refusal w n dest chunks ≡ 0 → hops_left (offered (shape w) n dest tag chunks) ≢ 0
+unfolding offer_refusal
+offer-hops w n dest tag chunks e =
+    let (network, rules) = neither (network_refusal w) (offer_rules (shape w) w n dest chunks) e in
+    let N : Network (shape w) w = network-passed w network in
+    let A : Accepting (shape w) w n dest chunks = accepting (shape w) w n dest chunks N rules in
+    hops-offered (shape w) n dest tag chunks (torus w N) A.node A.addressed (in_range-nodes (shape w) N.in-range (torus w N).dims) (few-chunks A)
+    (λ i h. in_range-size (shape w) i N.in-range)
+    (λ same. let told = (own-node-exactly (shape w) w n dest chunks).1 (A.node, same, A.right) in omega arith)

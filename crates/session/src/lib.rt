@@ -1,5 +1,7 @@
 // A sheet as it is read: its start, and each read. The bytes of a read are taken command by command; each command is carried out, by the
 // call that it names on the store, and its answer written as lines, for which the caller sees that there is room.
+#![tactic(auto)]
+
 ghost use Rattle.std.specs.Prelude.{◌≡◌, List, ℕ, ◌+◌, ◌*◌, ◌≤◌, length, take, drop};
 ghost use Rattle.sheet.specs.Output.{Put};
 ghost use Rattle.sheet.specs.Cutting.{held_bytes};

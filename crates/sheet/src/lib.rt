@@ -1,5 +1,6 @@
 // What the definitions of the bench program's lines speak of (R240 to R250): the input cut into lines, and the command of a line. The crates
 // `lines`, `reader` and `writer` have the code.
+#![tactic(auto)]
 
 // The base of the numbers of a sheet.
 pub const TEN: u64 = 10;

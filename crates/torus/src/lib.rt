@@ -1,5 +1,7 @@
 // The torus in code, for sizes in range and nodes that exist: coordinates, neighbours and places. Every function but `step_from` and `next_place`
 // equals the definition of its name in the crate `network` (specs/Sizes.antt, Torus.antt).
+#![tactic(auto)]
+
 ghost use Rattle.std.specs.Prelude.{◌≡◌, ◌+◌, ◌%◌, ◌<◌, T};
 ghost use Rattle.base.specs.Digits.{weight};
 ghost use Rattle.network.specs.Sizes.{shape_of, sizes_in_range, dimensions, directions, dimension_of, nodes, size};

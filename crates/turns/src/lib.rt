@@ -2,6 +2,8 @@
 // of heads goes along that holds every head which may have a permitted move (crate `ready`), so that what a move costs does not
 // grow with the network, a table of neighbours, and one of loads, so that it does not grow with what a queue holds. The move is First's all the same, and
 // that is what the contracts say.
+#![tactic(auto)]
+
 ghost use Rattle.std.specs.Prelude.{◌≡◌};
 ghost use Rattle.network.specs.Sizes.{shape_of};
 ghost use Rattle.network.specs.declared.Found.{Found};

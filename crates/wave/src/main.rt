@@ -1,5 +1,7 @@
 // The program wave: a sheet from standard input, replayed; the dumps of its networks to standard output, one behind the other. What a step of
 // the replay does and shows is proved in the crate `replay`; here is read, handed over and written, and nothing else.
+#![tactic(auto)]
+
 ghost use Rattle.std.specs.Prelude.{◌≡◌, true, ◌≤◌, length};
 ghost use Rattle.session.specs.Session.{store_words};
 ghost use Rattle.session.specs.Reads.{sheet, sheet_after, KeepsReached};

@@ -1,5 +1,6 @@
 // What the definitions of a dump speak of (R400 to R420): the answers of its calls, and what its reader finds at a place. The crates `dump_text`,
 // `dump_writer` and `dump_reader` have the code.
+#![tactic(auto)]
 
 use network::{MOST_NODES, QUEUES};
 

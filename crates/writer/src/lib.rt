@@ -1,5 +1,7 @@
 // Answers written as lines into a lent buffer. Each function puts bytes at a place and gives the place behind them; the caller
 // sees that there is room.
+#![tactic(auto)]
+
 ghost use Rattle.std.specs.Prelude.{◌≡◌, ◌+◌, ◌*◌, ◌≤◌, length};
 ghost use Rattle.sheet.specs.Output.{bad_line_answer, answer_line, packet_line, packet_lines, moved_lines, stopped_line, drain_line, drained_lines, answer_room, packet_room, moved_room, drain_room, Room, Put};
 ghost use Rattle.network.specs.Calls.{drained_delivered};

@@ -3,12 +3,11 @@ use borrow.Author.Rules.{rules}
 use borrow.Author.Tests.{le-ltb}
 use mathlib.Core.Path.{◌≡◌, ap, ap₂, sym, ◌∙◌}
 use mathlib.Core.Logic.{◌≢◌}
-use Prim.Native.Nat.{ℕ, ◌+◌, ◌*◌, ◌-◌, ◌/◌, ◌<◌, ◌≤◌}
+use Prim.Native.Nat.{ℕ, ◌+◌, ◌*◌, ◌/◌, ◌<◌, ◌≤◌}
 use native.Mathlib.Omega.{arith}
 use lib.Dec.{lt→ltb}
 use Rattle.network.specs.Sizes.{Shape, shape_of, directions, dimension_of, direction_of, injection_queue, plus, minus}
-use Rattle.network.specs.PacketLaws.{half_offsets}
-use Rattle.network.specs.TorusLaws.{size-pos, sizes-torus, in_range-size}
+use Rattle.network.specs.TorusLaws.{in_range-size}
 use Rattle.network.specs.Check.{longest}
 use Rattle.packet_check.specs.PacketLimits.{limit}
 use Rattle.packet_check.specs.LimitLaws.{limit-injection, limit-own, limit-back, limit-lower, limit-adaptive, limit-higher}
@@ -16,14 +15,14 @@ use Rattle.packet_check.specs.Tables.{row, passing}
 use Rattle.packet_check.proofs.passing.Statement.{statement}
 use Rattle.packet_check.proofs.passing.Tie as tie
 
--- once round is one hop more than the longest way of the dimension
-module _ (S : Shape) (q i round : ℕ) (er : round ≡ longest S i + 1) where
-  round-along : (d : ℕ) → dimension_of d ≡ i → round ≡ longest S (dimension_of d) + 1
-  round-along d s = er ∙ ap (λ (j : ℕ). longest S j + 1) (sym s)
+-- half of the ring is what it is of the dimension
+module _ (S : Shape) (q i half : ℕ) (eh : half ≡ longest S i) where
+  half-along : (d : ℕ) → dimension_of d ≡ i → half ≡ longest S (dimension_of d)
+  half-along d s = eh ∙ ap (longest S) (sym s)
 
   -- the queue's own direction
-  own : q ≢ injection_queue → (d : ℕ) → dimension_of d ≡ i → direction_of q ≡ d → round - 1 ≡ limit S q d
-  own ne d s e = let r = round-along d s in let l : limit S q d ≡ longest S (dimension_of d) = limit-own S q d ne e in omega arith
+  own : q ≢ injection_queue → (d : ℕ) → dimension_of d ≡ i → direction_of q ≡ d → half ≡ limit S q d
+  own ne d s e = half-along d s ∙ sym (limit-own S q d ne e)
 
   -- r is the answer: by the limits of both directions, which may be the same
   module _ (r : ℕ) where
@@ -34,36 +33,30 @@ module _ (S : Shape) (q i round : ℕ) (er : round ≡ longest S i + 1) where
     alike : (v : ℕ) → r ≡ row v v → ((d : ℕ) → dimension_of d ≡ i → v ≡ limit S q d) → r ≡ passing S q i
     alike v e law = both v v e (law (plus i) (omega arith)) (law (minus i) (omega arith))
 
-    far : r ≡ row round round → ((d : ℕ) → dimension_of d ≡ i → limit S q d ≡ longest S (dimension_of d) + 1) → r ≡ passing S q i
-    far e law = alike round e (λ d s. round-along d s ∙ sym (law d s))
+    far : r ≡ row (half + 1) (half + 1) → ((d : ℕ) → dimension_of d ≡ i → limit S q d ≡ longest S (dimension_of d) + 1) → r ≡ passing S q i
+    far e law = alike (half + 1) e (λ d s. ap (λ (k : ℕ). k + 1) (half-along d s) ∙ sym (law d s))
 
 -- what is known of the ring
-some : (c : tie.After-size) → 1 ≤ c.size.result
-some c =
-    let e = c.size.ensures in
-    let m = size-pos (shape_of c.before.args.s) c.before.args.i (sizes-torus c.before.args.s c.before.requires.0) c.before.requires.1 in
-    omega arith
+half_is : (c : tie.After-size) → c.size.result / 2 ≡ longest (shape_of c.before.args.s) c.before.args.i
+half_is c = ap (λ (k : ℕ). k / 2) c.size.ensures
 
-round_is : (c : tie.After-size) → c.size.result ≡ longest (shape_of c.before.args.s) c.before.args.i + 1
-round_is c = let e = c.size.ensures in let l = some c in omega arith
-
-small : (c : tie.After-size) → c.size.result ≤ half_offsets
+small : (c : tie.After-size) → c.size.result / 2 + 1 ≤ 9
 small c =
     let e = c.size.ensures in
     let m = in_range-size (shape_of c.before.args.s) c.before.args.i c.before.requires.0 in
     omega arith
 
 row-requires : tie.Need-row-requires
-row-requires c κs = let z = c.before in let k = some z in let l = small z in (omega arith, omega arith, omega arith)
+row-requires c κs = let l = small c.before in (omega arith, omega arith, omega arith)
 
 returns : tie.Need-returns
 returns c =
     let z = c.before.before in
     let a = z.before.args in
-    far (shape_of a.s) a.q a.i _ (round_is z) _ c.row.ensures (λ d s. limit-injection (shape_of a.s) a.q d c.before.if1.true)
+    far (shape_of a.s) a.q a.i _ (half_is z) _ c.row.ensures (λ d s. limit-injection (shape_of a.s) a.q d c.before.if1.true)
 
 row-requires-2 : tie.Need-row-requires-2
-row-requires-2 c κs = let z = c.before.before.before in let k = some z in let l = small z in (omega arith, omega arith, omega arith)
+row-requires-2 c κs = let l = small c.before.before.before in (omega arith, omega arith, omega arith)
 
 -- the direction of the queue, where it is none of an injection queue
 direction : (o : tie.After-direction-of) (d : ℕ) → o.direction-of.result ≡ d → direction_of o.before.before.before.args.q ≡ d
@@ -76,12 +69,11 @@ returns-2 c =
     let a = z.before.args in
     let ne = o.before.if1.false in
     let e = direction o (plus a.i) c.before.if2.true in
-    both (shape_of a.s) a.q a.i _ (round_is z) _ _ _ c.row2.ensures
-    (own (shape_of a.s) a.q a.i _ (round_is z) ne (plus a.i) (omega arith) e)
+    both (shape_of a.s) a.q a.i _ (half_is z) _ _ _ c.row2.ensures (own (shape_of a.s) a.q a.i _ (half_is z) ne (plus a.i) (omega arith) e)
     (sym (limit-back (shape_of a.s) a.q (minus a.i) ne (λ f. omega arith) (omega arith)))
 
 row-requires-3 : tie.Need-row-requires-3
-row-requires-3 c κs = let z = c.before.before.before.before in let k = some z in let l = small z in (omega arith, omega arith, omega arith)
+row-requires-3 c κs = let l = small c.before.before.before.before in (omega arith, omega arith, omega arith)
 
 returns-3 : tie.Need-returns-3
 returns-3 c =
@@ -90,12 +82,12 @@ returns-3 c =
     let a = z.before.args in
     let ne = o.before.if1.false in
     let e = direction o (minus a.i) c.before.if3.true in
-    both (shape_of a.s) a.q a.i _ (round_is z) _ _ _ c.row3.ensures
+    both (shape_of a.s) a.q a.i _ (half_is z) _ _ _ c.row3.ensures
     (sym (limit-back (shape_of a.s) a.q (plus a.i) ne (λ f. omega arith) (omega arith)))
-    (own (shape_of a.s) a.q a.i _ (round_is z) ne (minus a.i) (omega arith) e)
+    (own (shape_of a.s) a.q a.i _ (half_is z) ne (minus a.i) (omega arith) e)
 
 row-requires-4 : tie.Need-row-requires-4
-row-requires-4 c κs = let z = c.before.before.before.before.before in let k = some z in let l = small z in (omega arith, omega arith, omega arith)
+row-requires-4 c κs = let l = small c.before.before.before.before.before in (omega arith, omega arith, omega arith)
 
 -- the queue is of another dimension
 abbrev at-direction : tie.Else3 → tie.After-direction-of
@@ -114,11 +106,11 @@ returns-4 c =
     let o = at-direction k in
     let z = o.before.before in
     let a = z.before.args in
-    far (shape_of a.s) a.q a.i _ (round_is z) _ c.row4.ensures
+    far (shape_of a.s) a.q a.i _ (half_is z) _ c.row4.ensures
     (λ d s. limit-adaptive (shape_of a.s) a.q d o.before.if1.left (other k d s) (le-ltb directions a.q c.before.if4.true))
 
 row-requires-5 : tie.Need-row-requires-5
-row-requires-5 c κs = let z = c.before.before.before.before.before.before in let k = some z in let l = small z in (omega arith, omega arith, omega arith)
+row-requires-5 c κs = let l = small c.before.before.before.before.before.before in (omega arith, omega arith, omega arith)
 
 returns-5 : tie.Need-returns-5
 returns-5 c =
@@ -127,7 +119,7 @@ returns-5 c =
     let a = z.before.args in
     let l = c.before.if5.true in
     let own = o.direction-of.ensures in
-    far (shape_of a.s) a.q a.i _ (round_is z) _ c.row5.ensures (λ d s. limit-higher (shape_of a.s) a.q d o.before.if1.left (omega arith))
+    far (shape_of a.s) a.q a.i _ (half_is z) _ c.row5.ensures (λ d s. limit-higher (shape_of a.s) a.q d o.before.if1.left (omega arith))
 
 returns-6 : tie.Need-returns-6
 returns-6 c =
@@ -137,7 +129,7 @@ returns-6 c =
     let a = z.before.args in
     let m = c.before.if5.false in
     let own = o.direction-of.ensures in
-    alike (shape_of a.s) a.q a.i _ (round_is z) _ 1 c.row6.ensures
+    alike (shape_of a.s) a.q a.i _ (half_is z) _ 1 c.row6.ensures
     (λ d s. sym (limit-lower (shape_of a.s) a.q d o.before.if1.left (lt→ltb directions a.q c.before.before.if4.false) (less _ _ _ s (omega arith) (other k d s))))
   where
     less : (d own i : ℕ) → dimension_of d ≡ i → i ≤ own / 2 → own / 2 ≢ dimension_of d → dimension_of d < own / 2
@@ -148,20 +140,24 @@ passing-spec =
     tie.close
     (tie.spec
     (λ c κs. search rules)
+    (λ c. search rules)
+    (λ c. search rules)
     row-requires
     returns
     (λ c κs. search rules)
     (λ c. search rules)
-    (λ c. let k = some c.before.before.before in omega arith)
     row-requires-2
     returns-2
     (λ c. search rules)
     (λ c. search rules)
-    (λ c. let k = some c.before.before.before.before in omega arith)
     row-requires-3
     returns-3
+    (λ c. search rules)
+    (λ c. search rules)
     row-requires-4
     returns-4
+    (λ c. search rules)
+    (λ c. search rules)
     row-requires-5
     returns-5
     (λ c κs. search rules)

@@ -1,3 +1,0 @@
--- Laws that several proofs of the crate share.
-pub mod Rows
-pub mod Walk
