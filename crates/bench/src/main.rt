@@ -16,7 +16,7 @@ const PIECE: usize = 1024;
 const OUT_ROOM: usize = (PIECE + 1) * COMMAND_ROOM;
 
 // How far the sheet has come: the bytes that are pending of a line, and whether to read on.
-#[derive(Drop)]
+#[derive(Clone, Copy)]
 struct AfterRead {
     pending: usize,
     more: bool,

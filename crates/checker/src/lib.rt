@@ -40,7 +40,7 @@ pub fn network_refusal(words: &[u64]) -> u64
 }
 
 // What the words are, for every call that goes on from there: refused by that number, or a network of these sizes.
-#[derive(Drop)]
+#[derive(Clone, Copy)]
 pub enum Opened {
     Refused(u64),
     Network(Sizes),

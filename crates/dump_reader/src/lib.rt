@@ -47,7 +47,7 @@ fn begins(bytes: &[u8], byte: u8) -> bool
 }
 
 // A field that is a number and is ended by its stop, and the place behind that.
-#[derive(Drop)]
+#[derive(Clone, Copy)]
 pub struct Field {
     pub good: bool,
     pub value: u64,
@@ -152,7 +152,7 @@ fn read_value(bytes: &[u8], least: usize) -> ValueLine
 }
 
 // Values one after another: how many there are, how long a list they need, and how many bytes they have.
-#[derive(Drop)]
+#[derive(Clone, Copy)]
 pub struct ValueRun {
     pub named: usize,
     pub needed: usize,
@@ -219,7 +219,7 @@ fn variable_at(bytes: &[u8], at: usize, i: usize) -> usize
 }
 
 // The lines of variables from a place on: how many there are, and where they end.
-#[derive(Drop)]
+#[derive(Clone, Copy)]
 pub struct Counted {
     pub count: usize,
     pub end: usize,
@@ -299,7 +299,7 @@ fn tells_all(bytes: &[u8], count: usize) -> bool
 }
 
 // A step as it was parsed, and where its values begin.
-#[derive(Drop)]
+#[derive(Clone, Copy)]
 pub struct Parsed {
     pub good: bool,
     pub header: bool,

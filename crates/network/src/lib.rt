@@ -8,7 +8,7 @@ ghost use Rattle.network.specs.Sizes.{sized, direction_of, is_adaptive};
 ghost use Rattle.network.specs.Calls.{drained_number, drained_moves, drained_delivered};
 
 // R25, R28: the nodes along x, y and z, and by how much a queue of each kind is long: the sizes of a network, in the order of its first words.
-#[derive(Drop)]
+#[derive(Clone, Copy)]
 pub struct Sizes {
     pub x: u64,
     pub y: u64,
@@ -115,7 +115,7 @@ pub const UPPER_SPARE_AT: u64 = 2147483648;
 pub const TAG_AT: u64 = 4294967296;
 
 // R145: the sign of an offset: hops left in the plus direction of its dimension, in the minus direction, or none.
-#[derive(Drop)]
+#[derive(Clone, Copy)]
 pub enum Sign {
     Plus,
     Minus,
@@ -176,7 +176,7 @@ pub const OWN_NODE: u64 = 14;
 pub const SHORT_PAGE: u64 = 15;
 
 // Move: refused by a rule, passed on to a neighbour, or delivered, with the packet word that it hands out.
-#[derive(Drop)]
+#[derive(Clone, Copy)]
 pub enum Moved {
     Refused(u64),
     Passed,
@@ -184,14 +184,14 @@ pub enum Moved {
 }
 
 // Credit: refused by a rule, or how much is free of the target, in chunks or in slots.
-#[derive(Drop)]
+#[derive(Clone, Copy)]
 pub enum Credit {
     Refused(u64),
     Free(u64),
 }
 
 // First: refused by a rule, no permitted move, or the first one.
-#[derive(Drop)]
+#[derive(Clone, Copy)]
 pub enum Found {
     Refused(u64),
     Nothing,
@@ -199,7 +199,7 @@ pub enum Found {
 }
 
 // Why a Drain stopped.
-#[derive(Drop)]
+#[derive(Clone, Copy)]
 pub enum Stop {
     Emptied,
     Spent,
@@ -207,7 +207,7 @@ pub enum Stop {
 }
 
 // Drain: refused by a rule, or how many moves it made, how many packets it delivered, and why it stopped.
-#[derive(Drop)]
+#[derive(Clone, Copy)]
 pub enum Drained {
     Refused(u64),
     Stopped {

@@ -18,7 +18,7 @@ use packet_check::{TABLE_WORDS, fill_tables, work_if_fits};
 use torus::{Place, next_place};
 
 // What a run of queues comes to: whether it passes the check, and if it does how many packets it holds and what work these have left.
-#[derive(Drop)]
+#[derive(Clone, Copy)]
 pub struct Tally {
     pub ok: bool,
     pub held: u64,

@@ -9,7 +9,7 @@ use lines::LINE_LIMIT;
 use sheet::{Command, TEN};
 
 // What stands in a field: a number, or no number.
-#[derive(Drop)]
+#[derive(Clone, Copy)]
 pub enum Number {
     Value(u64),
     Nothing,
@@ -82,7 +82,7 @@ pub fn field_end(line: &[u8], at: usize, stop: u8) -> usize
 const MOST_NUMBERS: usize = 6;
 
 // The fields behind the first: how many there are, whether each is a number, and the first numbers, as many as a command can take.
-#[derive(Drop)]
+#[derive(Clone, Copy)]
 pub struct Numbers {
     pub valid: bool,
     pub count: usize,

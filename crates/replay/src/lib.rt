@@ -17,7 +17,7 @@ use sheet::Command;
 use waveform::Written;
 
 // A move of a D: whether one was made, the words of the ledger that are left, and the bytes of its step.
-#[derive(Drop)]
+#[derive(Clone, Copy)]
 pub struct Replayed {
     pub moved: bool,
     pub room: usize,
@@ -192,7 +192,7 @@ pub fn drain_move(store: &mut [u64], room: usize, fills: &mut [u8], page: &mut [
 
 // How far the replay of a read has come: the cursor behind its last command, and the moves that are left of a D, with the words that are left
 // of its ledger.
-#[derive(Drop)]
+#[derive(Clone, Copy)]
 pub struct ReplayCursor {
     pub read: Cursor,
     pub moves: u32,
@@ -200,7 +200,7 @@ pub struct ReplayCursor {
 }
 
 // What comes next of a read that is replayed.
-#[derive(Drop)]
+#[derive(Clone, Copy)]
 pub enum NextStep {
     // A command or a move was carried out. The first so many bytes of the page show it; none, if nothing changed.
     Done { bytes: usize, cursor: ReplayCursor },

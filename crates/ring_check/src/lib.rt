@@ -13,7 +13,7 @@ use network::{DIRECTIONS, FIRST_ESCAPE, Sizes};
 
 // The slots of a queue, and how far it is in the words from a node to the next, from a node of a ring to the ring's next, from a group
 // of rings to the next, and over all nodes. A group is the rings that begin between a ring's first node and its second.
-#[derive(Drop)]
+#[derive(Clone, Copy)]
 struct Rings {
     slots: u64,
     node: usize,

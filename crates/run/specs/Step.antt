@@ -240,7 +240,7 @@ module _ (S : Shape) (w v : List ℕ) (n q o : ℕ) (tor : Torus S) (N : Network
       sum g = let a : total S v (sum_of g) + g p ≡ total S w (sum_of g) + 0 = rw (eq-eqb o deliver e) at (move-sum S w v n q o tor N P M g) in omega arith
 
       handed : delivered v ≡ delivered w + 1
-      handed = rw (eq-eqb o deliver e) at M.Handed-out
+      handed = rw (eq-eqb o deliver e) at M.handed_out
 
       packets : 1 + packets_held S v ≡ packets_held S w
       packets = let a = sum one in let b = packets-sum S v in let c = packets-sum S w in omega arith
@@ -273,7 +273,7 @@ module _ (S : Shape) (w v : List ℕ) (n q o : ℕ) (tor : Torus S) (N : Network
       sum g = rw (ne_eqb o deliver away) at (move-sum S w v n q o tor N P M g)
 
       handed : delivered v ≡ delivered w + 0
-      handed = rw (ne_eqb o deliver away) at M.Handed-out
+      handed = rw (ne_eqb o deliver away) at M.handed_out
 
       packets : 0 + packets_held S v ≡ packets_held S w
       packets = let a = sum one in let b = packets-sum S v in let c = packets-sum S w in omega arith

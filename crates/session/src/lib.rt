@@ -24,21 +24,21 @@ pub const STORE_WORDS: usize = 8000;
 pub const LEDGER_WORDS: usize = 64;
 
 // How a read was answered: the bytes that are pending of a line, and those that were printed.
-#[derive(Drop)]
+#[derive(Clone, Copy)]
 pub struct Printed {
     pub pending: usize,
     pub bytes: usize,
 }
 
 // How far a read has come: the bytes of it that are passed, and those that are pending of a line.
-#[derive(Drop)]
+#[derive(Clone, Copy)]
 pub struct Cursor {
     pub passed: usize,
     pub pending: usize,
 }
 
 // What comes next of a read.
-#[derive(Drop)]
+#[derive(Clone, Copy)]
 pub enum NextCommand {
     // The command of a line that ends, and the cursor behind it.
     Given { command: Command, cursor: Cursor },

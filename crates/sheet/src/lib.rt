@@ -6,13 +6,13 @@
 pub const TEN: u64 = 10;
 
 // How many bytes have come since the last end; one more than are held where there are more.
-#[derive(Drop)]
+#[derive(Clone, Copy)]
 pub struct Pending {
     pub count: usize,
 }
 
 // What a byte, or the end of the input, brings.
-#[derive(Drop)]
+#[derive(Clone, Copy)]
 pub enum Fed {
     // No line ends.
     More(Pending),
@@ -23,7 +23,7 @@ pub enum Fed {
 }
 
 // What a line asks for; `Bad` is every line that is none of the others.
-#[derive(Drop)]
+#[derive(Clone, Copy)]
 pub enum Command {
     Make {
         x: u32,

@@ -76,7 +76,7 @@ pub fn step_from(s: Sizes, d: u64, n: u64, c: u64) -> u64
 }
 
 // Where a node stands: its coordinate in each dimension.
-#[derive(Drop)]
+#[derive(Clone, Copy)]
 pub struct Place {
     pub at: [u64; DIMENSIONS as usize],
 }

@@ -16,7 +16,7 @@ ghost use Rattle.turns.specs.Turned.{Kept};
 use network::{ACCEPTED_AT, DELIVER, DELIVERED_AT, Found, Sizes, Stop, direction_of};
 
 // What a turn came to: a stop, a move to a neighbour, or a delivery with the packet word that it hands out.
-#[derive(Drop)]
+#[derive(Clone, Copy)]
 pub enum Turn {
     Stopped(Stop),
     Passed,

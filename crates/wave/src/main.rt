@@ -23,7 +23,7 @@ const STORE_VARIABLES: usize = STORE_WORDS / 2;
 const PAGE_BYTES: usize = 120 + 48 * STORE_VARIABLES;
 
 // How far the sheet has come: the bytes that are pending of a line, and whether to go on.
-#[derive(Drop)]
+#[derive(Clone, Copy)]
 struct AfterRead {
     pending: usize,
     more: bool,

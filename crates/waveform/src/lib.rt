@@ -8,14 +8,14 @@ use network::{MOST_NODES, QUEUES};
 pub const MOST_VARIABLES: usize = (MOST_NODES * QUEUES) as usize;
 
 // A step written: refused by a rule, or how many bytes the step has.
-#[derive(Drop)]
+#[derive(Clone, Copy)]
 pub enum Written {
     Refused(u64),
     Bytes(usize),
 }
 
 // A step read: refused by a rule, or its time stamp and how many variables it names, of a header or of a later step.
-#[derive(Drop)]
+#[derive(Clone, Copy)]
 pub enum StepRead {
     Refused(u64),
     Header { time: u64, named: usize },
@@ -23,7 +23,7 @@ pub enum StepRead {
 }
 
 // R405: a line that tells a variable's value, and how many bytes it has; all 0 where no such line stands.
-#[derive(Drop)]
+#[derive(Clone, Copy)]
 pub struct ValueLine {
     pub good: bool,
     pub variable: usize,
@@ -32,7 +32,7 @@ pub struct ValueLine {
 }
 
 // R404: a time stamp, likewise.
-#[derive(Drop)]
+#[derive(Clone, Copy)]
 pub struct TimeStamp {
     pub good: bool,
     pub time: u64,
@@ -40,7 +40,7 @@ pub struct TimeStamp {
 }
 
 // R402, R403: a header up to its time stamp, likewise, with the number of its variables.
-#[derive(Drop)]
+#[derive(Clone, Copy)]
 pub struct Names {
     pub good: bool,
     pub count: usize,
