@@ -1,0 +1,26 @@
+-- `queue::held_count` meets its contract. Assumes nothing.
+use Rattle.std.proofs.Common.{arith}
+use Rattle.queue.specs.HeldWords.{asked, inside-at, count-read}
+use Rattle.queue.proofs.held_count.Goals as goal
+
+pub queue_start-start-requires : goal.queue_start-start-requires
+queue_start-start-requires c =
+    let a = c.args in
+    asked a.s a.words.now a.n a.q c.requires
+
+pub offset_bounds-words-start : goal.offset_bounds-words-start
+offset_bounds-words-start c =
+    let a = c.args in
+    let i = inside-at a.s a.words.now a.n a.q c.requires c.queue_start-start.result c.queue_start-start.ensures in
+    omega arith
+
+pub bounds-words-start : goal.bounds-words-start
+bounds-words-start c =
+    let a = c.args in
+    let i = inside-at a.s a.words.now a.n a.q c.requires c.queue_start-start.result c.queue_start-start.ensures in
+    omega arith
+
+pub returns : goal.returns
+returns c =
+    let a = c.args in
+    count-read a.s a.words.now a.n a.q c.requires c.queue_start-start.result c.queue_start-start.ensures

@@ -1,0 +1,36 @@
+-- `reader::read_numbers` meets its contract: the goals that the check does not find by itself. Assumes nothing.
+use Rattle.std.proofs.Common.{sym, ◌∙◌, ⊎_elim, ◌+◌, ◌-◌, arith}
+use Rattle.sheet.specs.Text.{comma}
+use Rattle.sheet.specs.Commands.{ten, largest_number}
+use Rattle.sheet.specs.Fields.{end-within}
+use Rattle.reader.specs.Reading.{number_fits}
+use Rattle.reader.proofs.Gather.{none, more, left_out, broken, all}
+use Rattle.reader.proofs.read_numbers.Goals as goal
+
+pub loop-at-init : goal.loop-at-init
+loop-at-init c = none c.args.line.now c.args.start c.requires
+
+pub slice_bounds-read_number-end : goal.slice_bounds-read_number-end
+slice_bounds-read_number-end c = omega (arith, end-within comma c.args.line.now (c.loop-at.at + 1) (omega arith))
+
+pub overflow_cast-values : goal.overflow_cast-values
+overflow_cast-values c = omega (arith, number_fits ten largest_number _ _ (sym c.in-Value.is ∙ c.read_number.ensures))
+
+pub returns-in-Nothing : goal.returns-in-Nothing
+returns-in-Nothing c =
+    broken c.loop-at.invariant c.loop-at-test.true c.field_end-end.result c.field_end-end.ensures
+    c.read_number.result c.read_number.ensures c.in-Nothing.is
+
+pub loop-at-preserved : goal.loop-at-preserved
+loop-at-preserved c =
+    ⊎_elim
+    (λ w.
+    rw w.1
+    (more c.loop-at.invariant c.loop-at-test.true c.field_end-end.result c.field_end-end.ensures c.read_number.result c.read_number.ensures _ c.in-Value.is))
+    (λ w.
+    rw w.1
+    (left_out c.loop-at.invariant c.loop-at-test.true c.field_end-end.result c.field_end-end.ensures c.read_number.result c.read_number.ensures _ w.0.left c.in-Value.is))
+    c.if-count-lt-MOST_NUMBERS.branch
+
+pub returns : goal.returns
+returns c = all c.loop-at.invariant c.loop-at-test.false

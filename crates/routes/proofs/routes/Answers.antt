@@ -1,0 +1,79 @@
+-- `routes::routes` meets its contract: what its lines give is what Selection.antt gives case by case, and so the routes. Assumes nothing.
+use Rattle.std.proofs.Common.{◌≡◌, refl, ◌∙◌, List, inl, inr, ℕ, ◌<◌, ◌≤◌, arith}
+use Rattle.network.specs.Sizes.{queues}
+use Rattle.network.specs.Packet.{offset}
+use Rattle.network.specs.Routes.{routes}
+use Rattle.network.specs.Selection.{sign, selection}
+use Rattle.routes.specs.Lines.{outputs_from}
+use Rattle.routes.proofs.Laws.{Decided, by-x-first, by-y-first, by-z-first, are-cases, are-routes}
+use Rattle.routes.proofs.routes.Goals as goal
+use Rattle.routes.proofs.routes.Goals.{After-last_case-last}
+
+decided : (c : After-last_case-last)
+    → Decided c.sign-dx.result
+    c.sign-dy.result
+    c.sign-dz.result
+    c.adaptive_x-x.result
+    c.adaptive_y-y.result
+    c.adaptive_z-z.result
+    c.last_case-last.result
+decided c =
+    record {
+      x-is = c.adaptive_x-x.ensures;
+      y-is = c.adaptive_y-y.ensures;
+      z-is = c.adaptive_z-z.ensures;
+      last-is = c.last_case-last.ensures;
+    }
+
+-- outputs that are the cases of the decided signs are those of the head, and so its routes
+abbrev Right : After-last_case-last → List ℕ → Type 0
+Right c r =
+    (outputs_from 0 r ≡ routes c.args.q c.args.p)
+    × (outputs_from 0 r ≡ selection c.args.q (sign (offset 0 c.args.p)) (sign (offset 1 c.args.p)) (sign (offset 2 c.args.p)))
+
+right : (c : After-last_case-last) (r : List ℕ)
+    → outputs_from 0 r
+    ≡ selection c.args.q
+    c.sign-dx.result
+    c.sign-dy.result
+    c.sign-dz.result
+    → Right c r
+right c r e =
+    let cases =
+    e
+    ∙ are-cases c.args.q c.args.p
+    c.sign-dx.ensures
+    c.sign-dy.ensures
+    c.sign-dz.ensures in
+    (cases ∙ are-routes c.args.q c.args.p c.requires, cases)
+
+-- no queue has another number
+outside : (q : ℕ) → q < queues → 13 ≤ q → ⊥
+outside q h l = omega arith
+
+pub returns-in_default : goal.returns-in_default
+returns-in_default c = absurd (outside c.args.q c.requires c.if-q-lt13.false)
+
+-- queues 5 and 6
+pub returns-in-5 : goal.returns-in-5
+returns-in-5 c = (refl, right (goal.at.returns-in-5 c).After-last_case-last _ (by-z-first (decided (goal.at.returns-in-5 c).After-last_case-last) (inl (c.if-q-lt5.false, c.if-q-lt7.true))))
+
+-- queues 11 and 12
+pub returns-in-5-2 : goal.returns-in-5-2
+returns-in-5-2 c = (refl, right (goal.at.returns-in-5-2 c).After-last_case-last _ (by-z-first (decided (goal.at.returns-in-5-2 c).After-last_case-last) (inr (c.if-q-lt11.false, c.if-q-lt13.true))))
+
+-- queues 3 and 4
+pub returns-in-3 : goal.returns-in-3
+returns-in-3 c = (refl, right (goal.at.returns-in-3 c).After-last_case-last _ (by-y-first (decided (goal.at.returns-in-3 c).After-last_case-last) (inl (c.if-q-lt3.false, c.if-q-lt5.true))))
+
+-- queues 9 and 10
+pub returns-in-3-2 : goal.returns-in-3-2
+returns-in-3-2 c = (refl, right (goal.at.returns-in-3-2 c).After-last_case-last _ (by-y-first (decided (goal.at.returns-in-3-2 c).After-last_case-last) (inr (c.if-q-lt9.false, c.if-q-lt11.true))))
+
+-- queues 0, 1 and 2
+pub returns-in-0 : goal.returns-in-0
+returns-in-0 c = (refl, right (goal.at.returns-in-0 c).After-last_case-last _ (by-x-first (decided (goal.at.returns-in-0 c).After-last_case-last) (inl c.in-0.is)))
+
+-- queues 7 and 8
+pub returns-in-0-2 : goal.returns-in-0-2
+returns-in-0-2 c = (refl, right (goal.at.returns-in-0-2 c).After-last_case-last _ (by-x-first (decided (goal.at.returns-in-0-2 c).After-last_case-last) (inr (c.if-q-lt7.false, c.if-q-lt9.true))))
