@@ -89,7 +89,7 @@ pub returns-then-q-le-DIRECTIONS : goal.returns-then-q-le-DIRECTIONS
 returns-then-q-le-DIRECTIONS c =
     let a = c.args in
     far (shape_of a.s) a.q a.i _ (half_is (goal.at.returns-then-q-le-DIRECTIONS c).After-size-half) _ c.row-then-q-le-DIRECTIONS.ensures
-    (λ d s. limit-adaptive (shape_of a.s) a.q d c.if-q-eq-INJECTION_QUEUE.left (other (goal.at.returns-then-q-le-DIRECTIONS c).Else-own-i-2 d s) (le-ltb directions a.q c.if-q-le-DIRECTIONS.true))
+    (λ d s. limit-adaptive (shape_of a.s) a.q d c.if-q-eq-INJECTION_QUEUE.false (other (goal.at.returns-then-q-le-DIRECTIONS c).Else-own-i-2 d s) (le-ltb directions a.q c.if-q-le-DIRECTIONS.true))
 
 pub row-requires-then-own-i-3 : goal.row-requires-then-own-i-3
 row-requires-then-own-i-3 c = let l = small (goal.at.row-requires-then-own-i-3 c).After-size-half in (omega arith, omega arith, omega arith)
@@ -99,7 +99,7 @@ returns-then-own-i-3 c =
     let a = c.args in
     let l = c.if-own-i-3.true in
     let own = c.direction_of-own.ensures in
-    far (shape_of a.s) a.q a.i _ (half_is (goal.at.returns-then-own-i-3 c).After-size-half) _ c.row-then-own-i-3.ensures (λ d s. limit-higher (shape_of a.s) a.q d c.if-q-eq-INJECTION_QUEUE.left (omega arith))
+    far (shape_of a.s) a.q a.i _ (half_is (goal.at.returns-then-own-i-3 c).After-size-half) _ c.row-then-own-i-3.ensures (λ d s. limit-higher (shape_of a.s) a.q d c.if-q-eq-INJECTION_QUEUE.false (omega arith))
 
 pub returns : goal.returns
 returns c =
@@ -107,7 +107,7 @@ returns c =
     let m = c.if-own-i-3.false in
     let own = c.direction_of-own.ensures in
     alike (shape_of a.s) a.q a.i _ (half_is (goal.at.returns c).After-size-half) _ 1 c.row-2.ensures
-    (λ d s. sym (limit-lower (shape_of a.s) a.q d c.if-q-eq-INJECTION_QUEUE.left (lt→ltb directions a.q c.if-q-le-DIRECTIONS.false) (less _ _ _ s (omega arith) (other (goal.at.returns c).Else-own-i-2 d s))))
+    (λ d s. sym (limit-lower (shape_of a.s) a.q d c.if-q-eq-INJECTION_QUEUE.false (lt→ltb directions a.q c.if-q-le-DIRECTIONS.false) (less _ _ _ s (omega arith) (other (goal.at.returns c).Else-own-i-2 d s))))
   where
     less : (d own i : ℕ) → dimension_of d ≡ i → i ≤ own / 2 → own / 2 ≢ dimension_of d → dimension_of d < own / 2
     less d own i s l n = omega arith

@@ -34,7 +34,10 @@ returns-then-not-passes c =
 -- the offset passes, and is less than once round
 below : (c : Else-not-passes)
     → below_along (shape_of c.args.s) c.args.q c.args.p c.loop-i.i ≡ true
-below c = sym (along c.before) ∙ c.if-not-passes.false
+below c =
+    sym
+    (c.passes.ensures ∙ passes-is c.args.s _ _ _ _ c.loop-i-test.true c.above-a.ensures.offset _ c.requires.1 c.requires.0.sizes c.requires.2)
+    ∙ c.if-not-passes.false
 
 once : (c : Else-not-passes)
     → Short c.args.s c.args.q c.args.p
@@ -49,22 +52,22 @@ moved-node-requires c =
     let h = c.loop-i-test.true in
     (c.requires.1, c.requires.0.sizes, h, c.requires.0.below _ h, (once (goal.at.moved-node-requires c).Else-not-passes).least, (once (goal.at.moved-node-requires c).Else-not-passes).most)
 
--- the distance that the table has for it
-far : (c : Else-not-passes)
-    → get_or c.args.tables.now (first_distance + c.above-a.result) 0
-    ≡ distance c.loop-i.i c.args.p
-far c =
-    distance_read c.args.s c.args.q _ _ _ c.loop-i-test.true c.above-a.ensures.offset _ c.requires.1 c.above-a.ensures.small
-
 -- one dimension more
 more : (c : After-moved-node)
-    → More c.args.s (record { c.before.before.before.before.before = c.args.place.at })
+    → More c.args.s (record { at = c.args.place.at })
     c.args.q c.args.p c.loop-i.i
     (c.loop-i.node + c.moved-node.result)
     (c.loop-i.work + get_or c.args.tables.now (first_distance + c.above-a.result) 0)
 more c =
-    judged-more _ _ _ _ c.requires.0 _ _ _ _ _ c.loop-i.invariant c.loop-i-test.true (below c.before)
-    (c.moved-node.ensures _ _ (once c.before).back c.above-a.ensures.offset) (far c.before)
+    let passed : below_along (shape_of c.args.s) c.args.q c.args.p c.loop-i.i ≡ true =
+    sym
+    (c.passes.ensures ∙ passes-is c.args.s _ _ _ _ c.loop-i-test.true c.above-a.ensures.offset _ c.requires.1 c.requires.0.sizes c.requires.2)
+    ∙ c.if-not-passes.false in
+    let less : Short c.args.s c.args.q c.args.p c.loop-i.i c.above-a.result c.loop-i-test.true c.above-a.ensures.offset =
+    short _ _ _ _ _ _ _ c.requires.0.sizes passed in
+    judged-more _ _ _ _ c.requires.0 _ _ _ _ _ c.loop-i.invariant c.loop-i-test.true passed
+    (c.moved-node.ensures _ _ less.back c.above-a.ensures.offset)
+    (distance_read c.args.s c.args.q _ _ _ c.loop-i-test.true c.above-a.ensures.offset _ c.requires.1 c.above-a.ensures.small)
 
 pub overflow_add-node : goal.overflow_add-node
 overflow_add-node c = let l = (more (goal.at.overflow_add-node c).After-moved-node).small in omega arith

@@ -27,10 +27,10 @@ loop-i-preserved c =
 
 -- the value that a turn leaves is at most `most`, which fits
 pub overflow_mul-value : goal.overflow_mul-value
-overflow_mul-value c = let r = loop-again (goal.at.overflow_mul-value c).Else-most-digit-2 in omega arith
+overflow_mul-value c = let r = loop-i-preserved c in omega arith
 
 pub overflow_add-value : goal.overflow_add-value
-overflow_add-value c = let r = loop-again (goal.at.overflow_add-value c).Else-most-digit-2 in omega arith
+overflow_add-value c = let r = loop-i-preserved c in omega arith
 
 pub returns : goal.returns
 returns c = end c.loop-i.invariant c.loop-i-test.false

@@ -3,6 +3,7 @@ use Rattle.std.proofs.Common.{◌∙◌, ⊎_elim}
 use Rattle.sheet.specs.Numerals.{not-leading}
 use Rattle.reader.proofs.ReadDigits.{number-of-digits, no_number, empty, leading, single}
 use Rattle.reader.proofs.read_number.Goals as goal
+use Rattle.reader.proofs.read_number.Goals.{then-n-gt1+else-field-eq48, else-n-gt1}
 
 pub returns-then-n-eq0 : goal.returns-then-n-eq0
 returns-then-n-eq0 c =
@@ -20,4 +21,4 @@ returns c =
     let field = a.field.now in
     c.read_digits.ensures
     ∙ number-of-digits a.base a.most field
-    (⊎_elim (λ w. not-leading field w.2.left c.if-n-eq0.false) (λ w. single field w.left c.if-n-eq0.false) c.if-n-gt1.branch)
+    (elim c.if-n-gt1.branch [ then-n-gt1+else-field-eq48 w ↦ not-leading field w.if-field-eq48.false c.if-n-eq0.false | else-n-gt1 w ↦ single field w.if-n-gt1.false c.if-n-eq0.false ])

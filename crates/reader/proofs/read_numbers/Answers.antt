@@ -6,6 +6,7 @@ use Rattle.sheet.specs.Fields.{end-within}
 use Rattle.reader.specs.Reading.{number_fits}
 use Rattle.reader.proofs.Gather.{none, more, left_out, broken, all}
 use Rattle.reader.proofs.read_numbers.Goals as goal
+use Rattle.reader.proofs.read_numbers.Goals.{then-count-lt-MOST_NUMBERS, else-count-lt-MOST_NUMBERS}
 
 pub loop-at-init : goal.loop-at-init
 loop-at-init c = none c.args.line.now c.args.start c.requires
@@ -23,14 +24,14 @@ returns-in-Nothing c =
 
 pub loop-at-preserved : goal.loop-at-preserved
 loop-at-preserved c =
-    ⊎_elim
-    (λ w.
-    rw w.1
-    (more c.loop-at.invariant c.loop-at-test.true c.field_end-end.result c.field_end-end.ensures c.read_number.result c.read_number.ensures _ c.in-Value.is))
-    (λ w.
-    rw w.1
-    (left_out c.loop-at.invariant c.loop-at-test.true c.field_end-end.result c.field_end-end.ensures c.read_number.result c.read_number.ensures _ w.0.left c.in-Value.is))
-    c.if-count-lt-MOST_NUMBERS.branch
+    elim c.if-count-lt-MOST_NUMBERS.branch [
+      then-count-lt-MOST_NUMBERS w ↦
+        rw w.values-is
+        (more c.loop-at.invariant c.loop-at-test.true c.field_end-end.result c.field_end-end.ensures c.read_number.result c.read_number.ensures _ c.in-Value.is)
+    | else-count-lt-MOST_NUMBERS w ↦
+        rw w.values-is
+        (left_out c.loop-at.invariant c.loop-at-test.true c.field_end-end.result c.field_end-end.ensures c.read_number.result c.read_number.ensures _ w.if-count-lt-MOST_NUMBERS.false c.in-Value.is)
+    ]
 
 pub returns : goal.returns
 returns c = all c.loop-at.invariant c.loop-at-test.false

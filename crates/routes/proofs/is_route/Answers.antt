@@ -12,17 +12,17 @@ ended : {k : ℕ} (r : List ℕ) → length r ≡ selection_lines → k ≤ sele
 ended r e h l = omega arith
 
 pub loop-k-init : goal.loop-k-init
-loop-k-init c = (omega arith, ap (elem c.args.o) c.routes-outputs.ensures.1.0)
+loop-k-init c = (omega arith, ap (elem c.args.o) c.routes-outputs.ensures.these)
 
 pub returns-then-applies : goal.returns-then-applies
 returns-then-applies c =
-    let h = within c.routes-outputs.result c.routes-outputs.ensures.0 c.loop-k-test.true in
+    let h = within c.routes-outputs.result c.routes-outputs.ensures.each c.loop-k-test.true in
     sym (elem-here c.args.o c.routes-outputs.result c.loop-k.k h c.if-output-o.true (sym c.applies.ensures ∙ c.if-applies.true))
     ∙ c.loop-k.invariant.1
 
 pub loop-k-preserved : goal.loop-k-preserved
 loop-k-preserved c =
-    let h = within c.routes-outputs.result c.routes-outputs.ensures.0 c.loop-k-test.true in
+    let h = within c.routes-outputs.result c.routes-outputs.ensures.each c.loop-k-test.true in
     let o = c.args.o in
     let k = c.loop-k.k in (
       omega arith,
@@ -31,4 +31,4 @@ loop-k-preserved c =
     )
 
 pub returns : goal.returns
-returns c = sym (elem_end c.args.o c.routes-outputs.result c.loop-k.k (ended c.routes-outputs.result c.routes-outputs.ensures.0 c.loop-k.invariant.0 c.loop-k-test.false)) ∙ c.loop-k.invariant.1
+returns c = sym (elem_end c.args.o c.routes-outputs.result c.loop-k.k (ended c.routes-outputs.result c.routes-outputs.ensures.each c.loop-k.invariant.0 c.loop-k-test.false)) ∙ c.loop-k.invariant.1
