@@ -1,6 +1,5 @@
 -- What the definitions of the rules are written with, and its laws. Nothing here speaks of networks. Assumes nothing.
 pub mod Tests
-pub mod Bools
 pub mod Sums
 pub mod Joins
 pub mod Rearrangement

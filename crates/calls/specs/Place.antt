@@ -7,7 +7,7 @@ use Rattle.network.specs.Sizes.{Shape}
 use Rattle.network.specs.Layout.{shape, queue_start, held}
 use Rattle.network.specs.Refusals.{look_refusal}
 use Rattle.network.specs.Calls.{unless_refused, look_part, look_at}
-use Rattle.network.specs.Answers.{by-refusal}
+use Rattle.network.proofs.Answers.{by-refusal}
 
 -- the place of word i of those that begin at a place: a block of memory, and how many bytes into it, eight to a word
 abbrev pub word_at : ℕ × ℕ → ℕ → ℕ × ℕ

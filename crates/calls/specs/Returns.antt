@@ -15,7 +15,7 @@ use Rattle.queue.specs.QueueOf.{QueueOf}
 use Rattle.network.specs.CheckLaws.{Network}
 use Rattle.network.specs.Routes.{deliver, free_load}
 use Rattle.network.specs.Refusals.{network_refusal, make_refusal, offer_rules, offer_refusal, move_rules, move_refusal, credit_rules, credit_refusal, look_rules, look_refusal, head, else_by}
-use Rattle.network.specs.RefusalLaws.{else_by-zero, else_by-first, neither, not-refused, network-passed}
+use Rattle.network.proofs.RefusalLaws.{else_by-zero, else_by-first, neither, not-refused, network-passed}
 use Rattle.network.specs.Calls.{NamedMove, Delivery, empty_network, make_words, after_offer, offer_words, after_move, move_words, move_answer, credit_answer, look_part, first_move, first_answer, drain_from, drained, drain_words, drain_ledger, drain_answer}
 
 -- an answer, and the words that are left

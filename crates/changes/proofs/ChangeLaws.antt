@@ -12,15 +12,17 @@ use Rattle.network.specs.Packet.{hop}
 use Rattle.network.specs.Torus.{neighbour}
 use Rattle.network.specs.TorusLaws.{Torus}
 use Rattle.network.specs.Layout.{header_words, need, node_words, held, put_queue, raised, accepted, delivered, moves_made, accepted_at, delivered_at, moves_at}
-use Rattle.network.specs.LayoutLaws.{header-long, Fits, length-put, word-put, length-raised, raised-other}
+use Rattle.network.specs.LayoutLaws.{Fits}
+use Rattle.network.proofs.LayoutLaws.{header-long, length-put, word-put, length-raised, raised-other}
 use Rattle.network.specs.Check.{most_accepted, most_work, packets_held, work_left}
 use Rattle.network.specs.CheckLaws.{Network}
 use Rattle.network.specs.Routes.{deliver, target}
 use Rattle.network.specs.Refusals.{head}
 use Rattle.network.specs.RefusalLaws.{Permitted}
 use Rattle.network.specs.Calls.{empty_header, empty_network, offered, after_offer, head_leaves, packet_arrives, after_move}
-use Rattle.network.specs.SameWords.{stored-few, network-stored}
-use Rattle.network.specs.AfterLaws.{Ahead, ahead}
+use Rattle.network.proofs.SameWords.{stored-few, network-stored}
+use Rattle.network.specs.AfterLaws.{Ahead}
+use Rattle.network.proofs.AfterLaws.{ahead}
 use Rattle.queue.specs.Queue.{CheckedQueue}
 use Rattle.network.specs.declared.Sizes.{Sizes}
 use Rattle.queue.specs.QueueLaws.{checked, checked-put, checked-fits}

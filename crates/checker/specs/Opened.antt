@@ -3,13 +3,13 @@
 use Rattle.std.specs.Prelude.{◌≡◌, refl, ◌≢◌, Bool, true, false, cond, List, ℕ, ◌+◌, ◌*◌, ◌≤◌, eqb, length, get_or}
 use Rattle.std.proofs.Common.{ap, sym, ◌∙◌, subst, arith, eq-eqb, ne_eqb, eqb→eq}
 use Rattle.std.proofs.lemmas.Bool.{eqb-false}
-use Rattle.base.specs.Tests.{true-T}
+use Rattle.base.proofs.Tests.{true-T}
 use Rattle.network.specs.declared.Sizes.{Sizes}
 use Rattle.network.specs.Sizes.{Shape, shape_of, sized}
 use Rattle.network.specs.Layout.{shape}
 use Rattle.network.specs.CheckLaws.{Network}
 use Rattle.network.specs.Refusals.{network_refusal}
-use Rattle.network.specs.RefusalLaws.{network-passed}
+use Rattle.network.proofs.RefusalLaws.{network-passed}
 use Rattle.checker.specs.declared.Opened.{Opened}
 
 -- the sizes that the words begin with

@@ -12,15 +12,15 @@ use lib.Dec.{eqb}
 use lib.ListN.{length, take, drop, length-append, length-drop}
 use lib.Seq.{take_at, length-take-le, drop-drop}
 use borrow.Author.Tests.{eq-eqb, ne_eqb}
-use Rattle.base.specs.Tests.{and_r, T_true, true-T}
+use Rattle.base.proofs.Tests.{and_r, T_true, true-T}
 use Rattle.network.specs.Sizes.{queues}
 use Rattle.sheet.specs.Output.{written, Room, Put}
-use Rattle.sheet.specs.Puts.{put-length}
+use Rattle.sheet.proofs.Puts.{put-length}
 use Rattle.waveform.specs.Dump.{most_variables, variables_begin, variables_end, variable_line, variable_lines}
-use Rattle.waveform.specs.DumpLaws.{variable_lines-more}
-use Rattle.waveform.specs.Lengths.{variable-length}
+use Rattle.waveform.proofs.DumpLaws.{variable_lines-more}
+use Rattle.waveform.proofs.Lengths.{variable-length}
 use Rattle.waveform.specs.Reading.{starts_with, variables_from, variables_in, behind_variables, are_names, read_names}
-use Rattle.waveform.specs.StartLaws.{starts-long}
+use Rattle.waveform.proofs.StartLaws.{starts-long}
 use Rattle.dump_reader.specs.declared.Counted.{Counted}
 use Rattle.dump_reader.specs.Parsing.{CountedOf, no_names}
 

@@ -11,12 +11,14 @@ use lib.Dec.{T, leb, eqb}
 use lib.ListN.{length, get_or, take, drop, length-drop}
 use lib.Seq.{take_all, drop-drop}
 use borrow.Author.Tests.{lt-ltb, le-ltb, le-leb, lt-leb, ne_eqb, eqb-true, ltb-true, leb-true}
-use Rattle.base.specs.Tests.{all_of, and_l, and_r, T_true, true-T}
+use Rattle.base.specs.Tests.{all_of}
+use Rattle.base.proofs.Tests.{and_l, and_r, T_true, true-T}
 use Rattle.reader.specs.declared.Number.{Number}
 use Rattle.reader.specs.Reading.{number_of, is-number, number_is, number_fits, not-number}
 use Rattle.sheet.specs.Text.{lf}
 use Rattle.sheet.specs.Commands.{up_to, ten, value, is_number, is_digit, no_leading_zero}
-use Rattle.sheet.specs.Fields.{end_from, field-up_to, end-within}
+use Rattle.sheet.specs.Fields.{end_from}
+use Rattle.sheet.proofs.Fields.{field-up_to, end-within}
 use Rattle.waveform.specs.declared.ValueLine.{ValueLine}
 use Rattle.waveform.specs.Dump.{most_variables, two}
 use Rattle.waveform.specs.Reading.{is_ended, behind, largest_time, is_stamp, read_stamp, largest_fill, blank, fill_field, variable_field, is_value_line, read_value}

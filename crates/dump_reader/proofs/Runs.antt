@@ -10,7 +10,7 @@ use lib.Dec.{leb}
 use lib.ListN.{length, drop, set, length-drop, length-set, drop_of_length-le}
 use lib.Seq.{drop-drop}
 use borrow.Author.Tests.{leb-true}
-use Rattle.base.specs.Tests.{and_l, and_r, T_true, true-T}
+use Rattle.base.proofs.Tests.{and_l, and_r, T_true, true-T}
 use Rattle.waveform.specs.declared.ValueLine.{ValueLine}
 use Rattle.waveform.specs.Dump.{most_variables}
 use Rattle.waveform.specs.Reading.{is_value_line, read_value, ValueRun, one_more, run_within, value_run, needed_from, needed, applied}

@@ -11,7 +11,7 @@ use lib.Dec.{eqb, ltb}
 use lib.ListN.{length, get_or, drop, length-drop}
 use lib.Seq.{drop-drop}
 use borrow.Author.Tests.{lt-ltb, le-ltb, eq-eqb, ne_eqb, eqb-true}
-use Rattle.base.specs.Tests.{and_l, and_r, T_true, true-T}
+use Rattle.base.proofs.Tests.{and_l, and_r, T_true, true-T}
 use Rattle.network.specs.Refusals.{refuse, bad_line, short_page}
 use Rattle.waveform.specs.declared.TimeStamp.{TimeStamp}
 use Rattle.waveform.specs.declared.Names.{Names}
@@ -19,9 +19,10 @@ use Rattle.waveform.specs.declared.StepRead.{StepRead}
 use Rattle.waveform.specs.Dump.{values_begin, values_end}
 use Rattle.waveform.specs.Reading.{starts_with, read_stamp, value_run, needed, read_names, Step, behind_names, behind_stamp, applied}
 use Rattle.waveform.specs.Reading.{read_later, header_stamp, header_values, tells_all, read_header, read_step}
-use Rattle.waveform.specs.StartLaws.{starts-long}
+use Rattle.waveform.proofs.StartLaws.{starts-long}
 use Rattle.waveform.specs.Calls.{read_refusal, step_told, read_answer, read_list}
-use Rattle.waveform.specs.StepAnswers.{ReadTells, read-tells}
+use Rattle.waveform.specs.StepAnswers.{ReadTells}
+use Rattle.waveform.proofs.StepAnswers.{read-tells}
 use Rattle.dump_reader.specs.declared.ValueRun.{ValueRun}
 use Rattle.dump_reader.specs.declared.Parsed.{Parsed}
 use Rattle.dump_reader.specs.Parsing.{no_step, RunOf, ParsedOf, LaterOf, HeaderOf, StepOf}

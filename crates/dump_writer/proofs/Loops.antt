@@ -10,11 +10,14 @@ use lib.Dec.{eqb}
 use lib.ListN.{length, get_or, take, drop, set, length-append, length-drop}
 use lib.Seq.{length-take-le, take-length, take-suc, drop-cons, set_at}
 use Rattle.sheet.specs.Output.{Room, Put}
-use Rattle.sheet.specs.Puts.{put-none, put-behind, put-length, ToPut, all-to-put, run_room, run-put}
+use Rattle.sheet.specs.Puts.{ToPut}
+use Rattle.sheet.proofs.Puts.{put-none, put-behind, put-length, all-to-put, run_room, run-put}
 use Rattle.waveform.specs.Dump.{most_variables, variable_line, variable_lines, value_line, value_lines, tells, changes_to, changes}
 use Rattle.waveform.specs.Reading.{largest_fill}
-use Rattle.waveform.specs.DumpLaws.{change_at, lines-told, lines-untold}
-use Rattle.waveform.specs.Lengths.{variable_room, variables-room, value_room, values-room}
+use Rattle.waveform.specs.DumpLaws.{change_at}
+use Rattle.waveform.proofs.DumpLaws.{lines-told, lines-untold}
+use Rattle.waveform.specs.Lengths.{variable_room, value_room}
+use Rattle.waveform.proofs.Lengths.{variables-room, values-room}
 
 -- the lines of the variables from number i on
 left : (i count : ℕ) → i < count → variable_lines i (count - i) ≡ variable_line i ++ variable_lines (i + 1) (count - (i + 1))

@@ -7,13 +7,13 @@ use native.Mathlib.Numerals.{add-one}
 use native.Mathlib.Omega.{arith}
 use lib.ListN.{length, get_or, set, length-set}
 use Rattle.network.specs.Sizes.{Shape, nodes, queues, capacity, largest_capacity}
-use Rattle.network.specs.SizesLaws.{range-of, capacity-most}
+use Rattle.network.proofs.SizesLaws.{range-of, capacity-most}
 use Rattle.network.specs.Layout.{header_words, node_words, need, queue_start, queue_end, queue_length, held}
-use Rattle.network.specs.LayoutLaws.{end-next, end-need}
+use Rattle.network.proofs.LayoutLaws.{end-next, end-need}
 use Rattle.network.specs.CheckLaws.{Network}
 use Rattle.base.specs.Sums.{sum_below}
 use Rattle.waveform.specs.Dump.{variables_of, fills}
-use Rattle.waveform.specs.DumpLaws.{held_word}
+use Rattle.waveform.proofs.DumpLaws.{held_word}
 use Rattle.dump_writer.specs.Writing.{FirstFills, FillsAdded, filled_none, filled-length, filled_more, filled-all}
 
 -- where the number held of a queue stands, and that it is small

@@ -12,11 +12,11 @@ use borrow.Author.Tests.{ne_eqb, le-ltb}
 use Rattle.network.specs.Sizes.{Shape, nodes, queues}
 use Rattle.network.specs.Layout.{shape, moves_made, held}
 use Rattle.network.specs.Refusals.{network_refusal, refuse, short_page}
-use Rattle.network.specs.RefusalLaws.{else_by-zero, else_by-first}
+use Rattle.network.proofs.RefusalLaws.{else_by-zero, else_by-first}
 use Rattle.network.specs.Calls.{unless_refused}
 use Rattle.waveform.specs.declared.Written.{Written}
 use Rattle.waveform.specs.Dump.{variables_of, fills_to, fills, step_bytes}
-use Rattle.waveform.specs.DumpLaws.{fills_to-length, fills-length}
+use Rattle.waveform.proofs.DumpLaws.{fills_to-length, fills-length}
 use Rattle.waveform.specs.Calls.{fills_now, written_step, write_rules, write_refusal, write_answer, write_page, write_list}
 
 -- the fills of the first i queues stand in a list that was lent

@@ -6,8 +6,8 @@ use Prim.Native.Nat.{ℕ, ◌+◌, ◌-◌, ◌/◌, ◌%◌, ◌<◌, ◌≤◌
 use native.Mathlib.Omega.{arith}
 use lib.ListN.{length, set, length-append}
 use Rattle.sheet.specs.Output.{numeral, written, Room, Put}
-use Rattle.sheet.specs.Numerals.{smaller, numeral-one, numeral-more, numeral-length-more, numeral-some}
-use Rattle.sheet.specs.Puts.{length-written, put-none, written-front}
+use Rattle.sheet.proofs.Numerals.{smaller, numeral-one, numeral-more, numeral-length-more, numeral-some}
+use Rattle.sheet.proofs.Puts.{length-written, put-none, written-front}
 
 -- the digits behind those of `rest` have been counted, and one of `rest`
 pub record Counted (base n rest count : ℕ) : Type 0 where

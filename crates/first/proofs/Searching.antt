@@ -17,17 +17,20 @@ use Rattle.base.specs.Tests.{elem}
 use Rattle.network.specs.declared.Found.{Found}
 use Rattle.network.specs.Sizes.{Shape, shape_of, nodes, queues, adaptive_queue, escape_queue, capacity, directions}
 use Rattle.network.specs.Layout.{header_words, node_words, queue_start, queue_end, queue_length, held, total, accepted, delivered}
-use Rattle.network.specs.LayoutLaws.{end-next, end-length, node-words, total-zero}
+use Rattle.network.proofs.LayoutLaws.{end-next, end-length, node-words, total-zero}
 use Rattle.network.specs.Check.{packets_held}
 use Rattle.network.specs.CheckLaws.{Network}
 use Rattle.network.specs.Packet.{distance, heading, hops_left}
-use Rattle.network.specs.PacketLaws.{heading-lt}
+use Rattle.network.proofs.PacketLaws.{heading-lt}
 use Rattle.network.specs.Routes.{routes, deliver}
-use Rattle.network.specs.RoutesLaws.{Onward, route-of}
+use Rattle.network.specs.RoutesLaws.{Onward}
+use Rattle.network.proofs.RoutesLaws.{route-of}
 use Rattle.network.specs.Refusals.{head, flow_rules, move_rules}
-use Rattle.network.specs.RefusalLaws.{Permitted, permitted-of, permitted-by, flow-of, flow-by}
+use Rattle.network.specs.RefusalLaws.{Permitted}
+use Rattle.network.proofs.RefusalLaws.{permitted-of, permitted-by, flow-of, flow-by}
 use Rattle.network.specs.Calls.{first_output, first_in_queue, or_else, search, first_in_node, first_move}
-use Rattle.network.specs.FirstLaws.{Finds, nothing, named, first_finds}
+use Rattle.network.specs.FirstLaws.{Finds, nothing, named}
+use Rattle.network.proofs.FirstLaws.{first_finds}
 use Rattle.network.specs.declared.Sizes.{Sizes}
 use Rattle.queue.specs.QueueLaws.{checked-fits}
 use Rattle.routes.specs.Lines.{selection_lines, applies, outputs_from}

@@ -5,9 +5,9 @@ use Prim.Native.Nat.{ℕ, ◌-◌, ◌≤◌}
 use native.Mathlib.Omega.{arith}
 use Rattle.network.specs.Sizes.{shape_of, direction_of, capacity}
 use Rattle.network.specs.Layout.{taken}
-use Rattle.network.specs.TorusLaws.{neighbour-lt, sizes-torus}
+use Rattle.network.proofs.TorusLaws.{neighbour-lt, sizes-torus}
 use Rattle.network.specs.Routes.{target, free_load}
-use Rattle.network.specs.RoutesLaws.{free-load-is}
+use Rattle.network.proofs.RoutesLaws.{free-load-is}
 use Rattle.network.specs.declared.Sizes.{Sizes}
 use Rattle.queue.specs.QueueOf.{QueueOf}
 

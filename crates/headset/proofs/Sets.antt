@@ -17,7 +17,8 @@ use lib.ListN.{length, get_or, set, length-set, replicate, length-replicate, get
 use lib.Pow.{pow_pos, shl_exact}
 use lib.Seq.{get_or-set_same, get_or-set_other}
 use Rattle.network.specs.Sizes.{queues}
-use Rattle.base.specs.Bits.{bit, bit-none, bit-or, bit-ones, bit-one, one_bit, one-exact, shifted-below, shifted-from}
+use Rattle.base.specs.Bits.{bit, one_bit}
+use Rattle.base.proofs.Bits.{bit-none, bit-or, bit-ones, bit-one, one-exact, shifted-below, shifted-from}
 use Rattle.headset.specs.Set.{node_heads, heads, first_word, first_head, set_words, word_nodes, node_bits, bit_of, member, IsSet, Replaced, put, BitPut, HeadsBelow, United, Inserted, NodeInserted, Removed, LowestBit, LowestMember}
 use Rattle.headset.proofs.WordBits.{bit-put}
 

@@ -7,7 +7,8 @@ use native.Mathlib.Omega.{arith}
 use lib.Count.{count_trailing_zeros, under, trailing_le}
 use lib.Dec.{eqb}
 use lib.Pow.{pow_pos}
-use Rattle.base.specs.Bits.{bit, bit-zero, bit-suc, bit-or, bit-and, bit_not, bit-pow, one-exact}
+use Rattle.base.specs.Bits.{bit}
+use Rattle.base.proofs.Bits.{bit-zero, bit-suc, bit-or, bit-and, bit_not, bit-pow, one-exact}
 use Rattle.headset.specs.Set.{put, LowestBit}
 
 -- One bit set, and cleared, in a word of 64 bits ---------------------------------------------------------------------------------------

@@ -7,18 +7,19 @@ use Prim.Native.Nat.{ℕ, ◌+◌, ◌*◌, ◌-◌, ◌/◌, ◌%◌, ◌^◌, 
 use native.Mathlib.Omega.{arith}
 use Rattle.std.proofs.Math.ListN.{length, get_or}
 use Rattle.network.specs.Sizes.{Shape, nodes, queues, directions, dimension_of, direction_of, adaptive_queue, is_adaptive, capacity, largest_capacity}
-use Rattle.network.specs.SizesLaws.{adaptive-of, adaptive-chunks, range-of, capacity-most}
+use Rattle.network.proofs.SizesLaws.{adaptive-of, adaptive-chunks, range-of, capacity-most}
 use Rattle.network.specs.TorusLaws.{Torus}
 use Rattle.network.specs.Packet.{chunks}
-use Rattle.network.specs.PacketLaws.{chunks-most}
+use Rattle.network.proofs.PacketLaws.{chunks-most}
 use Rattle.network.specs.Layout.{held, taken}
-use Rattle.network.specs.LayoutLaws.{load-chunks, load-hop, taken-same}
+use Rattle.network.proofs.LayoutLaws.{load-chunks, load-hop, taken-same}
 use Rattle.network.specs.CheckLaws.{Network}
 use Rattle.network.specs.Routes.{deliver, target}
 use Rattle.network.specs.Refusals.{head}
 use Rattle.network.specs.RefusalLaws.{Permitted}
 use Rattle.network.specs.Calls.{after_move}
-use Rattle.network.specs.AfterLaws.{ahead, MoveMade, move-made, Role, is-source, is-target, is-neither, role, source-taken, target-taken}
+use Rattle.network.specs.AfterLaws.{MoveMade, Role, is-source, is-target, is-neither}
+use Rattle.network.proofs.AfterLaws.{ahead, move-made, role, source-taken, target-taken}
 use Rattle.near.specs.Table.{Table, entry-within, entry_at}
 
 abbrev pub load_in : Shape → List ℕ → ℕ → ℕ → ℕ

@@ -3,46 +3,31 @@
 -- network, a row like `k5-every` beside it says so of each one (K2 and K8 say it at once).
 -- Order: how the rows' networks are written down (and in ByHand.antt); what the rows about every network speak of; the rows; what proves them; the theorem.
 -- Assumes nothing.
-use Rattle.std.specs.Prelude.{◌≡◌, ◌⊎◌, ◌≢◌, ◌↔◌, Bool, true, not, cond, ◌&&◌, ◌||◌, leb, ltb, eqb, ℤ, pos, negsuc, length, get_or, take, drop, set, replicate}
-use Rattle.std.proofs.Math.Path.{refl}
-use Rattle.std.proofs.Common.{ap, ap₂, sym, ◌∙◌, inl, inr, le_trans, mod-eq_of_lt, div-lt_iff_lt-mul, mul_comm, mul-one, add_comm, ltb→lt, lt→ltb, le→leb, eqb→eq, length-take}
+use Rattle.std.specs.Prelude.{◌≡◌, ◌⊎◌, ◌≢◌, ◌↔◌, not, cond, ◌&&◌, ◌||◌, leb, ltb, eqb, ℤ, pos, negsuc, length, get_or, take, set, replicate}
 use Rattle.std.proofs.Math.Bool.{false}
 use mathlib.Core.List.{List, [], ◌∷◌, ◌++◌, map}
 use Prim.Native.Nat.{ℕ, zero, suc, ◌+◌, ◌*◌, ◌-◌, ◌/◌, ◌%◌, ◌^◌, ◌<◌, ◌≤◌}
-use Rattle.std.proofs.Math.Nat.{min-le_left, mod-add-div}
-use Rattle.std.proofs.Math.Decide.{ℕ_discrete}
-use native.Mathlib.Omega.{arith}
-use borrow.Author.Tests.{eq-eqb, ne_eqb, lt-leb, lt-ltb, le-ltb, ltb-false}
 use Rattle.std.proofs.Math.Dec.{T}
-use Rattle.base.specs.Tests.{all_below, some_below, all_of, elem, EachBelow, each_at, T_true, T_false, passed?, and_l, and_r, all_pass, EachPasses, clauses-by, or_l, or_r, or-e, all-by}
+use Rattle.base.specs.Tests.{elem}
 use Rattle.base.specs.Sums.{sum_below}
-use Rattle.base.specs.Digits.{product, digit}
 use Rattle.network.specs.declared.Moved.{Moved}
 use Rattle.network.specs.declared.Found.{Found}
 use Rattle.network.specs.declared.Stop.{Stop}
 use Rattle.network.specs.declared.Drained.{Drained}
 use Rattle.network.specs.declared.Sizes.{Sizes}
-use Rattle.network.specs.Sizes.{Shape, shape_of, sized, size, within, sizes_in_range, most_chunks, nodes, queues, directions, dimensions, dimension_of, direction_of, is_plus, is_escape, is_adaptive, injection_queue, adaptive_queue, escape_queue, largest_ring}
-use Rattle.network.specs.SizesLaws.{between-by, escape-slots, escape-capacity}
-use Rattle.network.specs.Packet.{signed, tag, destination, chunks, spare, upper_spare, offset, with_offset, distance, hops, heading, hops_left, hop, label}
+use Rattle.network.specs.Sizes.{Shape, shape_of, sized, size, within, sizes_in_range, most_chunks, nodes, queues, directions, dimensions, dimension_of, direction_of, is_plus, injection_queue, escape_queue}
+use Rattle.network.specs.Packet.{signed, tag, destination, chunks, spare, upper_spare, offset, with_offset, distance, hops, hops_left, hop, label}
 use Rattle.network.specs.Torus.{coordinate, along, neighbour}
-use Rattle.network.specs.Layout.{header_words, shape, accepted_at, delivered_at, moves_at, need, queue_part, count_of, packets_of, held}
-use Rattle.network.specs.LayoutLaws.{header-long, load-escape}
-use Rattle.network.specs.Check.{packet_fits, queues_fit, ring_has_room, rings_have_room, packets_held, counters_fit, is_network}
-use Rattle.network.specs.Routes.{deliver, in_order, routes, target, free_load}
+use Rattle.network.specs.Layout.{header_words, shape, moves_at, need, held}
+use Rattle.network.specs.Check.{packet_fits, queues_fit, ring_has_room, packets_held, counters_fit}
+use Rattle.network.specs.Routes.{deliver, in_order, routes, target}
 use Rattle.network.specs.Selection.{selected}
-use Rattle.network.specs.SelectionLaws.{selection-routes}
-use Rattle.network.specs.Refusals.{refuse, no_route, no_slot, no_bubble, network_refusal, make_refusal, offer_rules, offer_refusal, head, flow_rules, move_rules, move_refusal, credit_refusal, look_refusal}
-use Rattle.network.specs.Calls.{Progress, move_of, offered_steps, offered, after_offer, offer_words, move_words, move_answer, first_answer, stopped, drain_from, drained, drain_ledger, drain_answer}
-use Rattle.network.specs.PacketLaws.{hops-hop-le, arrived-distance, spare-is, upper_spare-is}
-use Rattle.network.specs.TorusLaws.{Torus, size-pos, along-lt, in_range-torus, in_range-size, in_range-nodes, sizes-torus}
-use Rattle.network.specs.OfferLaws.{ShortRings, offset-nearer, offset-halfway}
-use Rattle.network.specs.CheckLaws.{Network, PacketFits, packet-of, reach-least, halfway-fits, own-fits, Loaded, queue-loaded, network_clauses, network-of, has-room-held}
-use Rattle.network.specs.RoutesLaws.{Onward, route-of, arrived-route, free-load-held, needed-escape}
-use Rattle.network.specs.RefusalLaws.{else_by-zero, network-passed, network-passes, chunks-exactly, own-node-exactly, no-node-first, permitted-by}
-use Rattle.network.specs.ByHand.{packet, here, straight, of_chunks, empty, holding, only, chosen, definitions}
-use Rattle.network.specs.Rows.{KeptRows, kept_rows}
-use Rattle.network.specs.TogetherRows.{TogetherRows, together_rows}
+use Rattle.network.specs.Refusals.{network_refusal, make_refusal, offer_refusal, head, move_refusal, credit_refusal, look_refusal}
+use Rattle.network.specs.Calls.{offered_steps, offered, offer_words, move_words, move_answer, first_answer, drain_ledger, drain_answer}
+use Rattle.network.specs.CheckLaws.{Loaded}
+use Rattle.network.specs.ByHand.{packet, here, straight, of_chunks, empty, holding, only, chosen}
+use Rattle.network.specs.Rows.{KeptRows}
+use Rattle.network.specs.TogetherRows.{TogetherRows}
 
 -- the offset of one hop in direction d
 abbrev one_way : ℕ → ℤ
@@ -57,40 +42,40 @@ Enough S words =
     × ((w : List ℕ) → length w ≡ words - 1 → shape w ≡ S → network_refusal w ≡ 1)
 
 -- the word of an offer in an empty network, by its tag and chunks, and that it stands in the injection queue of the node
-abbrev Offered : Shape → ℕ → ℕ → ℕ → ℕ → ℕ → Type 0
+abbrev pub Offered : Shape → ℕ → ℕ → ℕ → ℕ → ℕ → Type 0
 Offered S n destination tag chunks word =
     (offered S n destination tag chunks ≡ word) × (held S (offer_words (empty S) n destination tag chunks) n injection_queue ≡ word ∷ [])
 
 -- K1, K3, K4: 4 by 3 by 1, E 2, A 1, J 1
-abbrev four-by-three : Shape
+abbrev pub four-by-three : Shape
 four-by-three = shape_of (sized 4 3 1 2 1 1)
 
 -- K2: the largest sizes in two dimensions, and in three
-abbrev largest-plane : Shape
+abbrev pub largest-plane : Shape
 largest-plane = shape_of (sized 16 16 1 8 8 8)
 
-abbrev largest : Shape
+abbrev pub largest : Shape
 largest = shape_of (sized 16 16 16 8 8 8)
 
 -- K3: 6 by 2 by 1, where half-way round leads from an even column or row to an odd one, and back
-abbrev six-by-two : Shape
+abbrev pub six-by-two : Shape
 six-by-two = shape_of (sized 6 2 1 2 1 1)
 
 -- 2 by 2 by 2, where it does so along each dimension
-abbrev two-cubed : Shape
+abbrev pub two-cubed : Shape
 two-cubed = shape_of (sized 2 2 2 2 1 1)
 
 -- 4 by 2 by 1, and by hand two packets half-way round both dimensions: plus from an odd column and an odd row, minus from an even column and an even row
-abbrev four-by-two : Shape
+abbrev pub four-by-two : Shape
 four-by-two = shape_of (sized 4 2 1 2 1 1)
 
-abbrev against-parity : List ℕ
+abbrev pub against-parity : List ℕ
 against-parity =
     holding (holding (empty four-by-two) 5 injection_queue (packet 3 (pos 2) (pos 1) (pos 0) ∷ []))
     0 injection_queue (packet 6 (negsuc 1) (negsuc 0) (pos 0) ∷ [])
 
 -- one size along dimension i, another along the others; E 2, A 1, J 1
-abbrev long_along : ℕ → ℕ → ℕ → Shape
+abbrev pub long_along : ℕ → ℕ → ℕ → Shape
 long_along long others i = shape_of (sized (cond (eqb i 0) long others) (cond (eqb i 1) long others) (cond (eqb i 2) long others) 2 1 1)
 
 -- K5 to K7: 4 along the dimension of direction d, 2 along the others; the node so many steps from node 0 in direction d, round the edge with the first step
@@ -132,13 +117,13 @@ unfoldable pub crossing : ℕ → List ℕ
 crossing d = in_sources (in_sources (in_sources (empty (four-along d)) d 2 1) d 1 0) d 0 0
 
 -- the refusals of that node's packets on their way into the escape queue ahead: from the ring's own queue, and from each one outside
-abbrev Entries : ℕ → ℕ → ℕ → ℕ → Type 0
+abbrev pub Entries : ℕ → ℕ → ℕ → ℕ → Type 0
 Entries d steps own others =
     map (λ q. move_refusal (crossing d) (on_ring d steps) q (escape_queue d)) (sources d) ≡ own ∷ replicate (length (outside d)) others
 
 -- K9, K10: 4 by 1 by 1, and by hand a packet in the injection queue of node 0 with one hop left in x+, and one in the escape queue x+ of node 1 that has
 -- arrived
-abbrev before-and-after : List ℕ
+abbrev pub before-and-after : List ℕ
 before-and-after = holding (only (long_along 4 1 0) injection_queue (packet 1 (pos 1) (pos 0) (pos 0))) 1 7 (here 1 ∷ [])
 
 -- 2 by 1 by 2, and 1 by 2 by 2: rings of x and z alone, and of y and z
@@ -150,7 +135,7 @@ along-y-and-z = shape_of (sized 1 2 2 2 1 1)
 
 -- a turn: by hand a packet in the escape queue x+ of node 0 with one hop left in z+, to node 2, and in the escape queue z+ there as many that have arrived
 -- as are given
-abbrev turning : ℕ → List ℕ
+abbrev pub turning : ℕ → List ℕ
 turning count = holding (only along-x-and-z 7 (packet 2 (pos 0) (pos 0) (pos 1))) 2 11 (replicate count (here 2))
 
 -- 2 by 2 by 4, and by hand a packet in the adaptive queue z+ of node 0 with one hop left in x+, in y+ and in z+; the adaptive queues of these outputs are
@@ -168,11 +153,11 @@ TriedInTurn first second third last =
     × (first_answer (blocked (third ∷ second ∷ first ∷ [])) ≡ Found.Move 0 5 last)
 
 -- of this packet in the injection queue of node 0 of 2 by 2 by 2: the refusals by each output
-abbrev leaving : ℕ → List ℕ
+abbrev pub leaving : ℕ → List ℕ
 leaving p = map (λ o. move_refusal (only two-cubed injection_queue p) 0 injection_queue o) (in_order 0 queues)
 
 -- in which queues of that node it may stand
-abbrev standing : ℕ → List ℕ
+abbrev pub standing : ℕ → List ℕ
 standing p = chosen (λ q. packet_fits two-cubed 0 q p) (in_order 0 queues)
 
 -- K11: 2 along the dimension of direction d and 1 along the others, E 2; the escape queues of that direction at nodes 0 and 1 hold what is given
@@ -183,11 +168,11 @@ pair d ps qs = holding (holding (empty (long_along 2 1 (dimension_of d))) 0 (esc
 abbrev one-node : Shape
 one-node = shape_of (sized 1 1 1 2 1 1)
 
-abbrev alone : List ℕ
+abbrev pub alone : List ℕ
 alone = only one-node injection_queue (here 0)
 
 -- 2 by 2 by 2, and by hand such a packet in each queue of node 0
-abbrev in-every-queue : List ℕ
+abbrev pub in-every-queue : List ℕ
 in-every-queue = in_each (empty two-cubed) 0 (here 0) (in_order 0 queues)
 
 -- three sizes that all differ
@@ -196,7 +181,7 @@ two-three-five = shape_of (sized 2 3 5 2 1 1)
 
 -- a word with all fields: tag 7, bit 31, 5 chunks, destination 6, bit 15, dx −2, dy 3 and dz −16: 7 × 2^32 + 2^31 + 4 × 2^28 + 6 × 2^16 + 2^15 + 30 × 2^10 +
 -- 3 × 2^5 + 16
-abbrev a_word : ℕ
+abbrev pub a_word : ℕ
 a_word = 33286453360
 
 -- the table of R149: a head by its offsets, and its routes in the queues where x is the incoming dimension, where y is, and where z is
@@ -210,10 +195,10 @@ abbrev row : ℤ → ℤ → ℤ → List ℕ → List ℕ → List ℕ → Tabl
 row dx dy dz x y z = record { head = packet 0 dx dy dz; from-x = x; from-y = y; from-z = z }
 
 -- the signs, by the largest and the least number that the field of an offset holds
-abbrev none : ℤ
+abbrev pub none : ℤ
 none = pos 0
 
-abbrev most : ℤ
+abbrev pub most : ℤ
 most = pos 15
 
 abbrev least : ℤ
@@ -268,11 +253,11 @@ pub record Between (w : List ℕ) (n destination chunks i : ℕ) : Type 0 where
   pub dimension : i < dimensions
 
 -- sizes with no node along some dimension, or one more than a ring may have
-abbrev NoRing : Sizes → Type 0
+abbrev pub NoRing : Sizes → Type 0
 NoRing s = (i : ℕ) × (i < dimensions) × ((size (shape_of s) i ≡ 0) ⊎ (size (shape_of s) i ≡ 17))
 
 -- in any words: the head of queue q of node n, and that it is there to be moved
-abbrev head_of : List ℕ → ℕ → ℕ → ℕ
+abbrev pub head_of : List ℕ → ℕ → ℕ → ℕ
 head_of w n q = head (held (shape w) w n q)
 
 pub record Standing (w : List ℕ) (n q : ℕ) : Type 0 where
@@ -282,7 +267,7 @@ pub record Standing (w : List ℕ) (n q : ℕ) : Type 0 where
   pub holds : length (held (shape w) w n q) ≢ 0
 
 -- in any words, of which X, Y and Z are the first three: there are X × Y × Z nodes, and node n is (z × Y + y) × X + x
-abbrev Numbered : List ℕ → ℕ → Type 0
+abbrev pub Numbered : List ℕ → ℕ → Type 0
 Numbered w n =
     (nodes (shape w) ≡ get_or w 0 0 * (get_or w 1 0 * get_or w 2 0))
     × (n ≡ (coordinate (shape w) 2 n * get_or w 1 0 + coordinate (shape w) 1 n) * get_or w 0 0 + coordinate (shape w) 0 n)
@@ -302,11 +287,11 @@ pub record Entering (w : List ℕ) (n q d : ℕ) : Type 0 where
   pub route : T (elem (escape_queue d) (routes q (head_of w n q)))
 
 -- the packets that stand there already
-abbrev ahead : List ℕ → ℕ → ℕ → ℕ
+abbrev pub ahead : List ℕ → ℕ → ℕ → ℕ
 ahead w n d = length (held (shape w) w (target (shape w) n (escape_queue d)) (escape_queue d))
 
 -- the packets in the escape ring of direction d through node n
-abbrev in_ring : List ℕ → ℕ → ℕ → ℕ
+abbrev pub in_ring : List ℕ → ℕ → ℕ → ℕ
 in_ring w d n = sum_below (size (shape w) (dimension_of d)) (λ j. length (held (shape w) w (along (shape w) d j n) (escape_queue d)))
 
 -- the rings of direction d go through two nodes each, and E is 2
@@ -519,503 +504,3 @@ pub record KeptCases : Type 0 where
   -- each clause once more, in small networks: the rows of Rows.antt
   pub rows : KeptRows
   pub together : TogetherRows
-
--- a test that cannot pass
-untrue : (b : Bool) → (T b → ⊥) → b ≡ false
-untrue true f = absurd (f tt)
-untrue false f = refl
-
--- in words that pass the check a move is refused as the rules of Move say: so the rows compute the check once for each network
-by-rules : (w : List ℕ) (n q o refusal : ℕ) → network_refusal w ≡ 0 → move_rules (shape w) w n q o ≡ refusal → move_refusal w n q o ≡ refusal
-unfolding move_refusal
-by-rules w n q o refusal e r = else_by-zero (network_refusal w) (move_rules (shape w) w n q o) e ∙ r
-
-all-by-rules : (w : List ℕ) (n : ℕ) (q o : ℕ → ℕ) (xs : List ℕ) → network_refusal w ≡ 0
-    → map (λ x. move_refusal w n (q x) (o x)) xs ≡ map (λ x. move_rules (shape w) w n (q x) (o x)) xs
-all-by-rules w n q o [] e = refl
-all-by-rules w n q o (x ∷ xs) e =
-    ap₂ (λ (r : ℕ) (rs : List ℕ). r ∷ rs) (by-rules w n (q x) (o x) (move_rules (shape w) w n (q x) (o x)) e refl) (all-by-rules w n q o xs e)
-
-entries : (steps own others d : ℕ) → network_refusal (crossing d) ≡ 0
-    → map (λ q. move_rules (shape (crossing d)) (crossing d) (on_ring d steps) q (escape_queue d)) (sources d) ≡ own ∷ replicate (length (outside d)) others
-    → Entries d steps own others
-entries steps own others d e r = all-by-rules (crossing d) (on_ring d steps) (λ q. q) (λ q. escape_queue d) (sources d) e ∙ r
-
--- K3: every output of an injection queue
-outputs : (w : List ℕ) (n : ℕ) (refusals : List ℕ) → network_refusal w ≡ 0
-    → map (λ o. move_rules (shape w) w n injection_queue o) (in_order 0 queues) ≡ refusals
-    → map (λ o. move_refusal w n injection_queue o) (in_order 0 queues) ≡ refusals
-outputs w n refusals e r = all-by-rules w n (λ o. injection_queue) (λ o. o) (in_order 0 queues) e ∙ r
-
--- K3: what sizes in range give
-module _ (w : List ℕ) (r : T (sizes_in_range (shape w))) where
-  tor : Torus (shape w)
-  unfolding shape
-  tor = in_range-torus (shape w) r refl
-
-  fits : nodes (shape w) ≤ 2 ^ 12
-  unfolding shape
-  fits = in_range-nodes (shape w) r refl
-
-  short : ShortRings (shape w)
-  short i h = in_range-size (shape w) i r
-
--- where a packet stands, Move's first four tests of its own do not apply
-past-holds : (w : List ℕ) (n q o : ℕ) → Standing w n q → o < queues
-    → move_refusal w n q o ≡ refuse (not (elem o (routes q (head_of w n q)))) no_route (flow_rules (shape w) w n q o (head_of w n q))
-unfolding move_rules
-past-holds w n q o s h =
-    by-rules w n q o _ s.passes
-    (rw (lt-leb (nodes (shape w)) n s.node, lt-leb queues q s.queue, lt-leb queues o h, ne_eqb (length (held (shape w) w n q)) 0 s.holds))
-
--- K5 to K7: the free slots are what the packets ahead leave of two
-module _ (w : List ℕ) (n q d : ℕ) (s : Entering w n q d) where
-  free : (count : ℕ) → ahead w n d ≡ count → free_load (shape w) w n (escape_queue d) ≡ 2 - count
-  free count e = free-load-held (shape w) w n (escape_queue d) (escape-slots (escape_queue d) (omega arith)) ∙ ap₂ (λ (a b : ℕ). a - b) (escape-capacity (shape w) d ∙ s.two-slots) e
-
-  entered : (count : ℕ) → ahead w n d ≡ count
-      → move_refusal w n q (escape_queue d) ≡ refuse (ltb (2 - count) 1) no_slot (refuse (ltb (2 - count) (cond (eqb q (escape_queue d)) 1 2)) no_bubble 0)
-  unfolding flow_rules
-  entered count e =
-      past-holds w n q (escape_queue d) s.standing (let h = s.direction in omega arith)
-      ∙ rw (
-        T_true (elem (escape_queue d) (routes q (head_of w n q))) s.route,
-        ne_eqb (escape_queue d) deliver (λ z. nonzero d z),
-        free count e,
-        load-escape (escape_queue d) (head_of w n q) (omega arith),
-        needed-escape q d (head_of w n q),
-      )
-    where
-      nonzero : (d : ℕ) → escape_queue d ≡ 0 → ⊥
-      nonzero d z = omega arith
-
-  one-ahead : ahead w n d ≡ 1 → move_refusal w n q (escape_queue d) ≡ cond (eqb q (escape_queue d)) 0 12
-  one-ahead e = entered 1 e ∙ go (eqb q (escape_queue d))
-    where
-      go : (own : Bool) → refuse (ltb 1 (cond own 1 2)) no_bubble 0 ≡ cond own 0 12
-      go true = refl
-      go false = refl
-
-  none_ahead : ahead w n d ≡ 0 → move_refusal w n q (escape_queue d) ≡ 0
-  none_ahead e = entered 0 e ∙ go (eqb q (escape_queue d))
-    where
-      go : (own : Bool) → refuse (ltb 2 (cond own 1 2)) no_bubble 0 ≡ 0
-      go true = refl
-      go false = refl
-
--- K8: sizes out of range are found by Make first, by Check once there is a header
-one-slot : (s : Sizes) → s.escape ≡ 1 → sizes_in_range (shape_of s) ≡ false
-unfolding sizes_in_range shape_of within
-one-slot s z = rw z (neither (all_of (within 1 largest_ring) (shape_of s).sizes))
-  where
-    neither : (b : Bool) → (b && false) ≡ false
-    neither true = refl
-    neither false = refl
-
-out_of_range : (s : Sizes) → (s.escape ≡ 1) ⊎ NoRing s → sizes_in_range (shape_of s) ≡ false
-out_of_range s (inl z) = one-slot s z
-out_of_range s (inr (i, h, z)) =
-    untrue (sizes_in_range (shape_of s)) (λ t. none z (size-pos (shape_of s) i (sizes-torus s t) h) (in_range-size (shape_of s) i t))
-  where
-    none : (size (shape_of s) i ≡ 0) ⊎ (size (shape_of s) i ≡ 17) → 0 < size (shape_of s) i → size (shape_of s) i ≤ largest_ring → ⊥
-    none (inl z) low high = omega arith
-    none (inr z) low high = omega arith
-
-past-header : (w : List ℕ) → header_words ≤ length w → sizes_in_range (shape w) ≡ false → network_refusal w ≡ 2
-unfolding network_refusal
-past-header w h z = rw (le-ltb (length w) header_words h, z)
-
-wrong_size : (S : Shape) (w : List ℕ) → sizes_in_range S ≡ false → (make_refusal S w ≡ 2) × (header_words ≤ length w → shape w ≡ S → network_refusal w ≡ 2)
-unfolding make_refusal
-wrong_size S w z = (rw z, λ h e. past-header w h (ap sizes_in_range e ∙ z))
-
--- R181: no header
-no_header : (w : List ℕ) → length w < header_words → network_refusal w ≡ 1
-unfolding network_refusal
-no_header w h = rw (lt-ltb (length w) header_words h)
-
--- K2: one word too few
-too_short : (S : Shape) (w : List ℕ) → sizes_in_range S ≡ true → header_words ≤ length w → length w < need S → shape w ≡ S → network_refusal w ≡ 1
-unfolding network_refusal
-too_short S w z h l e = rw (le-ltb (length w) header_words h, e, z, lt-ltb (length w) (need S) l)
-
--- K9
-no-route : (w : List ℕ) (n q o : ℕ) → Standing w n q → o < queues → (T (elem o (routes q (head_of w n q))) → ⊥) → move_refusal w n q o ≡ 10
-no-route w n q o s h none = past-holds w n q o s h ∙ rw (untrue (elem o (routes q (head_of w n q))) none)
-
-not-delivered : (q p i : ℕ) → i < dimensions → distance i p ≢ 0 → T (elem 0 (routes q p)) → ⊥
-not-delivered q p i h far t = go (route-of q p 0 t)
-  where
-    go : ((0 ≡ deliver) × (hops_left p ≡ 0)) ⊎ Onward p 0 → ⊥
-    go (inl (z, arrived)) = far (arrived-distance i p h arrived)
-    go (inr r) = way r.by
-      where
-        way : (0 ≡ adaptive_queue (heading r.dimension p))
-            ⊎ ((0 ≡ escape_queue (heading r.dimension p)) × ((j : ℕ) → j < r.dimension → distance j p ≡ 0)) → ⊥
-        way (inl z) = omega arith
-        way (inr (z, l)) = omega arith
-
--- K9, K12
-not-onward : (q p o : ℕ) → ((i : ℕ) → i < dimensions → distance i p ≡ 0) → o ≢ deliver → T (elem o (routes q p)) → ⊥
-not-onward q p o done ne t = go (route-of q p o t)
-  where
-    go : ((o ≡ deliver) × (hops_left p ≡ 0)) ⊎ Onward p o → ⊥
-    go (inl (z, h)) = ne z
-    go (inr r) = r.far (done r.dimension r.below)
-
--- K10
-without-budget : (w : List ℕ) (room : ℕ) → network_refusal w ≡ 0
-    → drain_answer w 0 room ≡ Drained.Stopped 0 0 (cond (eqb (packets_held (shape w) w) 0) Stop.Emptied Stop.Spent)
-unfolding drain_answer drained drain_from stopped
-without-budget w room e = rw (eq-eqb (network_refusal w) 0 e) (go (eqb (packets_held (shape w) w) 0))
-  where
-    at_once : Bool → Progress
-    at_once none = cond none (stopped w Stop.Emptied) (stopped w Stop.Spent)
-
-    go : (none : Bool)
-        → Drained.Stopped (length (at_once none).moves) (length (at_once none).deliveries) (at_once none).stop ≡ Drained.Stopped 0 0 (cond none Stop.Emptied Stop.Spent)
-    go true = refl
-    go false = refl
-
--- K11: words that are long enough for sizes in range, and no network
-no-network : (w : List ℕ) → T (sizes_in_range (shape w)) → need (shape w) ≤ length w → (Network (shape w) w → ⊥) → network_refusal w ≡ 3
-unfolding network_refusal
-no-network w r l none =
-    rw (
-      le-ltb (length w) header_words (header-long (shape w) w l),
-      T_true (sizes_in_range (shape w)) r,
-      le-ltb (length w) (need (shape w)) l,
-      untrue (is_network (shape w) w) (λ t. none (network-of (shape w) w t)),
-    )
-
-take-few : (c : ℕ) (l : List ℕ) → length (take c l) ≤ c
-take-few c l = rw length-take (min-le_left c (length l))
-
-module _ (w : List ℕ) (d : ℕ) (r : RingsOfTwo w d) where
-  -- the packets j steps round the ring through node n
-  round : ℕ → ℕ → ℕ
-  round n j = length (held (shape w) w (along (shape w) d j n) (escape_queue d))
-
-  sum : (n : ℕ) → in_ring w d n ≡ round n 0 + round n 1
-  unfolding sum_below round
-  sum n = rw r.two-nodes (omega arith)
-
-  clause : (n : ℕ) → ring_has_room (shape w) w d n ≡ (ltb (round n 0) 2 || ltb (round n 1) 2)
-  unfolding ring_has_room some_below round
-  clause n =
-      rw (
-        r.two-nodes,
-        has-room-held (shape w) w (along (shape w) d 0 n) (escape_queue d) slots,
-        has-room-held (shape w) w (along (shape w) d 1 n) (escape_queue d) slots,
-        escape-capacity (shape w) d,
-        r.two-slots,
-      )
-    where
-      slots : is_adaptive (escape_queue d) ≡ false
-      slots = escape-slots (escape_queue d) (omega arith)
-
-  few : Network (shape w) w → (n j : ℕ) → n < nodes (shape w) → round n j ≤ 2
-  unfolding round held packets_of shape
-  few f n j node =
-      let at : ℕ = along (shape w) d j n in
-      let part : List ℕ = queue_part (shape w) w at (escape_queue d) in
-      let inside = along-lt (shape w) d j n (in_range-torus (shape w) f.in-range refl) r.direction node in
-      let fits = (f.queue at (escape_queue d) inside (let h = r.direction in omega arith)).few in
-      let most = escape-capacity (shape w) d ∙ r.two-slots in
-      let most-held = take-few (count_of part) (drop 1 part) in
-      omega arith
-
-  full-ring : (n : ℕ) → n < nodes (shape w) → in_ring w d n ≡ 4 → network_refusal w ≡ 3
-  full-ring n node e =
-      no-network w r.in-range r.long
-      (λ f. go f (or-e (ltb (round n 0) 2) (ltb (round n 1) 2) (rw (clause n) at (f.ring d n r.direction node))))
-    where
-      go : Network (shape w) w → T (ltb (round n 0) 2) ⊎ T (ltb (round n 1) 2) → ⊥
-      go f (inl t) = let h = ltb→lt (round n 0) 2 t in let s = sum n in let m = few f n 1 node in omega arith
-      go f (inr t) = let h = ltb→lt (round n 1) 2 t in let s = sum n in let m = few f n 0 node in omega arith
-
-  ring-with-room : (n : ℕ) → in_ring w d n ≤ 3 → T (ring_has_room (shape w) w d n)
-  ring-with-room n l = rw (clause n) (go (passed? (ltb (round n 0) 2)))
-    where
-      go : T (ltb (round n 0) 2) ⊎ T (not (ltb (round n 0) 2)) → T (ltb (round n 0) 2 || ltb (round n 1) 2)
-      go (inl t) = or_l (ltb (round n 0) 2) (ltb (round n 1) 2) t
-      go (inr t) =
-          let full : 2 ≤ round n 0 = ltb-false (round n 0) 2 (T_false (ltb (round n 0) 2) t) in
-          let s = sum n in
-          or_r (ltb (round n 0) 2) (ltb (round n 1) 2) (lt→ltb (round n 1) 2 (omega arith))
-
-  all-else-right : T (queues_fit (shape w) w)
-      → ((e n : ℕ) → e < directions → n < nodes (shape w) → e ≢ d → T (ring_has_room (shape w) w e n))
-      → T (counters_fit (shape w) w)
-      → ((n : ℕ) → n < nodes (shape w) → in_ring w d n ≤ 3)
-      → network_refusal w ≡ 0
-  unfolding is_network rings_have_room network_clauses all_pass EachPasses
-  all-else-right q others c l =
-      network-passes w
-      (network-of (shape w) w
-      (clauses-by (network_clauses (shape w) w) (r.in-range, (le→leb (need (shape w)) (length w) r.long, (q, (rings, c))))))
-    where
-      ring : (e n : ℕ) → e < directions → n < nodes (shape w) → Dec (e ≡ d) → T (ring_has_room (shape w) w e n)
-      ring e n he hn (yes z) = rw z (ring-with-room n (l n hn))
-      ring e n he hn (no ne) = others e n he hn ne
-
-      rings : T (rings_have_room (shape w) w)
-      rings =
-          all-by directions (λ e. all_below (nodes (shape w)) (λ n. ring_has_room (shape w) w e n))
-          (λ e he. all-by (nodes (shape w)) (λ n. ring_has_room (shape w) w e n) (λ n hn. ring e n he hn (ℕ_discrete e d)))
-
--- R30: a node's number from its coordinates
-from-coordinates : (x y z n : ℕ) → 0 < x → 0 < y → n < x * (y * z) → (n / x / y % z * y + n / x % y) * x + n % x ≡ n
-from-coordinates x y z n px py h =
-    let top : n / x / y < z = (div-lt_iff_lt-mul py).1 ((div-lt_iff_lt-mul px).1 (rw (mul_comm (z * y) x, mul_comm z y) h)) in
-    ap (λ (a : ℕ). (a * y + n / x % y) * x + n % x) (mod-eq_of_lt top)
-    ∙ ap (λ (a : ℕ). a * x + n % x) (together (n / x) y)
-    ∙ together n x
-  where
-    together : (m k : ℕ) → m / k * k + m % k ≡ m
-    together m k = ap (λ (a : ℕ). a + m % k) (mul_comm (m / k) k) ∙ add_comm (k * (m / k)) (m % k) ∙ mod-add-div m k
-
-numbered : (w : List ℕ) (n : ℕ) → T (sizes_in_range (shape w)) → n < nodes (shape w) → Numbered w n
-unfolding shape nodes product size coordinate digit
-numbered w n r h = (
-  ap (λ (a : ℕ). get_or w 0 0 * (get_or w 1 0 * a)) (mul-one (get_or w 2 0)),
-  sym
-      (from-coordinates (get_or w 0 0) (get_or w 1 0) (get_or w 2 0) n
-      (size-pos (shape w) 0 (tor w r) (omega arith))
-      (size-pos (shape w) 1 (tor w r) (omega arith))
-      (rw (mul-one (get_or w 2 0)) at h)),
-)
-
--- R76, R79, R87: a packet that stands in some queue passes the clauses for packets
-passes_of : (f : ℕ → Bool) (p : ℕ) (ps : List ℕ) → T (all_of f ps) → T (elem p ps) → T (f p)
-unfolding all_of elem
-passes_of f p [] a t = absurd t
-passes_of f p (x ∷ xs) a t = go (or-e (eqb p x) (elem p xs) t) (λ s. passes_of f p xs (and_r (f x) (all_of f xs) a) s)
-  where
-    go : T (eqb p x) ⊎ T (elem p xs) → (T (elem p xs) → T (f p)) → T (f p)
-    go (inl s) later = rw (eqb→eq p x s) (and_l (f x) (all_of f xs) a)
-    go (inr s) later = later s
-
-fits-within : (w : List ℕ) (n q p : ℕ) → Within w n q p → PacketFits (shape w) n q p
-fits-within w n q p s =
-    packet-of (shape w) n q p
-    (passes_of (packet_fits (shape w) n q) p (held (shape w) w n q) ((network-passed w s.passes).queue n q s.node s.queue).packets s.held-there)
-
-in-escape : (d i : ℕ) → escape_queue d < queues → i < dimension_of d → T (is_escape (escape_queue d)) × (i < dimension_of (direction_of (escape_queue d)))
-in-escape d i h l = (lt→ltb directions (escape_queue d) (omega arith), omega arith)
-
--- K12: in words that pass the check an offer is refused as the rules of Offer say
-offer-by-rules : (w : List ℕ) (n destination chunks : ℕ) → network_refusal w ≡ 0
-    → offer_refusal w n destination chunks ≡ offer_rules (shape w) w n destination chunks
-unfolding offer_refusal
-offer-by-rules w n destination chunks e = else_by-zero (network_refusal w) (offer_rules (shape w) w n destination chunks) e
-
-own-node-only : (w : List ℕ) (n destination chunks : ℕ) → network_refusal w ≡ 0
-    → (offer_refusal w n destination chunks ≡ 14) ↔ ((n < nodes (shape w)) × (n ≡ destination) × T (within 1 8 chunks))
-own-node-only w n destination chunks e = rw (offer-by-rules w n destination chunks e) (own-node-exactly (shape w) w n destination chunks)
-
-delivered-here : (w : List ℕ) (n q : ℕ) → Standing w n q → hops_left (head_of w n q) ≡ 0 → move_answer w n q deliver ≡ Moved.Delivered (head_of w n q)
-unfolding move_answer
-delivered-here w n q s z =
-    let permitted : move_refusal w n q deliver ≡ 0 =
-    by-rules w n q deliver 0 s.passes
-    (permitted-by (shape w) w n q deliver
-    (record {
-      node = s.node;
-      queue = s.queue;
-      output = omega arith;
-      holds = s.holds;
-      route = arrived-route q (head_of w n q) z;
-      room = λ ne. absurd (ne refl);
-    })) in
-    rw (eq-eqb (move_refusal w n q deliver) 0 permitted)
-
--- what the rows are computed with, to be unfolded by one name
-computed : Unit {0}
-unfolding definitions on_ring one_hop outside sources in_each in_sources crossing blocked
-computed = tt
-
--- K5 to K7, direction by direction
-each-passes : EachBelow (λ d. network_refusal (crossing d) ≡ 0) directions
-unfolding computed
-each-passes = ((((((tt, refl), refl), refl), refl), refl), refl)
-
-crossing-passes : (d : ℕ) → d < directions → network_refusal (crossing d) ≡ 0
-crossing-passes = each_at _ directions each-passes
-
-one-ahead-each : EachBelow (λ d. Entries d 0 0 12) directions
-unfolding computed
-one-ahead-each =
-    let entry : (d : ℕ) → d < directions → _ → Entries d 0 0 12 = λ d h. entries 0 0 12 d (crossing-passes d h) in
-    ((((((tt, entry 0 (omega arith) refl), entry 1 (omega arith) refl), entry 2 (omega arith) refl), entry 3 (omega arith) refl), entry 4 (omega arith) refl), entry 5 (omega arith) refl)
-
-two-ahead-each : EachBelow (λ d. Entries d 1 11 11) directions
-unfolding computed
-two-ahead-each =
-    let entry : (d : ℕ) → d < directions → _ → Entries d 1 11 11 = λ d h. entries 1 11 11 d (crossing-passes d h) in
-    ((((((tt, entry 0 (omega arith) refl), entry 1 (omega arith) refl), entry 2 (omega arith) refl), entry 3 (omega arith) refl), entry 4 (omega arith) refl), entry 5 (omega arith) refl)
-
-none-ahead-each : EachBelow (λ d. Entries d 2 0 0) directions
-unfolding computed
-none-ahead-each =
-    let entry : (d : ℕ) → d < directions → _ → Entries d 2 0 0 = λ d h. entries 2 0 0 d (crossing-passes d h) in
-    ((((((tt, entry 0 (omega arith) refl), entry 1 (omega arith) refl), entry 2 (omega arith) refl), entry 3 (omega arith) refl), entry 4 (omega arith) refl), entry 5 (omega arith) refl)
-
--- K3, K4: where an empty network passes the check, which is computed once for each, and no rule of Offer applies, the packet stands where the change puts it
-stands : (S : Shape) (n destination tag chunks word : ℕ) → network_refusal (empty S) ≡ 0 → offer_rules (shape (empty S)) (empty S) n destination chunks ≡ 0
-    → held S (after_offer (shape (empty S)) (empty S) n destination tag chunks) n injection_queue ≡ word ∷ []
-    → held S (offer_words (empty S) n destination tag chunks) n injection_queue ≡ word ∷ []
-unfolding offer_words offer_refusal
-stands S n destination tag chunks word passes rules there = rw (passes, rules) there
-
-four-by-three-passes : network_refusal (empty four-by-three) ≡ 0
-unfolding computed
-four-by-three-passes = refl
-
-six-by-two-passes : network_refusal (empty six-by-two) ≡ 0
-unfolding computed
-six-by-two-passes = refl
-
-two-cubed-passes : network_refusal (empty two-cubed) ≡ 0
-unfolding computed
-two-cubed-passes = refl
-
--- rows, and parts of rows, that a must-fail edit breaks alone. K3: from an odd row, of a node with an even number
-odd-row : Offered six-by-two 6 0 7 1 30064772064
-unfolding computed
-odd-row = (refl, stands six-by-two 6 0 7 1 _ six-by-two-passes refl refl)
-
--- K3, held: a hop along y, in an odd column
-on-its-way : held four-by-two (move_words against-parity 5 0 3) 1 3 ≡ packet 3 (pos 2) (pos 0) (pos 0) ∷ []
-unfolding computed
-on-its-way = refl
-
--- K12, held: whatever budget is left after it; and in every queue
-one-move : (budget room : ℕ) → drain_answer alone (suc budget) (suc room) ≡ Drained.Stopped 1 1 Stop.Emptied
-unfolding computed
-one-move zero room = refl
-one-move (suc budget) room = refl
-
-thirteen-moves : drained in-every-queue 13 13
-    ≡ record {
-      words = set (set (set (empty two-cubed) accepted_at 13) delivered_at 13) moves_at 13;
-      moves = map (λ q. move_of 0 q deliver) (in_order 0 queues);
-      deliveries = replicate 13 (record { node = 0; packet = here 0 });
-      stop = Stop.Emptied;
-    }
-unfolding computed
-thirteen-moves = refl
-
--- so it is computed once for the answer and the ledger
-in-every-passes : network_refusal in-every-queue ≡ 0
-unfolding computed
-in-every-passes = refl
-
-thirteen-told : (drain_answer in-every-queue 13 13 ≡ Drained.Stopped 13 13 Stop.Emptied)
-    × (drain_ledger in-every-queue 13 (replicate 13 0) ≡ replicate 13 (here 0))
-unfolding drain_answer drain_ledger in_order
-thirteen-told = (rw (in-every-passes, thirteen-moves) refl, rw (in-every-passes, thirteen-moves) refl)
-
--- R60, R76
-offsets-of-a-word : map (λ i. offset i a_word) (in_order 0 dimensions) ≡ negsuc 1 ∷ pos 3 ∷ negsuc 15 ∷ []
-unfolding computed
-offsets-of-a-word = refl
-
-widest-each : EachBelow
-    (λ i. chosen (λ b. packet_fits (long_along 16 1 i) 0 injection_queue (straight (b % 16) i (signed b))) (in_order 0 32) ≡ in_order 0 9 ++ in_order 24 8) dimensions
-unfolding computed
-widest-each = (((tt, refl), refl), refl)
-
-pub kept_cases : KeptCases
-unfolding computed
-kept_cases =
-    record {
-      k1 = refl;
-      k2 = (refl, (λ w e. rw e), (λ w e. rw e), λ w e. too_short largest-plane w refl (omega arith) (let l : need largest-plane ≡ 115977 = refl in omega arith));
-      k2-largest = (refl, (λ w e. rw e), (λ w e. rw e), λ w e. too_short largest w refl (omega arith) (let l : need largest ≡ 1855497 = refl in omega arith));
-      k3 = ((refl, stands four-by-three 0 6 7 1 _ four-by-three-passes refl refl), (refl, stands four-by-three 0 6 7 8 _ four-by-three-passes refl refl));
-      k3-odd-column = (refl, stands four-by-three 1 7 7 1 _ four-by-three-passes refl refl);
-      k3-odd-row = odd-row;
-      k3-parities-differ = ((refl, stands six-by-two 1 10 7 1 _ six-by-two-passes refl refl), (refl, stands six-by-two 6 3 7 1 _ six-by-two-passes refl refl));
-      k3-parity-of-z = ((refl, stands two-cubed 4 3 7 1 _ two-cubed-passes refl refl), (refl, stands two-cubed 3 4 7 1 _ two-cubed-passes refl refl));
-      k3-every =
-          λ w n destination tag chunks i b. (
-            offset-nearer (shape w) n destination tag chunks (tor w b.in-range) b.from b.to (fits w b.in-range) b.few (short w b.in-range) i b.dimension,
-            offset-halfway (shape w) n destination tag chunks (tor w b.in-range) b.from b.to (fits w b.in-range) b.few (short w b.in-range) i b.dimension,
-            λ odd e. odd (omega arith),
-          );
-      k3-held = (refl, outputs against-parity 5 _ refl refl, outputs against-parity 0 _ refl refl, on-its-way, refl, refl, refl, refl, refl);
-      k3-held-every = hops-hop-le;
-      k3-fits-every = λ w n q i h p r hn hi e. halfway-fits (shape w) n q i h p (tor w r) hn hi e (short w r i hi);
-      k4 = (refl, stands four-by-three 0 11 0 1 _ four-by-three-passes refl refl);
-      k5-sources = (refl, refl, refl, refl, refl, refl);
-      k5-passes = crossing-passes;
-      k5 = each_at _ directions one-ahead-each;
-      k5-every = one-ahead;
-      k5-turn-into-z = (refl, by-rules (turning 1) 0 7 11 12 refl refl, by-rules (turning 0) 0 7 11 0 refl refl, by-rules (turning 2) 0 7 11 11 refl refl);
-      k6 = each_at _ directions two-ahead-each;
-      k6-every = λ w n q d s e. entered w n q d s 2 e;
-      k7 = each_at _ directions none-ahead-each;
-      k7-every = none_ahead;
-      k8 = λ s w z. wrong_size (shape_of s) w (out_of_range s z);
-      k9 = (refl, by-rules before-and-after 0 0 0 10 refl refl, by-rules before-and-after 1 7 7 10 refl refl);
-      k9-every =
-          λ w n q s. (
-            λ i h far. no-route w n q 0 s (omega arith) (not-delivered q (head_of w n q) i h far),
-            λ done d h. no-route w n q (escape_queue d) s (omega arith) (not-onward q (head_of w n q) (escape_queue d) done (λ z. omega arith)),
-          );
-      k10 = λ room. (without-budget (empty four-by-three) room refl, without-budget before-and-after room refl);
-      k10-every = without-budget;
-      k11 = each_at _ directions ((((((tt, (refl, refl, refl)), (refl, refl, refl)), (refl, refl, refl)), (refl, refl, refl)), (refl, refl, refl)), (refl, refl, refl));
-      k11-every = λ w d r. (full-ring w d r, all-else-right w d r);
-      k12 = (refl, λ tag. refl);
-      k12-every =
-          λ w n destination chunks e. (
-            own-node-only w n destination chunks e,
-            λ one hn hd low high. (own-node-only w n destination chunks e).1 (hn, omega (arith, one, hn, hd), between-by 1 8 chunks (record { low = low; high = high })),
-            λ h. offer-by-rules w n n chunks e ∙ no-node-first (shape w) w n chunks h,
-          );
-      chunk-number-every = λ w n destination chunks e. rw (offer-by-rules w n destination chunks e) (chunks-exactly (shape w) w n destination chunks);
-      load-every = λ w n q e hn hq. queue-loaded (shape w) w n q ((network-passed w e).queue n q hn hq);
-      k12-held = (refl, refl, refl, one-move, one-word);
-      k12-in-every-queue = (in-every-passes, thirteen-told.0, thirteen-told.1);
-      k12-held-every =
-          λ w n q s z. (
-            delivered-here w n q s z,
-            λ o h ne. no-route w n q o s h (not-onward q (head_of w n q) o (λ i l. arrived-distance i (head_of w n q) l z) ne),
-          );
-      k12-fits-every = λ w n q p r h c u z e. own-fits (shape w) n q p (tor w r) h c u z e;
-      routes-table = refl;
-      routes-every = selection-routes;
-      adaptive-order = (refl, refl, refl, (refl, refl, refl, refl));
-      escape-order = (
-        leaves (packet 7 (pos 1) (pos 1) (pos 1)) refl refl,
-        leaves (packet 6 (pos 0) (pos 1) (pos 1)) refl refl,
-        leaves (packet 4 (pos 0) (pos 0) (pos 1)) refl refl,
-      );
-      node-number = (refl, refl, refl);
-      node-number-every = numbered;
-      fields-of-a-word = (refl, offsets-of-a-word, refl);
-      spare-bit = refl;
-      spare-bit-every = λ w n q p s. (sym (spare-is p) ∙ (fits-within w n q p s).clear, sym (upper_spare-is p) ∙ (fits-within w n q p s).upper-clear);
-      widest-offsets = (each_at _ dimensions widest-each, refl);
-      widest-offsets-every = λ w n q p i s h. le_trans (reach-least i q p) ((fits-within w n q p s).near i h);
-      lower-offsets = (refl, refl, refl, refl);
-      lower-offsets-queues = (refl, refl, refl);
-      lower-offsets-every =
-          λ w n d p i s l. let (e, h) = in-escape d i s.queue l in (fits-within w n (escape_queue d) p s).lower e i h;
-      most-work = (refl, refl);
-      nine_words = (refl, (λ w h. no_header w (omega arith)), past-header, refl);
-      twelve-is-the-last = (refl, refl, refl, refl, refl, refl, refl, refl, refl);
-      rows = kept_rows;
-      together = together_rows;
-    }
-  where
-    leaves : (p : ℕ) {refusals : List ℕ} → network_refusal (only two-cubed injection_queue p) ≡ 0
-        → map (λ o. move_rules (shape (only two-cubed injection_queue p)) (only two-cubed injection_queue p) 0 injection_queue o) (in_order 0 queues) ≡ refusals
-        → leaving p ≡ refusals
-    leaves p e r = outputs (only two-cubed injection_queue p) 0 _ e r
-
-    one-word : (budget l : ℕ) (ledger : List ℕ) → drain_ledger alone (suc budget) (l ∷ ledger) ≡ here 0 ∷ ledger
-    one-word zero l ledger = refl
-    one-word (suc budget) l ledger = refl

@@ -17,7 +17,6 @@ pub mod SelectionLaws
 pub mod Refusals
 pub mod RefusalLaws
 pub mod FlowControl
-pub mod FlowControlLaws
 pub mod Calls
 pub mod AfterLaws
 pub mod CallLaws
@@ -26,7 +25,6 @@ pub mod Choices
 pub mod ChoiceLaws
 pub mod Answers
 pub mod FirstRule
-pub mod FirstRuleLaws
 pub mod OfferLaws
 pub mod Run
 pub mod DrainLaws

@@ -3,8 +3,7 @@
 -- own, `kept_rows` has them all, and `kept_cases` (Cases.antt) takes it. Words are counted from 0, as in R42. Order: the words; places and the packet word;
 -- the ranges of the sizes; the check; the order of refusals; what refused calls leave; what is read of an answer; routes; flow; first in, first out;
 -- Credit; First; Drain; a run of calls; all of them. Assumes nothing.
-use Rattle.std.specs.Prelude.{◌≡◌, refl, true, false, List, [], ◌∷◌, ◌++◌, map, ℕ, ◌+◌, ◌*◌, ◌-◌, ◌%◌, ◌^◌, ℤ, pos, negsuc, take, drop, set, replicate}
-use Rattle.std.proofs.Common.{ap, arith}
+use Rattle.std.specs.Prelude.{◌≡◌, true, false, List, [], ◌∷◌, ◌++◌, map, ℕ, ◌+◌, ◌*◌, ◌-◌, ◌%◌, ◌^◌, pos, negsuc, take, drop, set, replicate}
 use Rattle.network.specs.declared.Sizes.{Sizes}
 use Rattle.network.specs.declared.Moved.{Moved}
 use Rattle.network.specs.declared.Credit.{Credit}
@@ -21,9 +20,9 @@ use Rattle.network.specs.Refusals.{bad_line, short_page, network_refusal, make_r
 use Rattle.network.specs.Calls.{make_words, offered, offer_words, move_words, move_answer, credit_answer, look_part, look_at, first_answer, drain_words, drain_ledger, drain_answer}
 use Rattle.network.specs.Calls.{NamedMove, move_of, Delivery, moved_number, moved_packets, credit_number, credit_free, found_number, found_move, drained_number, drained_moves, drained_delivered, drained_stop}
 use Rattle.network.specs.Choices.{Permits}
-use Rattle.network.specs.Run.{move, drain, Ledger, Outcome, delivery_nodes, at_nodes, ledger_of, words_written, outcome, run, is_labelled, held_with, handed_with, hops_of, hops_with, at_destination}
+use Rattle.network.specs.Run.{move, drain, Ledger, Outcome, run, held_with, handed_with, hops_with, at_destination}
 use Rattle.network.specs.FirstMoves.{ByFirst}
-use Rattle.network.specs.ByHand.{packet, here, of_chunks, empty, holding, only, chosen, definitions}
+use Rattle.network.specs.ByHand.{packet, here, of_chunks, empty, holding, only, chosen}
 
 -- the numbers of the queues
 abbrev thirteen : List ℕ
@@ -47,25 +46,13 @@ made = make_words uneven (replicate 1709 7)
 abbrev pub HeaderMade : Type 0
 HeaderMade = take 9 made ≡ 3 ∷ 1 ∷ 2 ∷ 4 ∷ 5 ∷ 6 ∷ 0 ∷ 0 ∷ 0 ∷ []
 
-header_made : HeaderMade
-unfolding definitions
-header_made = refl
-
 -- R91: no packet anywhere
 abbrev pub QueuesMade : Type 0
 QueuesMade = take 1698 (drop 9 made) ≡ replicate 1698 0
 
-queues-made : QueuesMade
-unfolding definitions
-queues-made = refl
-
 -- R48: behind the last node Make leaves what there was
 abbrev pub RestAfterMake : Type 0
 RestAfterMake = drop 1707 made ≡ 7 ∷ 7 ∷ []
-
-rest-after-make : RestAfterMake
-unfolding definitions
-rest-after-make = refl
 
 -- R42: a header with nine different words, as it is read
 abbrev nine-different : List ℕ
@@ -76,27 +63,15 @@ HeaderRead = (map (size (shape nine-different)) (0 ∷ 1 ∷ 2 ∷ []) ≡ 3 ∷
     × ((shape nine-different).escape ∷ (shape nine-different).adaptive ∷ (shape nine-different).injection ∷ [] ≡ 4 ∷ 5 ∷ 6 ∷ [])
     × (accepted nine-different ∷ delivered nine-different ∷ moves_made nine-different ∷ [] ≡ 9 ∷ 8 ∷ 7 ∷ [])
 
-header_read : HeaderRead
-unfolding definitions
-header_read = (refl, refl, refl)
-
 -- R22 to R24, R28, R31 to R34: the capacities of the thirteen queues, J slots in queue 0, 8 × A chunks in six and E slots in six
 abbrev pub SlotsOfQueues : Type 0
 SlotsOfQueues = map (capacity uneven) thirteen ≡ 6 ∷ 40 ∷ 40 ∷ 40 ∷ 40 ∷ 40 ∷ 40 ∷ 4 ∷ 4 ∷ 4 ∷ 4 ∷ 4 ∷ 4 ∷ []
-
-slots-of-queues : SlotsOfQueues
-unfolding definitions
-slots-of-queues = refl
 
 -- R43, R44, R47: where the queues of node 1 begin. The node begins at 9 + 283 = 292; queue 0 has 7 words, each of the adaptive queues 41, each of the escape
 -- queues 5. Node 5, the last, begins at 9 + 5 × 283 = 1424
 abbrev pub QueueStarts : Type 0
 QueueStarts = (map (queue_start uneven 1) thirteen ≡ 292 ∷ 299 ∷ 340 ∷ 381 ∷ 422 ∷ 463 ∷ 504 ∷ 545 ∷ 550 ∷ 555 ∷ 560 ∷ 565 ∷ 570 ∷ [])
     × (queue_start uneven 5 0 ≡ 1424)
-
-queue-starts : QueueStarts
-unfolding definitions
-queue-starts = (refl, refl)
 
 -- 2 by 1 by 1, E 4, A 1, J 3. A node has 13 + 3 + 48 × 1 + 6 × 4 = 88 words: queue 0 four, the adaptive queues nine each, the escape queues five each. Node 0
 -- begins at 9, node 1 at 97, and there are 185 words
@@ -107,32 +82,16 @@ small = shape_of (sized 2 1 1 4 1 3)
 abbrev pub WordsNeeded : Type 0
 WordsNeeded = need uneven ∷ need small ∷ need (shape_of (sized 4 1 1 2 1 1)) ∷ [] ≡ 1707 ∷ 185 ∷ 305 ∷ []
 
-words-needed : WordsNeeded
-unfolding definitions
-words-needed = refl
-
 -- R44, R45: the first words of a queue of four slots with packets 7 and 8, and R46: its other words
 abbrev pub NumberHeld : Type 0
 NumberHeld = take 3 (queue_words 4 (7 ∷ 8 ∷ [])) ≡ 2 ∷ 7 ∷ 8 ∷ []
 
-number-held : NumberHeld
-unfolding definitions
-number-held = refl
-
 abbrev pub FreeSlots : Type 0
 FreeSlots = drop 3 (queue_words 4 (7 ∷ 8 ∷ [])) ≡ 0 ∷ 0 ∷ []
-
-free-slots : FreeSlots
-unfolding definitions
-free-slots = refl
 
 -- R49: a queue is written into words that are all 5, queue 12 of node 0: in front of its word 92 and behind its word 96 nothing is changed
 abbrev pub OwnWordsAlone : Type 0
 OwnWordsAlone = take 92 (put_queue small (replicate 185 5) 0 12 (8 ∷ [])) ++ drop 97 (put_queue small (replicate 185 5) 0 12 (8 ∷ [])) ≡ replicate 180 5
-
-own-words-alone : OwnWordsAlone
-unfolding definitions
-own-words-alone = refl
 
 -- three packets for node 1, of 3, 5 and 8 chunks, with tags 5, 6 and the largest that there is. At node 0 each has dx = 1; two of them as they have arrived
 abbrev five : ℕ
@@ -158,17 +117,9 @@ offered-three = offer_words (offer_words (offer_words (empty small) 0 1 5 3) 0 1
 abbrev pub WordsAfterOffers : Type 0
 WordsAfterOffers = offered-three ≡ 2 ∷ 1 ∷ 1 ∷ 4 ∷ 1 ∷ 3 ∷ 3 ∷ 0 ∷ 0 ∷ 3 ∷ five ∷ six ∷ last ∷ replicate 172 0
 
-words-after-offers : WordsAfterOffers
-unfolding definitions
-words-after-offers = refl
-
 -- R42, R102, R111, R112: the header after three offers, a hop and a delivery
 abbrev pub HeaderAfter : Type 0
 HeaderAfter = take 9 (move_words (move_words offered-three 0 0 1) 1 1 0) ≡ 2 ∷ 1 ∷ 1 ∷ 4 ∷ 1 ∷ 3 ∷ 3 ∷ 1 ∷ 2 ∷ []
-
-header-after : HeaderAfter
-unfolding definitions
-header-after = refl
 
 -- the same three packets by hand in that queue, and two hops to queue 1 of node 1, which has eight chunks and so just room for both
 abbrev waiting : List ℕ
@@ -183,19 +134,11 @@ abbrev pub WordsAfterHops : Type 0
 WordsAfterHops = two-hops
     ≡ 2 ∷ 1 ∷ 1 ∷ 4 ∷ 1 ∷ 3 ∷ 3 ∷ 0 ∷ 2 ∷ 1 ∷ last ∷ (replicate 86 0 ++ (replicate 4 0 ++ (2 ∷ five-arrived ∷ six-arrived ∷ replicate 81 0)))
 
-words-after-hops : WordsAfterHops
-unfolding definitions
-words-after-hops = refl
-
 -- R48: an Offer, a Move and a Drain leave the two words behind the last node, which begin at 185
 abbrev pub RestAfterCalls : Type 0
 RestAfterCalls = (drop 185 (offer_words (waiting ++ (7 ∷ 7 ∷ [])) 1 0 5 1) ≡ 7 ∷ 7 ∷ [])
     × (drop 185 (move_words (waiting ++ (7 ∷ 7 ∷ [])) 0 0 7) ≡ 7 ∷ 7 ∷ [])
     × (drop 185 (drain_words (waiting ++ (7 ∷ 7 ∷ [])) 9 9) ≡ 7 ∷ 7 ∷ [])
-
-rest-after-calls : RestAfterCalls
-unfolding definitions
-rest-after-calls = (refl, refl, refl)
 
 -- Places, and the packet word -------------------------------------------------------------------------------------------------------------
 
@@ -205,34 +148,18 @@ abbrev pub Neighbours : Type 0
 Neighbours = (map (λ d. neighbour (shape_of (sized 3 4 5 2 1 1)) d 0) (0 ∷ 1 ∷ 2 ∷ 3 ∷ 4 ∷ 5 ∷ []) ≡ 1 ∷ 2 ∷ 3 ∷ 9 ∷ 12 ∷ 48 ∷ [])
     × (map (λ d. neighbour (shape_of (sized 3 4 5 2 1 1)) d 59) (0 ∷ 1 ∷ 2 ∷ 3 ∷ 4 ∷ 5 ∷ []) ≡ 57 ∷ 58 ∷ 50 ∷ 56 ∷ 11 ∷ 47 ∷ [])
 
-neighbours : Neighbours
-unfolding definitions
-neighbours = (refl, refl)
-
 -- R36, 3 by 1 by 5: the same of node 7, which is (1, 0, 2): along y, where there is one node, it is its own neighbour
 abbrev pub OwnNeighbour : Type 0
 OwnNeighbour = map (λ d. neighbour (shape_of (sized 3 1 5 2 1 1)) d 7) (0 ∷ 1 ∷ 2 ∷ 3 ∷ 4 ∷ 5 ∷ []) ≡ 8 ∷ 6 ∷ 7 ∷ 7 ∷ 10 ∷ 4 ∷ []
-
-own-neighbour : OwnNeighbour
-unfolding definitions
-own-neighbour = refl
 
 -- R30: the nodes of 3 by 4 by 5, and of the largest network, of which there are the most
 abbrev pub NodesOf : Type 0
 NodesOf = nodes (shape_of (sized 3 4 5 2 1 1)) ∷ nodes (shape_of (sized 16 16 16 8 8 8)) ∷ most_nodes ∷ [] ≡ 60 ∷ 4096 ∷ 4096 ∷ []
 
-nodes-of : NodesOf
-unfolding definitions
-nodes-of = refl
-
 -- R107: the nodes of the targets of outputs 1 to 12 of node 0: the same six, for the adaptive queues and for the escape queues
 abbrev pub Targets : Type 0
 Targets = map (target (shape_of (sized 3 4 5 2 1 1)) 0) (1 ∷ 2 ∷ 3 ∷ 4 ∷ 5 ∷ 6 ∷ 7 ∷ 8 ∷ 9 ∷ 10 ∷ 11 ∷ 12 ∷ [])
     ≡ 1 ∷ 2 ∷ 3 ∷ 9 ∷ 12 ∷ 48 ∷ 1 ∷ 2 ∷ 3 ∷ 9 ∷ 12 ∷ 48 ∷ []
-
-targets : Targets
-unfolding definitions
-targets = refl
 
 -- R60, R62: the fields of a word with tag 1, bit 31 set, 8 chunks, the largest destination, bit 15 set, the largest dx, dy 0, and for dz the field 31
 abbrev widest : ℕ
@@ -242,44 +169,24 @@ abbrev pub FieldsRead : Type 0
 FieldsRead = (tag widest ∷ upper_spare widest ∷ chunks widest ∷ destination widest ∷ spare widest ∷ [] ≡ 1 ∷ 1 ∷ 8 ∷ 4095 ∷ 1 ∷ [])
     × (offset 0 widest ∷ offset 1 widest ∷ offset 2 widest ∷ [] ≡ pos 15 ∷ pos 0 ∷ negsuc 0 ∷ [])
 
-fields_read : FieldsRead
-unfolding definitions
-fields_read = (refl, refl)
-
 -- R228: its label
 abbrev pub LabelRead : Type 0
 LabelRead = label widest ≡ 2 ^ 32 + 2 ^ 31 + 7 * 2 ^ 28 + 4095 * 2 ^ 16 + 2 ^ 15
-
-label-read : LabelRead
-unfolding definitions
-label-read = refl
 
 -- R60, R61, R69: the word of an offer at node 0 to node 1 of the two, with the largest tag and six chunks: dx = 1, half-way round from an even column, and the
 -- bits 31 and 15 are 0
 abbrev pub OfferedWord : Type 0
 OfferedWord = offered small 0 1 4294967295 6 ≡ 4294967295 * 2 ^ 32 + 5 * 2 ^ 28 + 2 ^ 16 + 2 ^ 10
 
-offered-word : OfferedWord
-unfolding definitions
-offered-word = refl
-
 -- R67: dx of offers in a ring of five, from node 0 to nodes 1, 2, 3, 4, and from node 3 to nodes 0, 1, 2, 4
 abbrev pub ShorterWay : Type 0
 ShorterWay = (map (λ to. offset 0 (offered (shape_of (sized 5 1 1 2 1 1)) 0 to 7 1)) (1 ∷ 2 ∷ 3 ∷ 4 ∷ []) ≡ pos 1 ∷ pos 2 ∷ negsuc 1 ∷ negsuc 0 ∷ [])
     × (map (λ to. offset 0 (offered (shape_of (sized 5 1 1 2 1 1)) 3 to 7 1)) (0 ∷ 1 ∷ 2 ∷ 4 ∷ []) ≡ pos 2 ∷ negsuc 1 ∷ negsuc 0 ∷ pos 1 ∷ [])
 
-shorter-way : ShorterWay
-unfolding definitions
-shorter-way = (refl, refl)
-
 -- R68: dz of offers half-way round a ring of six, from node 0 to 3, from 1 to 4, and so on round
 abbrev pub HalfWay : Type 0
 HalfWay = map (λ n. offset 2 (offered (shape_of (sized 1 1 6 2 1 1)) n ((n + 3) % 6) 7 1)) (0 ∷ 1 ∷ 2 ∷ 3 ∷ 4 ∷ 5 ∷ [])
     ≡ pos 3 ∷ negsuc 2 ∷ pos 3 ∷ negsuc 2 ∷ pos 3 ∷ negsuc 2 ∷ []
-
-half-way : HalfWay
-unfolding definitions
-half-way = refl
 
 -- The ranges of the sizes (R21 to R24) -----------------------------------------------------------------------------------------------------
 
@@ -296,44 +203,20 @@ Range sizes least most =
 abbrev pub RangeOfX : Type 0
 RangeOfX = Range (λ k. sized k 1 1 2 1 1) 1 16
 
-range-of-x : RangeOfX
-unfolding definitions
-range-of-x = (refl, refl)
-
 abbrev pub RangeOfY : Type 0
 RangeOfY = Range (λ k. sized 1 k 1 2 1 1) 1 16
-
-range-of-y : RangeOfY
-unfolding definitions
-range-of-y = (refl, refl)
 
 abbrev pub RangeOfZ : Type 0
 RangeOfZ = Range (λ k. sized 1 1 k 2 1 1) 1 16
 
-range-of-z : RangeOfZ
-unfolding definitions
-range-of-z = (refl, refl)
-
 abbrev pub RangeOfE : Type 0
 RangeOfE = Range (λ k. sized 1 1 1 k 1 1) 2 8
-
-range-of-e : RangeOfE
-unfolding definitions
-range-of-e = (refl, refl)
 
 abbrev pub RangeOfA : Type 0
 RangeOfA = Range (λ k. sized 1 1 1 2 k 1) 1 8
 
-range-of-a : RangeOfA
-unfolding definitions
-range-of-a = (refl, refl)
-
 abbrev pub RangeOfJ : Type 0
 RangeOfJ = Range (λ k. sized 1 1 1 2 1 k) 1 8
-
-range-of-j : RangeOfJ
-unfolding definitions
-range-of-j = (refl, refl)
 
 -- The check --------------------------------------------------------------------------------------------------------------------------------
 
@@ -352,10 +235,6 @@ OneTooMany = (map (λ c. network_refusal (set (holding (empty two) 0 0 (seven �
     × (map (λ c. network_refusal (set (holding (empty two) 0 1 (replicate 8 seven)) 11 c)) (8 ∷ 9 ∷ []) ≡ 0 ∷ 3 ∷ [])
     × (map (λ c. network_refusal (set (holding (empty two) 0 7 (seven ∷ seven ∷ [])) 65 c)) (2 ∷ 3 ∷ []) ≡ 0 ∷ 3 ∷ [])
 
-one-too-many : OneTooMany
-unfolding definitions
-one-too-many = (refl, refl, refl)
-
 -- R27, R89, A 1, so eight chunks: what queue 1 of node 0 holds, by chunks: 8; 4 and 4; eight times 1; 4 and 5; seven times 1 and a 2. In queue 7, of two slots,
 -- 8 and 8
 abbrev pub LoadTooLarge : Type 0
@@ -364,17 +243,9 @@ LoadTooLarge = (map (λ cs. network_refusal (holding (empty two) 0 1 (map (λ c.
     ≡ 0 ∷ 0 ∷ 0 ∷ 3 ∷ 3 ∷ [])
     × (network_refusal (holding (empty two) 0 7 (replicate 2 (of_chunks 8 seven))) ≡ 0)
 
-load-too-large : LoadTooLarge
-unfolding definitions
-load-too-large = (refl, refl)
-
 -- the same with A 8, so 64 chunks: 64 packets of one; 63 of one and one of two
 abbrev pub LoadOfSixtyFour : Type 0
 LoadOfSixtyFour = map (λ c. network_refusal (holding (empty (shape_of (sized 2 1 1 2 8 1))) 0 1 (replicate 63 seven ++ (of_chunks c seven ∷ [])))) (1 ∷ 2 ∷ []) ≡ 0 ∷ 3 ∷ []
-
-load-of-sixty-four : LoadOfSixtyFour
-unfolding definitions
-load-of-sixty-four = refl
 
 -- R73, R48: the last word of a queue of node 1 that holds nothing: of queue 0, which has words 97 to 100, of queue 6, 146 to 154, and of queue 12, 180 to 184; the
 -- last word of queue 0 behind a packet, and that packet alone; and a word behind the last node, of which nothing is asked
@@ -384,19 +255,11 @@ LastWordSet = (map (λ i. network_refusal (set (empty small) i 1)) (100 ∷ 154 
     × (network_refusal (holding (empty small) 1 0 (here 1 ∷ [])) ≡ 0)
     × (network_refusal (empty small ++ (1 ∷ [])) ≡ 0)
 
-last-word-set : LastWordSet
-unfolding definitions
-last-word-set = (refl, refl, refl, refl)
-
 -- R74, R75: in queue 0 of node 0, for node 1 with dx = 1; for node 1 with dx = 0; for node 0 with dx = 1; for node 2, which there is not
 abbrev pub LeadsThere : Type 0
 LeadsThere = map (λ p. network_refusal (only two 0 p))
     (packet 1 (pos 1) (pos 0) (pos 0) ∷ packet 1 (pos 0) (pos 0) (pos 0) ∷ packet 0 (pos 1) (pos 0) (pos 0) ∷ packet 2 (pos 0) (pos 0) (pos 0) ∷ [])
     ≡ 0 ∷ 3 ∷ 3 ∷ 3 ∷ []
-
-leads-there : LeadsThere
-unfolding definitions
-leads-there = refl
 
 -- R63, R75, 2 by 3 by 5: from node 0, (0, 0, 0), offsets −1, 1, −2 lead to (1, 1, 3), which is (3 × 3 + 1) × 2 + 1 = 21; from node 23, (1, 2, 3), offsets 1, 1, 2
 -- lead to (0, 0, 0), and 0, −1, 2 to (1, 1, 0), which is (0 × 3 + 1) × 2 + 1 = 3
@@ -407,10 +270,6 @@ WhereOffsetsLead = moved_by (shape_of (sized 2 3 5 2 1 1)) (packet 0 (negsuc 0) 
     ∷ []
     ≡ 21 ∷ 0 ∷ 3 ∷ []
 
-where-offsets-lead : WhereOffsetsLead
-unfolding definitions
-where-offsets-lead = refl
-
 -- R76 to R78, 4 by 1 by 1: in which queues of node 0 a packet may stand that has dx = 1; −1; 0; 2; −2; 3. In an x queue one hop less is left than half of 4, in a
 -- plus queue none back and in a minus queue none forward; the y and z queues are those of rings of one node
 abbrev pub QueuesBySign : Type 0
@@ -418,10 +277,6 @@ QueuesBySign = map (λ p. chosen (λ q. packet_fits (shape_of (sized 4 1 1 2 1 1
     (packet 1 (pos 1) (pos 0) (pos 0) ∷ packet 3 (negsuc 0) (pos 0) (pos 0) ∷ here 0
     ∷ packet 2 (pos 2) (pos 0) (pos 0) ∷ packet 2 (negsuc 1) (pos 0) (pos 0) ∷ packet 3 (pos 3) (pos 0) (pos 0) ∷ [])
     ≡ (0 ∷ 1 ∷ 7 ∷ []) ∷ (0 ∷ 2 ∷ 8 ∷ []) ∷ (0 ∷ 1 ∷ 2 ∷ 7 ∷ 8 ∷ []) ∷ (0 ∷ []) ∷ (0 ∷ []) ∷ [] ∷ []
-
-queues-by-sign : QueuesBySign
-unfolding definitions
-queues-by-sign = refl
 
 -- R77, 4 by 4 by 4: in which queues of node 0 a packet may stand that is half-way round along x, for node 2; along y, for node 8; along z, for node 32. In the queues
 -- of that dimension it would have come further than half-way; R79 keeps the first out of the escape queues of y and z, and the second out of those of z
@@ -433,10 +288,6 @@ QueuesByDistance = map (λ p. chosen (λ q. packet_fits four-cubed 0 q p) thirte
     (packet 2 (pos 2) (pos 0) (pos 0) ∷ packet 8 (pos 0) (pos 2) (pos 0) ∷ packet 32 (pos 0) (pos 0) (pos 2) ∷ [])
     ≡ (0 ∷ 3 ∷ 4 ∷ 5 ∷ 6 ∷ []) ∷ (0 ∷ 1 ∷ 2 ∷ 5 ∷ 6 ∷ 7 ∷ 8 ∷ []) ∷ (0 ∷ 1 ∷ 2 ∷ 3 ∷ 4 ∷ 7 ∷ 8 ∷ 9 ∷ 10 ∷ []) ∷ []
 
-queues-by-distance : QueuesByDistance
-unfolding definitions
-queues-by-distance = refl
-
 -- R79, the same sizes: one with a hop left in x+, y+ and z+, for (1, 1, 1), which is node 21; in y+ and z+, for node 20; in z+, for node 16. Not in the minus queue of
 -- an offset that is not 0, and in the escape queues of a dimension only where those of the lower ones are 0
 abbrev pub QueuesByLowerOffsets : Type 0
@@ -444,19 +295,11 @@ QueuesByLowerOffsets = map (λ p. chosen (λ q. packet_fits four-cubed 0 q p) th
     (packet 21 (pos 1) (pos 1) (pos 1) ∷ packet 20 (pos 0) (pos 1) (pos 1) ∷ packet 16 (pos 0) (pos 0) (pos 1) ∷ [])
     ≡ (0 ∷ 1 ∷ 3 ∷ 5 ∷ 7 ∷ []) ∷ (0 ∷ 1 ∷ 2 ∷ 3 ∷ 5 ∷ 7 ∷ 8 ∷ 9 ∷ []) ∷ (0 ∷ 1 ∷ 2 ∷ 3 ∷ 4 ∷ 5 ∷ 7 ∷ 8 ∷ 9 ∷ 10 ∷ 11 ∷ []) ∷ []
 
-queues-by-lower-offsets : QueuesByLowerOffsets
-unfolding definitions
-queues-by-lower-offsets = refl
-
 -- R78, R79, the same sizes: one with a hop left in x−, for node 3; in y−, for node 12; in z−, for node 48. Not in the plus queues of that dimension
 abbrev pub QueuesByMinus : Type 0
 QueuesByMinus = map (λ p. chosen (λ q. packet_fits four-cubed 0 q p) thirteen)
     (packet 3 (negsuc 0) (pos 0) (pos 0) ∷ packet 12 (pos 0) (negsuc 0) (pos 0) ∷ packet 48 (pos 0) (pos 0) (negsuc 0) ∷ [])
     ≡ (0 ∷ 2 ∷ 3 ∷ 4 ∷ 5 ∷ 6 ∷ 8 ∷ []) ∷ (0 ∷ 1 ∷ 2 ∷ 4 ∷ 5 ∷ 6 ∷ 7 ∷ 8 ∷ 10 ∷ []) ∷ (0 ∷ 1 ∷ 2 ∷ 3 ∷ 4 ∷ 6 ∷ 7 ∷ 8 ∷ 9 ∷ 10 ∷ 12 ∷ []) ∷ []
-
-queues-by-minus : QueuesByMinus
-unfolding definitions
-queues-by-minus = refl
 
 -- R72 to R75, 3 by 1 by 1: at node 2, the last, a packet that has arrived; one for node 0 that says so too
 abbrev three : Shape
@@ -465,33 +308,17 @@ three = shape_of (sized 3 1 1 2 1 1)
 abbrev pub LastNodeChecked : Type 0
 LastNodeChecked = map (λ p. network_refusal (holding (empty three) 2 0 (p ∷ []))) (here 2 ∷ here 0 ∷ []) ≡ 0 ∷ 3 ∷ []
 
-last-node-checked : LastNodeChecked
-unfolding definitions
-last-node-checked = refl
-
 -- R86: the packet for its own node in queue 0 of that node
 abbrev pub OwnNodeHeld : Type 0
 OwnNodeHeld = network_refusal (only two 0 seven) ≡ 0
-
-own-node-held : OwnNodeHeld
-unfolding definitions
-own-node-held = refl
 
 -- R87: the same with bit 15 set
 abbrev pub SpareBitSet : Type 0
 SpareBitSet = network_refusal (only two 0 (seven + 2 ^ 15)) ≡ 3
 
-spare-bit-set : SpareBitSet
-unfolding definitions
-spare-bit-set = refl
-
 -- R88: with bit 31 set
 abbrev pub UpperSpareBitSet : Type 0
 UpperSpareBitSet = network_refusal (only two 0 (seven + 2 ^ 31)) ≡ 3
-
-upper-spare-bit-set : UpperSpareBitSet
-unfolding definitions
-upper-spare-bit-set = refl
 
 -- R81, E 4: of the ring x+, and of the ring x−, node 0 and node 1 hold 4 and 4, 4 and 3, 3 and 4
 abbrev ring_holding : ℕ → ℕ → ℕ → List ℕ
@@ -501,10 +328,6 @@ abbrev pub FullRing : Type 0
 FullRing = (network_refusal (ring_holding 7 4 4) ∷ network_refusal (ring_holding 7 4 3) ∷ network_refusal (ring_holding 7 3 4) ∷ [] ≡ 3 ∷ 0 ∷ 0 ∷ [])
     × (network_refusal (ring_holding 8 4 4) ∷ network_refusal (ring_holding 8 4 3) ∷ network_refusal (ring_holding 8 3 4) ∷ [] ≡ 3 ∷ 0 ∷ 0 ∷ [])
 
-full-ring : FullRing
-unfolding definitions
-full-ring = (refl, refl)
-
 -- R81, R501, 1 by 1 by 2, E 2: the same of the rings z+ and z−, with 2 and 2, 2 and 1
 abbrev ring-of-z : ℕ → ℕ → List ℕ
 ring-of-z q b = holding (holding (empty (shape_of (sized 1 1 2 2 1 1))) 0 q (here 0 ∷ here 0 ∷ [])) 1 q (replicate b (here 1))
@@ -513,20 +336,12 @@ abbrev pub FullRingOfZ : Type 0
 FullRingOfZ = network_refusal (ring-of-z 11 2) ∷ network_refusal (ring-of-z 11 1) ∷ network_refusal (ring-of-z 12 2) ∷ network_refusal (ring-of-z 12 1) ∷ []
     ≡ 3 ∷ 0 ∷ 3 ∷ 0 ∷ []
 
-full-ring-of-z : FullRingOfZ
-unfolding definitions
-full-ring-of-z = refl
-
 -- R80, 2 by 2 by 1, E 2: escape queues y+ that are full at nodes 0 and 2, which are one ring, and at nodes 0 and 1, which are of two
 abbrev full_at : ℕ → ℕ → List ℕ
 full_at m n = holding (holding (empty (shape_of (sized 2 2 1 2 1 1))) m 9 (here m ∷ here m ∷ [])) n 9 (here n ∷ here n ∷ [])
 
 abbrev pub RingOfAColumn : Type 0
 RingOfAColumn = network_refusal (full_at 0 2) ∷ network_refusal (full_at 0 1) ∷ [] ≡ 3 ∷ 0 ∷ []
-
-ring-of-a-column : RingOfAColumn
-unfolding definitions
-ring-of-a-column = refl
 
 -- R81, the ring x+ of three nodes, E 2: full at nodes 0 and 1, at 1 and 2, at 0 and 2, and at all three
 abbrev full-in-three : List ℕ → List ℕ
@@ -536,10 +351,6 @@ full-in-three (n ∷ ns) = holding (full-in-three ns) n 7 (here n ∷ here n ∷
 abbrev pub RingOfThree : Type 0
 RingOfThree = map (λ ns. network_refusal (full-in-three ns)) ((0 ∷ 1 ∷ []) ∷ (1 ∷ 2 ∷ []) ∷ (0 ∷ 2 ∷ []) ∷ (0 ∷ 1 ∷ 2 ∷ []) ∷ []) ≡ 0 ∷ 0 ∷ 0 ∷ 3 ∷ []
 
-ring-of-three : RingOfThree
-unfolding definitions
-ring-of-three = refl
-
 -- 2 by 2 by 1: the ring x+ of the last row, nodes 2 and 3, full; and one slot of it free
 abbrev last_row : ℕ → List ℕ
 last_row b = holding (holding (empty (shape_of (sized 2 2 1 2 1 1))) 2 7 (here 2 ∷ here 2 ∷ [])) 3 7 (replicate b (here 3))
@@ -547,17 +358,9 @@ last_row b = holding (holding (empty (shape_of (sized 2 2 1 2 1 1))) 2 7 (here 2
 abbrev pub RingOfTheLastRow : Type 0
 RingOfTheLastRow = network_refusal (last_row 2) ∷ network_refusal (last_row 1) ∷ [] ≡ 3 ∷ 0 ∷ []
 
-ring-of-the-last-row : RingOfTheLastRow
-unfolding definitions
-ring-of-the-last-row = refl
-
 -- R82: accepted 2^32 − 1 passes, 2^32 does not
 abbrev pub MostAccepted : Type 0
 MostAccepted = (network_refusal (counting (empty two) 4294967295 4294967295 0) ≡ 0) × (network_refusal (counting (empty two) 4294967296 4294967296 0) ≡ 3)
-
-most-accepted : MostAccepted
-unfolding definitions
-most-accepted = (refl, refl)
 
 -- R83, one packet held and two accepted: one delivered; none; two. And none accepted, with as many delivered as would make up for the one held if sums were cut
 -- to 64 bits
@@ -565,17 +368,9 @@ abbrev pub DeliveredAndHeld : Type 0
 DeliveredAndHeld = (map (λ d. network_refusal (counting (only two 1 seven) 2 d 0)) (1 ∷ 0 ∷ 2 ∷ []) ≡ 0 ∷ 3 ∷ 3 ∷ [])
     × (network_refusal (counting (only two 1 seven) 0 18446744073709551615 0) ≡ 3)
 
-delivered-and-held : DeliveredAndHeld
-unfolding definitions
-delivered-and-held = (refl, refl)
-
 -- R84: the work of a packet that has arrived; with offsets −2, 3, −16; with 8, 8, 8
 abbrev pub WorkOfWords : Type 0
 WorkOfWords = map work (here 0 ∷ packet 0 (negsuc 1) (pos 3) (negsuc 15) ∷ packet 0 (pos 8) (pos 8) (pos 8) ∷ []) ≡ 1 ∷ 22 ∷ 25 ∷ []
-
-work-of-words : WorkOfWords
-unfolding definitions
-work-of-words = refl
 
 -- R84, R85: three accepted, one delivered, and two held, with one hop left and with none: work 2 + 1. So 25 × 3 − 3 = 72 moves may have been made, not 73, and not
 -- 2^64 − 1, which a sum of 64 bits would bring below 75
@@ -583,10 +378,6 @@ abbrev pub MostMoves : Type 0
 MostMoves = map (λ m. network_refusal (counting (holding (only two 0 (packet 1 (pos 1) (pos 0) (pos 0))) 1 1 (here 1 ∷ [])) 3 1 m))
     (72 ∷ 73 ∷ 18446744073709551615 ∷ [])
     ≡ 0 ∷ 3 ∷ 3 ∷ []
-
-most-moves : MostMoves
-unfolding definitions
-most-moves = refl
 
 -- The order of refusals --------------------------------------------------------------------------------------------------------------------
 
@@ -630,89 +421,41 @@ spoilt = no_header ∷ wrong_size ∷ one-missing ∷ no-network ∷ []
 abbrev pub Make2 : Type 0
 Make2 = make_refusal (shape_of (sized 17 1 1 2 1 1)) (replicate 8 0) ≡ 2
 
-make-2 : Make2
-unfolding definitions
-make-2 = refl
-
 abbrev pub Make1 : Type 0
 Make1 = (make_refusal two (replicate 156 0) ≡ 1) × (make_refusal two (replicate 157 0) ≡ 0)
-
-make-1 : Make1
-unfolding definitions
-make-1 = (refl, refl)
 
 -- R181, Check: each of the four breaks all clauses that are tested behind its own, as far as there are words for them
 abbrev pub Check1Header : Type 0
 Check1Header = network_refusal no_header ≡ 1
 
-check-1-header : Check1Header
-unfolding definitions
-check-1-header = refl
-
 abbrev pub Check2 : Type 0
 Check2 = network_refusal wrong_size ≡ 2
-
-check-2 : Check2
-unfolding definitions
-check-2 = refl
 
 abbrev pub Check1Need : Type 0
 Check1Need = network_refusal one-missing ≡ 1
 
-check-1-need : Check1Need
-unfolding definitions
-check-1-need = refl
-
 abbrev pub Check3 : Type 0
 Check3 = network_refusal no-network ≡ 3
-
-check-3 : Check3
-unfolding definitions
-check-3 = refl
 
 -- R181, R182: every other call starts so, also where its arguments break all of its own rules that can be broken together: no node, no queue, no output; for Offer
 -- the same number twice, a chunk number that there is not, and a count that is spent
 abbrev pub OfferAsCheck : Type 0
 OfferAsCheck = map (λ w. offer_refusal w 2 2 9) spoilt ≡ 1 ∷ 2 ∷ 1 ∷ 3 ∷ []
 
-offer-as-check : OfferAsCheck
-unfolding definitions
-offer-as-check = refl
-
 abbrev pub MoveAsCheck : Type 0
 MoveAsCheck = map (λ w. move_answer w 2 13 13) spoilt ≡ Moved.Refused 1 ∷ Moved.Refused 2 ∷ Moved.Refused 1 ∷ Moved.Refused 3 ∷ []
-
-move-as-check : MoveAsCheck
-unfolding definitions
-move-as-check = refl
 
 abbrev pub CreditAsCheck : Type 0
 CreditAsCheck = map (λ w. credit_answer w 2 13) spoilt ≡ Credit.Refused 1 ∷ Credit.Refused 2 ∷ Credit.Refused 1 ∷ Credit.Refused 3 ∷ []
 
-credit-as-check : CreditAsCheck
-unfolding definitions
-credit-as-check = refl
-
 abbrev pub LookAsCheck : Type 0
 LookAsCheck = map (λ w. look_refusal w 2 13) spoilt ≡ 1 ∷ 2 ∷ 1 ∷ 3 ∷ []
-
-look-as-check : LookAsCheck
-unfolding definitions
-look-as-check = refl
 
 abbrev pub FirstAsCheck : Type 0
 FirstAsCheck = map first_answer spoilt ≡ Found.Refused 1 ∷ Found.Refused 2 ∷ Found.Refused 1 ∷ Found.Refused 3 ∷ []
 
-first-as-check : FirstAsCheck
-unfolding definitions
-first-as-check = refl
-
 abbrev pub DrainAsCheck : Type 0
 DrainAsCheck = map (λ w. drain_answer w 0 0) spoilt ≡ Drained.Refused 1 ∷ Drained.Refused 2 ∷ Drained.Refused 1 ∷ Drained.Refused 3 ∷ []
-
-drain-as-check : DrainAsCheck
-unfolding definitions
-drain-as-check = refl
 
 -- R189, Offer. 4: node and destination are no node and equal, with no such chunk number and the count spent; the destination alone, from a full queue; the node
 -- alone. 2: chunk number 0 and 9, to itself with the count spent and from a full queue, and to another node. 14: with the count spent and from a full queue. 8:
@@ -720,146 +463,71 @@ drain-as-check = refl
 abbrev pub Offer4 : Type 0
 Offer4 = offer_refusal count-spent 2 2 9 ∷ offer_refusal count-spent 0 2 9 ∷ offer_refusal count-spent 2 0 9 ∷ [] ≡ 4 ∷ 4 ∷ 4 ∷ []
 
-offer-4 : Offer4
-unfolding definitions
-offer-4 = refl
-
 abbrev pub Offer2 : Type 0
 Offer2 = offer_refusal count-spent 0 0 0 ∷ offer_refusal count-spent 0 0 9 ∷ offer_refusal crowded 1 0 0 ∷ offer_refusal crowded 1 0 9 ∷ []
     ≡ 2 ∷ 2 ∷ 2 ∷ 2 ∷ []
 
-offer-2 : Offer2
-unfolding definitions
-offer-2 = refl
-
 abbrev pub Offer14 : Type 0
 Offer14 = offer_refusal count-spent 0 0 1 ≡ 14
 
-offer-14 : Offer14
-unfolding definitions
-offer-14 = refl
-
 abbrev pub Offer8 : Type 0
 Offer8 = offer_refusal count-spent 0 1 1 ≡ 8
-
-offer-8 : Offer8
-unfolding definitions
-offer-8 = refl
 
 abbrev pub Offer7 : Type 0
 Offer7 = (offer_refusal crowded 0 1 1 ∷ offer_refusal crowded 0 1 8 ∷ [] ≡ 7 ∷ 7 ∷ [])
     × (offer_refusal crowded 1 0 1 ∷ offer_refusal crowded 1 0 8 ∷ [] ≡ 0 ∷ 0 ∷ [])
 
-offer-7 : Offer7
-unfolding definitions
-offer-7 = (refl, refl)
-
 -- R168: of an empty network, with accepted 2^32 − 2, 2^32 − 1 and 2^32
 abbrev pub CountSpent : Type 0
 CountSpent = map (λ a. offer_refusal (counting (empty two) a a 0) 0 1 1) (4294967294 ∷ 4294967295 ∷ 4294967296 ∷ []) ≡ 0 ∷ 8 ∷ 3 ∷ []
-
-count-is-spent : CountSpent
-unfolding definitions
-count-is-spent = refl
 
 -- R184, Move. 4: no queue and no output either. 5: no output either
 abbrev pub Move4 : Type 0
 Move4 = move_answer crowded 2 13 13 ≡ Moved.Refused 4
 
-move-4 : Move4
-unfolding definitions
-move-4 = refl
-
 abbrev pub Move5 : Type 0
 Move5 = move_answer crowded 0 13 13 ≡ Moved.Refused 5
-
-move-5 : Move5
-unfolding definitions
-move-5 = refl
 
 -- 6: from queue 1, where nobody is; and from queue 0, whose head has no such route
 abbrev pub Move6 : Type 0
 Move6 = move_answer crowded 0 1 13 ∷ move_answer crowded 0 0 13 ∷ [] ≡ Moved.Refused 6 ∷ Moved.Refused 6 ∷ []
 
-move-6 : Move6
-unfolding definitions
-move-6 = refl
-
 -- 9: to a target without a free slot, in x+ and in x−. What speaks of a head, 10 and 12, is not broken where there is none
 abbrev pub Move9 : Type 0
 Move9 = move_answer crowded 0 1 1 ∷ move_answer crowded 0 1 2 ∷ [] ≡ Moved.Refused 9 ∷ Moved.Refused 9 ∷ []
-
-move-9 : Move9
-unfolding definitions
-move-9 = refl
 
 -- 10: to a target without a free slot; to an escape queue with one, where the head would enter; and a delivery, which has no target
 abbrev pub Move10 : Type 0
 Move10 = move_answer crowded 0 0 2 ∷ move_answer crowded 0 0 8 ∷ move_answer crowded 0 0 0 ∷ [] ≡ Moved.Refused 10 ∷ Moved.Refused 10 ∷ Moved.Refused 10 ∷ []
 
-move-10 : Move10
-unfolding definitions
-move-10 = refl
-
 -- 11, and 12, each by itself: the two are never broken together
 abbrev pub Move11 : Type 0
 Move11 = move_answer crowded 0 0 1 ≡ Moved.Refused 11
 
-move-11 : Move11
-unfolding definitions
-move-11 = refl
-
 abbrev pub Move12 : Type 0
 Move12 = move_answer crowded 0 0 7 ≡ Moved.Refused 12
-
-move-12 : Move12
-unfolding definitions
-move-12 = refl
 
 -- R112, no rule broken: a delivery hands out the word; a hop, after the delivery from queue 7 of node 1 has made the second slot free, hands out nothing
 abbrev pub Move0 : Type 0
 Move0 = (move_answer crowded 1 1 0 ≡ Moved.Delivered (arrived 1)) × (move_answer (move_words crowded 1 7 0) 0 0 7 ≡ Moved.Passed)
 
-move-0 : Move0
-unfolding definitions
-move-0 = (refl, refl)
-
 -- R185, Credit. 4: no output either, above the last and output 0. 6: the same two
 abbrev pub Credit4 : Type 0
 Credit4 = credit_answer crowded 2 13 ∷ credit_answer crowded 2 0 ∷ [] ≡ Credit.Refused 4 ∷ Credit.Refused 4 ∷ []
 
-credit-4 : Credit4
-unfolding definitions
-credit-4 = refl
-
 abbrev pub Credit6 : Type 0
 Credit6 = credit_answer crowded 0 13 ∷ credit_answer crowded 0 0 ∷ [] ≡ Credit.Refused 6 ∷ Credit.Refused 6 ∷ []
-
-credit-6 : Credit6
-unfolding definitions
-credit-6 = refl
 
 -- R186, Look's companion. 4: no queue either. 5
 abbrev pub Look4 : Type 0
 Look4 = look_refusal crowded 2 13 ≡ 4
 
-look-4 : Look4
-unfolding definitions
-look-4 = refl
-
 abbrev pub Look5 : Type 0
 Look5 = look_refusal crowded 0 13 ≡ 5
-
-look-5 : Look5
-unfolding definitions
-look-5 = refl
 
 -- R173, R175: the two numbers that no call of this crate gives
 abbrev pub TextNumbers : Type 0
 TextNumbers = bad_line ∷ short_page ∷ [] ≡ 13 ∷ 15 ∷ []
-
-text-numbers : TextNumbers
-text-numbers = refl
 
 -- What refused calls leave (R120, R193, R194) ------------------------------------------------------------------------------------------------
 
@@ -867,41 +535,21 @@ text-numbers = refl
 abbrev pub RefusedMake : Type 0
 RefusedMake = (make_words (shape_of (sized 2 1 1 1 1 1)) crowded ≡ crowded) × (make_words small crowded ≡ crowded)
 
-refused-make : RefusedMake
-unfolding definitions
-refused-make = (refl, refl)
-
 -- Offer, refused by 7 and by 3
 abbrev pub RefusedOffer : Type 0
 RefusedOffer = (offer_words crowded 0 1 5 1 ≡ crowded) × (offer_words no-network 1 0 5 1 ≡ no-network)
-
-refused-offer : RefusedOffer
-unfolding definitions
-refused-offer = (refl, refl)
 
 -- Move, refused by 12 and by 3
 abbrev pub RefusedMove : Type 0
 RefusedMove = (move_words crowded 0 0 7 ≡ crowded) × (move_words no-network 1 1 0 ≡ no-network)
 
-refused-move : RefusedMove
-unfolding definitions
-refused-move = (refl, refl)
-
 -- Look, refused by 5 and by 3
 abbrev pub RefusedLook : Type 0
 RefusedLook = look_part crowded 1 13 ∷ look_part no-network 1 1 ∷ [] ≡ [] ∷ [] ∷ []
 
-refused-look : RefusedLook
-unfolding definitions
-refused-look = refl
-
 -- Drain, refused by 3: the words and the ledger
 abbrev pub RefusedDrain : Type 0
 RefusedDrain = (drain_words no-network 9 2 ≡ no-network) × (drain_ledger no-network 9 (90 ∷ 91 ∷ []) ≡ 90 ∷ 91 ∷ [])
-
-refused-drain : RefusedDrain
-unfolding definitions
-refused-drain = (refl, refl)
 
 -- What is read of an answer (R190 to R192, R321) ------------------------------------------------------------------------------------------------
 
@@ -912,10 +560,6 @@ move-answers = move_answer crowded 0 0 7 ∷ move_answer (move_words crowded 1 7
 abbrev pub MoveTold : Type 0
 MoveTold = (map moved_number move-answers ≡ 12 ∷ 0 ∷ 0 ∷ []) × (map moved_packets move-answers ≡ [] ∷ [] ∷ (arrived 1 ∷ []) ∷ [])
 
-move-told : MoveTold
-unfolding definitions moved_number moved_packets
-move-told = (refl, refl)
-
 -- Credit: refused by 6; of output 7, which has one of two slots free. The number, and the slots
 abbrev credit-answers : List Credit
 credit-answers = credit_answer crowded 0 13 ∷ credit_answer crowded 0 7 ∷ []
@@ -923,20 +567,12 @@ credit-answers = credit_answer crowded 0 13 ∷ credit_answer crowded 0 7 ∷ []
 abbrev pub CreditTold : Type 0
 CreditTold = (map credit_number credit-answers ≡ 6 ∷ 0 ∷ []) × (map credit_free credit-answers ≡ 0 ∷ 1 ∷ [])
 
-credit-told : CreditTold
-unfolding definitions credit_number credit_free
-credit-told = (refl, refl)
-
 -- First: refused by 3; the delivery from queue 1 of node 1; none. The number, and the move
 abbrev first-answers : List Found
 first-answers = first_answer no-network ∷ first_answer crowded ∷ first_answer (empty two) ∷ []
 
 abbrev pub FirstTold : Type 0
 FirstTold = (map found_number first-answers ≡ 3 ∷ 0 ∷ 0 ∷ []) × (map found_move first-answers ≡ [] ∷ (move_of 1 1 0 ∷ []) ∷ [] ∷ [])
-
-first-told : FirstTold
-unfolding definitions found_number found_move
-first-told = (refl, refl)
 
 -- Drain: refused by 3; six moves, five of them deliveries (below). The number, the moves, the deliveries and the stop
 abbrev drain-answers : List Drained
@@ -948,19 +584,11 @@ DrainTold = (map drained_number drain-answers ≡ 3 ∷ 0 ∷ [])
     × (map drained_delivered drain-answers ≡ 0 ∷ 5 ∷ [])
     × (map drained_stop drain-answers ≡ [] ∷ (Stop.Emptied ∷ []) ∷ [])
 
-drain-told : DrainTold
-unfolding definitions drained_number drained_moves drained_delivered drained_stop
-drain-told = (refl, refl, refl, refl)
-
 -- Routes -----------------------------------------------------------------------------------------------------------------------------------
 
 -- R141: a head that has arrived is delivered, from every queue
 abbrev pub ArrivedIsDelivered : Type 0
 ArrivedIsDelivered = map (λ q. routes q (here 5)) thirteen ≡ replicate 13 (0 ∷ [])
-
-arrived-is-delivered : ArrivedIsDelivered
-unfolding definitions
-arrived-is-delivered = refl
 
 -- R142 to R147: a head with hops left in x+, y− and z+, in queues 0, 3 and 6; in y− and z−, in queues 7 and 12; in x−, in queue 4
 abbrev pub RoutesOfHeads : Type 0
@@ -969,18 +597,10 @@ RoutesOfHeads = (map (λ q. routes q (packet 0 (pos 1) (negsuc 0) (pos 1))) (0 �
     × (map (λ q. routes q (packet 0 (pos 0) (negsuc 0) (negsuc 1))) (7 ∷ 12 ∷ []) ≡ (4 ∷ 6 ∷ 10 ∷ []) ∷ (6 ∷ 4 ∷ 10 ∷ []) ∷ [])
     × (routes 4 (packet 0 (negsuc 0) (pos 0) (pos 0)) ≡ 2 ∷ 8 ∷ [])
 
-routes-of-heads : RoutesOfHeads
-unfolding definitions
-routes-of-heads = (refl, refl, refl)
-
 -- R144: heads in the injection queue with hops left in x−, y+ and z+; in y+ and z−; in z−: the last route is the escape queue of the first of x, y, z
 abbrev pub EscapeOfHeads : Type 0
 EscapeOfHeads = map (routes 0) (packet 0 (negsuc 0) (pos 1) (pos 1) ∷ packet 0 (pos 0) (pos 1) (negsuc 0) ∷ packet 0 (pos 0) (pos 0) (negsuc 0) ∷ [])
     ≡ (2 ∷ 3 ∷ 5 ∷ 8 ∷ []) ∷ (3 ∷ 6 ∷ 9 ∷ []) ∷ (6 ∷ 12 ∷ []) ∷ []
-
-escape-of-heads : EscapeOfHeads
-unfolding definitions
-escape-of-heads = refl
 
 -- Flow -------------------------------------------------------------------------------------------------------------------------------------
 
@@ -1004,42 +624,22 @@ into slots from to counts = map (λ count. move_refusal (ahead slots to (replica
 abbrev pub AlongTheRing : Type 0
 AlongTheRing = into 3 7 7 (0 ∷ 1 ∷ 2 ∷ 3 ∷ []) ≡ 0 ∷ 0 ∷ 0 ∷ 11 ∷ []
 
-along-the-ring : AlongTheRing
-unfolding definitions
-along-the-ring = refl
-
 -- R152: into the ring from the injection queue and from the adaptive queue of its own direction while two are free, and not while all three are
 abbrev pub IntoTheRing : Type 0
 IntoTheRing = (into 3 0 7 (0 ∷ 1 ∷ 2 ∷ 3 ∷ []) ≡ 0 ∷ 0 ∷ 12 ∷ 11 ∷ []) × (into 3 1 7 (0 ∷ 1 ∷ 2 ∷ 3 ∷ []) ≡ 0 ∷ 0 ∷ 12 ∷ 11 ∷ [])
-
-into-the-ring : IntoTheRing
-unfolding definitions
-into-the-ring = (refl, refl)
 
 -- the same with E 8 and 6, 7, 8 ahead
 abbrev pub AlongTheRingOfEight : Type 0
 AlongTheRingOfEight = into 8 7 7 (6 ∷ 7 ∷ 8 ∷ []) ≡ 0 ∷ 0 ∷ 11 ∷ []
 
-along-the-ring-of-eight : AlongTheRingOfEight
-unfolding definitions
-along-the-ring-of-eight = refl
-
 abbrev pub IntoTheRingOfEight : Type 0
 IntoTheRingOfEight = (into 8 0 7 (6 ∷ 7 ∷ 8 ∷ []) ≡ 0 ∷ 12 ∷ 11 ∷ []) × (into 8 1 7 (6 ∷ 7 ∷ 8 ∷ []) ≡ 0 ∷ 12 ∷ 11 ∷ [])
-
-into-the-ring-of-eight : IntoTheRingOfEight
-unfolding definitions
-into-the-ring-of-eight = (refl, refl)
 
 -- R150, R171, eight chunks, with none taken, 5 by one packet, 5 by two, 6 by two and 8 by one: into an adaptive queue while three are free, from a ring, from the
 -- injection queue and from an adaptive queue
 abbrev pub IntoAnAdaptiveQueue : Type 0
 IntoAnAdaptiveQueue = map (λ from. map (λ cs. move_refusal (ahead 3 1 cs) 0 from 1) ([] ∷ (5 ∷ []) ∷ (2 ∷ 3 ∷ []) ∷ (1 ∷ 5 ∷ []) ∷ (8 ∷ []) ∷ [])) (7 ∷ 0 ∷ 1 ∷ [])
     ≡ replicate 3 (0 ∷ 0 ∷ 0 ∷ 11 ∷ 11 ∷ [])
-
-into-an-adaptive-queue : IntoAnAdaptiveQueue
-unfolding definitions
-into-an-adaptive-queue = refl
 
 -- 4 by 1 by 1, E 2, A 1, J 1, as in the listing
 abbrev four : Shape
@@ -1053,27 +653,15 @@ OneChunkFree = (map (λ c. move_refusal (holding (only four 0 (one-hop-of c)) 1 
     × (move_refusal (only four 0 (one-hop-of 8)) 0 0 1 ≡ 0)
     × (map (λ c. move_refusal (holding (only four 0 (one-hop-of c)) 1 7 (of_chunks 8 (here 1) ∷ [])) 0 0 7) (1 ∷ 8 ∷ []) ≡ 12 ∷ 12 ∷ [])
 
-one-chunk-free : OneChunkFree
-unfolding definitions
-one-chunk-free = (refl, refl, refl)
-
 -- R151, R152, R172, E 2, one packet of one chunk in the escape queue x+ of node 1: the packets of three chunks at node 0 go there along the ring, and lack the
 -- bubble from the injection queue and from the adaptive queue; Credit tells of one slot
 abbrev pub OneSlotFree : Type 0
 OneSlotFree = (map (λ from. move_refusal (ahead 2 7 (1 ∷ [])) 0 from 7) (7 ∷ 0 ∷ 1 ∷ []) ≡ 0 ∷ 12 ∷ 12 ∷ [])
     × (credit_answer (ahead 2 7 (1 ∷ [])) 0 7 ≡ Credit.Free 1)
 
-one-slot-free : OneSlotFree
-unfolding definitions
-one-slot-free = (refl, refl)
-
 -- R153: a delivery at node 0, with the injection queue of its neighbour full
 abbrev pub DeliveryNeedsNoSlot : Type 0
 DeliveryNeedsNoSlot = move_answer (holding (only two 1 seven) 1 0 (here 1 ∷ [])) 0 1 0 ≡ Moved.Delivered seven
-
-delivery-needs-no-slot : DeliveryNeedsNoSlot
-unfolding definitions
-delivery-needs-no-slot = refl
 
 -- First in, first out ------------------------------------------------------------------------------------------------------------------------
 
@@ -1081,17 +669,9 @@ delivery-needs-no-slot = refl
 abbrev pub NewestLastByOffer : Type 0
 NewestLastByOffer = look_part offered-three 0 0 ≡ five ∷ six ∷ last ∷ []
 
-newest-last-by-offer : NewestLastByOffer
-unfolding definitions
-newest-last-by-offer = refl
-
 -- R37, R108, R109: Look, after the two hops: where the packets came to, and where they came from
 abbrev pub NewestLastByHop : Type 0
 NewestLastByHop = look_part two-hops 1 1 ∷ look_part two-hops 0 0 ∷ [] ≡ (five-arrived ∷ six-arrived ∷ []) ∷ (last ∷ []) ∷ []
-
-newest-last-by-hop : NewestLastByHop
-unfolding definitions
-newest-last-by-hop = refl
 
 -- R106, R108, R112: a delivery from a queue with two hands out the older one and leaves the other; delivered and moves made rise
 abbrev both-arrived : List ℕ
@@ -1101,25 +681,13 @@ abbrev pub OldestOut : Type 0
 OldestOut = (move_answer both-arrived 1 1 0 ≡ Moved.Delivered five-arrived)
     × (move_words both-arrived 1 1 0 ≡ 2 ∷ 1 ∷ 1 ∷ 4 ∷ 1 ∷ 3 ∷ 2 ∷ 1 ∷ 1 ∷ (replicate 92 0 ++ (1 ∷ six-arrived ∷ replicate 82 0)))
 
-oldest-out : OldestOut
-unfolding definitions
-oldest-out = (refl, refl)
-
 -- R119: where Look's part begins: behind word 9, behind word 101 and behind word 180
 abbrev pub LookBegins : Type 0
 LookBegins = look_at offered-three 0 0 ∷ look_at offered-three 1 1 ∷ look_at offered-three 1 12 ∷ [] ≡ 10 ∷ 102 ∷ 181 ∷ []
 
-look-begins : LookBegins
-unfolding definitions
-look-begins = refl
-
 -- R118, R119: Look at queues 0, 1, 2, 7 and 8 of node 1 of the crowded network
 abbrev pub LookByQueue : Type 0
 LookByQueue = map (look_part crowded 1) (0 ∷ 1 ∷ 2 ∷ 7 ∷ 8 ∷ []) ≡ [] ∷ (arrived 1 ∷ []) ∷ (arrived 2 ∷ []) ∷ (arrived 3 ∷ []) ∷ (arrived 4 ∷ []) ∷ []
-
-look-by-queue : LookByQueue
-unfolding definitions
-look-by-queue = refl
 
 -- R110: one hop along x, from dx = 2, 1, −1, −2, with dy = 3 and dz = −4; one along z; and one along x of the word with all fields, whose dx is 15
 abbrev pub OneHopNearer : Type 0
@@ -1127,10 +695,6 @@ OneHopNearer = (map (λ dx. hop 0 (packet 1 dx (pos 3) (negsuc 3))) (pos 2 ∷ p
     ≡ map (λ dx. packet 1 dx (pos 3) (negsuc 3)) (pos 1 ∷ pos 0 ∷ pos 0 ∷ negsuc 0 ∷ []))
     × (hop 2 (packet 1 (pos 2) (pos 3) (negsuc 3)) ≡ packet 1 (pos 2) (pos 3) (negsuc 2))
     × (hop 0 widest ≡ 2 ^ 32 + 2 ^ 31 + 7 * 2 ^ 28 + 4095 * 2 ^ 16 + 2 ^ 15 + 14 * 2 ^ 10 + 31)
-
-one-hop-nearer : OneHopNearer
-unfolding definitions
-one-hop-nearer = (refl, refl, refl)
 
 -- Credit -----------------------------------------------------------------------------------------------------------------------------------
 
@@ -1151,26 +715,14 @@ abbrev pub CreditAdaptive : Type 0
 CreditAdaptive = credit_answer lopsided 0 1 ∷ credit_answer lopsided 0 2 ∷ credit_answer lopsided 1 1 ∷ credit_answer lopsided 1 2 ∷ []
     ≡ Credit.Free 2 ∷ Credit.Free 5 ∷ Credit.Free 5 ∷ Credit.Free 8 ∷ []
 
-credit-adaptive : CreditAdaptive
-unfolding definitions
-credit-adaptive = refl
-
 -- and where the target, one of four nodes, has one packet of seven chunks, or none
 abbrev pub CreditByChunks : Type 0
 CreditByChunks = credit_answer (holding (empty four) 1 1 (of_chunks 7 (here 1) ∷ [])) 0 1 ∷ credit_answer (empty four) 0 1 ∷ [] ≡ Credit.Free 1 ∷ Credit.Free 8 ∷ []
-
-credit-by-chunks : CreditByChunks
-unfolding definitions
-credit-by-chunks = refl
 
 -- for escape outputs
 abbrev pub CreditEscape : Type 0
 CreditEscape = credit_answer lopsided 0 7 ∷ credit_answer lopsided 0 8 ∷ credit_answer lopsided 1 7 ∷ credit_answer lopsided 1 8 ∷ []
     ≡ Credit.Free 4 ∷ Credit.Free 0 ∷ Credit.Free 3 ∷ Credit.Free 2 ∷ []
-
-credit-escape : CreditEscape
-unfolding definitions
-credit-escape = refl
 
 -- First (R123, R124) -----------------------------------------------------------------------------------------------------------------------
 
@@ -1178,51 +730,25 @@ credit-escape = refl
 abbrev pub FirstPermitted : Type 0
 FirstPermitted = first_answer crowded ≡ Found.Move 1 1 0
 
-first-permitted : FirstPermitted
-unfolding definitions
-first-permitted = refl
-
 -- one that has arrived in queue 8 of node 0: a lower node comes before a lower queue
 abbrev pub FirstByNode : Type 0
 FirstByNode = first_answer (holding crowded 0 8 (seven ∷ [])) ≡ Found.Move 0 8 0
-
-first-by-node : FirstByNode
-unfolding definitions
-first-by-node = refl
 
 -- one that has arrived in queue 0 of node 1: it comes before queue 1
 abbrev pub FirstByQueue : Type 0
 FirstByQueue = first_answer (holding crowded 1 0 (here 1 ∷ [])) ≡ Found.Move 1 0 0
 
-first-by-queue : FirstByQueue
-unfolding definitions
-first-by-queue = refl
-
 -- a head alone in its network, with outputs 1 and 7 permitted: its first route comes first
 abbrev pub FirstByRoute : Type 0
 FirstByRoute = (map (move_refusal (only two 0 nine) 0 0) (1 ∷ 7 ∷ []) ≡ 0 ∷ 0 ∷ []) × (first_answer (only two 0 nine) ≡ Found.Move 0 0 1)
-
-first-by-route : FirstByRoute
-unfolding definitions
-first-by-route = (refl, refl)
 
 -- of three nodes the last one alone holds a packet
 abbrev pub FirstAtTheLastNode : Type 0
 FirstAtTheLastNode = first_answer (holding (empty three) 2 0 (here 2 ∷ [])) ≡ Found.Move 2 0 0
 
-first-at-the-last-node : FirstAtTheLastNode
-unfolding definitions
-first-at-the-last-node = refl
-
 -- nothing held: none, and that is no refusal
 abbrev pub FirstNone : Type 0
 FirstNone = first_answer (empty two) ≡ Found.Nothing
-
-first-none : FirstNone
-unfolding definitions
-first-none = refl
-
--- Drain ------------------------------------------------------------------------------------------------------------------------------------
 
 -- First's moves in the crowded network: delivery from queue 1 of node 1, tag 1; the hop to output 1 that this has made free; delivery of tag 9, from queue 1; then
 -- of tags 2, 3 and 4, from queues 2, 7 and 8. Six moves, five deliveries
@@ -1240,79 +766,43 @@ after_two =
 abbrev pub DrainWords : Type 0
 DrainWords = drain_words crowded 2 4 ≡ after_two
 
-drain-words : DrainWords
-unfolding definitions
-drain-words = refl
-
 -- R129, R130: all six, with as much budget and a ledger word for each delivery
 abbrev pub DrainEmptied : Type 0
 DrainEmptied = drain_answer crowded 6 5 ≡ Drained.Stopped 6 5 Stop.Emptied
-
-drain-emptied : DrainEmptied
-unfolding definitions
-drain-emptied = refl
 
 -- R128: the ledger then
 abbrev pub DrainInOrder : Type 0
 DrainInOrder = drain_ledger crowded 6 (90 ∷ 91 ∷ 92 ∷ 93 ∷ 94 ∷ []) ≡ arrived 1 ∷ nine-arrived ∷ arrived 2 ∷ arrived 3 ∷ arrived 4 ∷ []
 
-drain-in-order : DrainInOrder
-unfolding definitions
-drain-in-order = refl
-
 -- R131, R133: a budget of 2, and of 2 with one ledger word: spent is tested before full
 abbrev pub DrainSpent : Type 0
 DrainSpent = (drain_answer crowded 2 4 ≡ Drained.Stopped 2 1 Stop.Spent) × (drain_answer crowded 2 1 ≡ Drained.Stopped 2 1 Stop.Spent)
-
-drain-spent : DrainSpent
-unfolding definitions
-drain-spent = (refl, refl)
 
 -- R132: two ledger words are written after three moves; one is written after the first, and the hop behind it needs none
 abbrev pub DrainFull : Type 0
 DrainFull = (drain_answer crowded 9 2 ≡ Drained.Stopped 3 2 Stop.Full) × (drain_answer crowded 3 1 ≡ Drained.Stopped 2 1 Stop.Full)
 
-drain-full : DrainFull
-unfolding definitions
-drain-full = (refl, refl)
-
 -- R132: with one ledger word, which the first delivery takes: the packet whose delivery is next stands where it stood, and is not counted
 abbrev pub WordsAtFull : Type 0
 WordsAtFull = drain_words crowded 3 1 ≡ after_two
-
-words-at-full : WordsAtFull
-unfolding definitions
-words-at-full = refl
 
 -- R128, R132: two ledger words, and both are written when it is full
 abbrev pub LedgerAtFull : Type 0
 LedgerAtFull = drain_ledger crowded 9 (90 ∷ 91 ∷ []) ≡ arrived 1 ∷ nine-arrived ∷ []
 
-ledger-at-full : LedgerAtFull
-unfolding definitions
-ledger-at-full = refl
-
 -- R134: one word written, and two that stay
 abbrev pub DrainLedger : Type 0
 DrainLedger = drain_ledger crowded 2 (90 ∷ 91 ∷ 92 ∷ []) ≡ arrived 1 ∷ 91 ∷ 92 ∷ []
 
-drain-ledger : DrainLedger
-unfolding definitions
-drain-ledger = refl
-
 -- R127, R225: First's moves, said of the moves themselves: the first two lead to the words after two of them; a list that begins with the delivery of tag
 -- 2 is none
-abbrev queue_of : List NamedMove → ℕ
+abbrev pub queue_of : List NamedMove → ℕ
 queue_of [] = 0
 queue_of (m ∷ ms) = m.queue
 
 abbrev pub ByFirstsMoves : Type 0
 ByFirstsMoves = ByFirst crowded (move_of 1 1 0 ∷ move_of 0 0 1 ∷ []) after_two
     × (ByFirst crowded (move_of 1 2 0 ∷ []) (move_words crowded 1 2 0) → ⊥)
-
-by-firsts-moves : ByFirstsMoves
-unfolding definitions found_move ByFirst
-by-firsts-moves = ((refl, (refl, refl)), λ e. let z : ◌≡◌ {A = ℕ} 1 2 = ap queue_of e.0 in omega arith)
 
 -- A run of calls -----------------------------------------------------------------------------------------------------------------------------
 
@@ -1325,53 +815,28 @@ crowded-more = holding crowded 0 8 (seven ∷ [])
 abbrev ran : Outcome
 ran = run (move (move_of 0 0 7) ∷ move (move_of 1 1 0) ∷ drain 3 (90 ∷ 91 ∷ 92 ∷ []) ∷ []) crowded-more
 
--- what a run is computed with, to be unfolded by one name
-running : Unit {0}
-unfolding definitions moved_number moved_packets drained_moves drained_delivered delivery_nodes at_nodes ledger_of words_written outcome run
-running = tt
-
 -- R223: permitted is the delivery of tag 1, and not the Move that is refused by 12
 abbrev pub PermittedMoves : Type 0
 PermittedMoves = Permits crowded (move_of 1 1 0) × (Permits crowded (move_of 0 0 7) → ⊥)
-
-permitted-moves : PermittedMoves
-unfolding definitions
-permitted-moves = (refl, λ e. let z : ◌≡◌ {A = ℕ} 12 0 = e in omega arith)
 
 -- R220, R224, R225: its moves, in order: a refused Move is none
 abbrev pub RunMoves : Type 0
 RunMoves = ran.moves ≡ move_of 1 1 0 ∷ move_of 0 0 1 ∷ move_of 0 8 0 ∷ move_of 1 1 0 ∷ []
 
-run-moves : RunMoves
-unfolding running
-run-moves = refl
-
 -- and how many its answers tell of
 abbrev pub RunTold : Type 0
 RunTold = ran.told ≡ 4
-
-run-told : RunTold
-unfolding running
-run-told = refl
 
 -- R227: what was handed out, and at which nodes
 abbrev pub RunHandedOut : Type 0
 RunHandedOut = (map (λ (d : Delivery). d.packet) ran.handed_out ≡ arrived 1 ∷ seven ∷ nine-arrived ∷ [])
     × (map (λ (d : Delivery). d.node) ran.handed_out ≡ 1 ∷ 0 ∷ 1 ∷ [])
 
-run-handed-out : RunHandedOut
-unfolding running
-run-handed-out = (refl, refl)
-
 -- R221, R238: the Drain's ledger, as it was lent, as it was left, and how many of its words were written
 abbrev pub RunLedgers : Type 0
 RunLedgers = (map (λ (L : Ledger). L.lent) ran.ledgers ≡ (90 ∷ 91 ∷ 92 ∷ []) ∷ [])
     × (map (λ (L : Ledger). L.left) ran.ledgers ≡ (seven ∷ nine-arrived ∷ 92 ∷ []) ∷ [])
     × (map (λ (L : Ledger). L.written) ran.ledgers ≡ 2 ∷ [])
-
-run-ledgers : RunLedgers
-unfolding running
-run-ledgers = (refl, refl, refl)
 
 -- R215, R226, R234, R235: every word afterwards: accepted 6, delivered 3, moves made 4; node 0 is empty, 74 words; node 1 has 2 and 9 words of queues 0 and 1,
 -- then one packet in each of the queues 2, 7 and 8, with 7 words behind the first of them, and 36 and 12 words of the queues between and behind
@@ -1381,17 +846,9 @@ RunWords = ran.words
     ∷ (replicate 74 0
     ++ (replicate 11 0 ++ (1 ∷ arrived 2 ∷ (replicate 7 0 ++ (replicate 36 0 ++ (1 ∷ arrived 3 ∷ 0 ∷ 1 ∷ arrived 4 ∷ 0 ∷ replicate 12 0))))))
 
-run-words : RunWords
-unfolding running
-run-words = refl
-
 -- R84, R212, R229, R233: the work left before the run, two for the packet with a hop left and one for each of the five others; and after its four moves
 abbrev pub RunWork : Type 0
 RunWork = work_left two crowded-more ∷ work_left two ran.words ∷ [] ≡ 7 ∷ 3 ∷ []
-
-run-work : RunWork
-unfolding running
-run-work = refl
 
 -- R228, R232: how many packets are held with a label, where 1 + 0 + 1 + 2 have arrived at node 0 and 2 + 1 + 0 + 4 at node 1, of three chunks each
 -- (`lopsided`): those of one chunk are others; one with a hop left counts for its label, and for no other; and how many of those handed out have it
@@ -1400,19 +857,11 @@ LabelsCounted = (map (λ l. held_with l small lopsided) (three-chunks 0 ∷ thre
     × (map (λ l. held_with l two crowded) (nine-arrived ∷ nine ∷ []) ≡ 1 ∷ 0 ∷ [])
     × (map (λ l. handed_with l ran.handed_out) (seven ∷ nine-arrived ∷ nine ∷ []) ≡ 1 ∷ 1 ∷ 0 ∷ [])
 
-labels-counted : LabelsCounted
-unfolding running is_labelled held_with handed_with
-labels-counted = (refl, refl, refl)
-
 -- R230, R231: handed out at node 1 and at node 0, for node 1; and at node 1 with a hop left
 abbrev pub AtDestination : Type 0
 AtDestination = map at_destination
     (record { node = 1; packet = nine-arrived } ∷ record { node = 0; packet = nine-arrived } ∷ record { node = 1; packet = nine } ∷ [])
     ≡ true ∷ false ∷ false ∷ []
-
-at-destination : AtDestination
-unfolding definitions at_destination
-at-destination = refl
 
 -- R304, 4 by 1 by 1: two packets for node 2 with one label, at node 0 with dx = 2 and at node 3 with dx = −1: their hops left in x+, x−, y+, y−, z+, z−;
 -- and those of a label that no packet has
@@ -1423,10 +872,6 @@ from-both-sides =
 abbrev pub HopsOfALabel : Type 0
 HopsOfALabel = (map (λ d. hops_with (here 2) d (shape_of (sized 4 1 1 2 1 1)) from-both-sides) (0 ∷ 1 ∷ 2 ∷ 3 ∷ 4 ∷ 5 ∷ []) ≡ 2 ∷ 1 ∷ 0 ∷ 0 ∷ 0 ∷ 0 ∷ [])
     × (hops_with (here 1) 0 (shape_of (sized 4 1 1 2 1 1)) from-both-sides ≡ 0)
-
-hops-of-a-label : HopsOfALabel
-unfolding definitions hops_of hops_with
-hops-of-a-label = (refl, refl)
 
 -- All of them ------------------------------------------------------------------------------------------------------------------------------
 
@@ -1568,145 +1013,3 @@ pub record KeptRows : Type 0 where
   pub labels-counted : LabelsCounted
   pub at-destination : AtDestination
   pub hops-of-a-label : HopsOfALabel
-
-pub kept_rows : KeptRows
-kept_rows =
-    record {
-      header_made = header_made;
-      queues-made = queues-made;
-      rest-after-make = rest-after-make;
-      header_read = header_read;
-      slots-of-queues = slots-of-queues;
-      queue-starts = queue-starts;
-      words-needed = words-needed;
-      number-held = number-held;
-      free-slots = free-slots;
-      own-words-alone = own-words-alone;
-      words-after-offers = words-after-offers;
-      header-after = header-after;
-      words-after-hops = words-after-hops;
-      rest-after-calls = rest-after-calls;
-      neighbours = neighbours;
-      own-neighbour = own-neighbour;
-      nodes-of = nodes-of;
-      targets = targets;
-      fields_read = fields_read;
-      label-read = label-read;
-      offered-word = offered-word;
-      shorter-way = shorter-way;
-      half-way = half-way;
-      range-of-x = range-of-x;
-      range-of-y = range-of-y;
-      range-of-z = range-of-z;
-      range-of-e = range-of-e;
-      range-of-a = range-of-a;
-      range-of-j = range-of-j;
-      one-too-many = one-too-many;
-      load-too-large = load-too-large;
-      load-of-sixty-four = load-of-sixty-four;
-      last-word-set = last-word-set;
-      leads-there = leads-there;
-      where-offsets-lead = where-offsets-lead;
-      queues-by-sign = queues-by-sign;
-      queues-by-distance = queues-by-distance;
-      queues-by-lower-offsets = queues-by-lower-offsets;
-      queues-by-minus = queues-by-minus;
-      last-node-checked = last-node-checked;
-      own-node-held = own-node-held;
-      spare-bit-set = spare-bit-set;
-      upper-spare-bit-set = upper-spare-bit-set;
-      full-ring = full-ring;
-      full-ring-of-z = full-ring-of-z;
-      ring-of-a-column = ring-of-a-column;
-      ring-of-three = ring-of-three;
-      ring-of-the-last-row = ring-of-the-last-row;
-      most-accepted = most-accepted;
-      delivered-and-held = delivered-and-held;
-      work-of-words = work-of-words;
-      most-moves = most-moves;
-      make-2 = make-2;
-      make-1 = make-1;
-      check-1-header = check-1-header;
-      check-2 = check-2;
-      check-1-need = check-1-need;
-      check-3 = check-3;
-      offer-as-check = offer-as-check;
-      move-as-check = move-as-check;
-      credit-as-check = credit-as-check;
-      look-as-check = look-as-check;
-      first-as-check = first-as-check;
-      drain-as-check = drain-as-check;
-      offer-4 = offer-4;
-      offer-2 = offer-2;
-      offer-14 = offer-14;
-      offer-8 = offer-8;
-      offer-7 = offer-7;
-      count-is-spent = count-is-spent;
-      move-4 = move-4;
-      move-5 = move-5;
-      move-6 = move-6;
-      move-9 = move-9;
-      move-10 = move-10;
-      move-11 = move-11;
-      move-12 = move-12;
-      move-0 = move-0;
-      credit-4 = credit-4;
-      credit-6 = credit-6;
-      look-4 = look-4;
-      look-5 = look-5;
-      text-numbers = text-numbers;
-      refused-make = refused-make;
-      refused-offer = refused-offer;
-      refused-move = refused-move;
-      refused-look = refused-look;
-      refused-drain = refused-drain;
-      move-told = move-told;
-      credit-told = credit-told;
-      first-told = first-told;
-      drain-told = drain-told;
-      arrived-is-delivered = arrived-is-delivered;
-      routes-of-heads = routes-of-heads;
-      escape-of-heads = escape-of-heads;
-      along-the-ring = along-the-ring;
-      into-the-ring = into-the-ring;
-      along-the-ring-of-eight = along-the-ring-of-eight;
-      into-the-ring-of-eight = into-the-ring-of-eight;
-      into-an-adaptive-queue = into-an-adaptive-queue;
-      one-chunk-free = one-chunk-free;
-      one-slot-free = one-slot-free;
-      delivery-needs-no-slot = delivery-needs-no-slot;
-      newest-last-by-offer = newest-last-by-offer;
-      newest-last-by-hop = newest-last-by-hop;
-      oldest-out = oldest-out;
-      look-begins = look-begins;
-      look-by-queue = look-by-queue;
-      one-hop-nearer = one-hop-nearer;
-      credit-adaptive = credit-adaptive;
-      credit-by-chunks = credit-by-chunks;
-      credit-escape = credit-escape;
-      first-permitted = first-permitted;
-      first-by-node = first-by-node;
-      first-by-queue = first-by-queue;
-      first-by-route = first-by-route;
-      first-at-the-last-node = first-at-the-last-node;
-      first-none = first-none;
-      drain-words = drain-words;
-      drain-emptied = drain-emptied;
-      drain-in-order = drain-in-order;
-      drain-spent = drain-spent;
-      drain-full = drain-full;
-      words-at-full = words-at-full;
-      ledger-at-full = ledger-at-full;
-      drain-ledger = drain-ledger;
-      by-firsts-moves = by-firsts-moves;
-      permitted-moves = permitted-moves;
-      run-moves = run-moves;
-      run-told = run-told;
-      run-handed-out = run-handed-out;
-      run-ledgers = run-ledgers;
-      run-words = run-words;
-      run-work = run-work;
-      labels-counted = labels-counted;
-      at-destination = at-destination;
-      hops-of-a-label = hops-of-a-label;
-    }

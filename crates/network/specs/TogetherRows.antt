@@ -2,7 +2,7 @@
 -- docs/RULES.md, as in Rows.antt. For each pair of moves: whether the queues are all different, the sources, the targets; then what both orders answer and
 -- leave. Order: the queues of a move; moves that go together; two deliveries at one node; three moves; a target that is the other's source; one target; one source; two
 -- entries into one ring; all of them. Assumes nothing.
-use Rattle.std.specs.Prelude.{◌≡◌, refl, Bool, true, false, ℕ, ◌+◌, ◌*◌, ◌^◌, replicate}
+use Rattle.std.specs.Prelude.{◌≡◌, Bool, true, false, ℕ, ◌+◌, ◌*◌, ◌^◌, replicate}
 use mathlib.Core.List.{List, [], ◌∷◌, ◌++◌, map, flat_map}
 use Rattle.std.proofs.Math.Decide.{ℕ_discrete}
 use Rattle.base.specs.Tests.{pair-discrete}
@@ -36,7 +36,7 @@ abbrev differ : Shape → NamedMove → NamedMove → List Bool
 differ S a b = queues_differ S (a ∷ b ∷ []) ∷ sources_differ (a ∷ b ∷ []) ∷ targets_differ S (a ∷ b ∷ []) ∷ []
 
 -- all that these are computed with
-unfoldable together : Unit {0}
+unfoldable pub together : Unit {0}
 unfolding definitions one_if count all_different ℕ_discrete pair-discrete flat_map same_place? source targets queues_differ sources_differ targets_differ output_named outputs_differ answers newcomers held_after deliveries_among moved_number moved_packets outcome run
 together = tt
 
@@ -47,10 +47,6 @@ abbrev pub QueuesOfMoves : Type 0
 QueuesOfMoves = (map source (move_of 2 5 7 ∷ move_of 0 3 0 ∷ []) ≡ queue_at 2 5 ∷ queue_at 0 3 ∷ [])
     × (map (targets ring) (move_of 2 5 7 ∷ move_of 0 3 1 ∷ move_of 0 3 8 ∷ move_of 0 3 0 ∷ [])
     ≡ (queue_at 3 7 ∷ []) ∷ (queue_at 1 1 ∷ []) ∷ (queue_at 3 8 ∷ []) ∷ [] ∷ [])
-
-queues-of-moves : QueuesOfMoves
-unfolding together
-queues-of-moves = (refl, refl)
 
 -- R614: what the lines show of the pairs below: two deliveries of one node; outputs of two nodes; one output of one node; two outputs of it
 abbrev pub LinesShow : Type 0
@@ -63,10 +59,6 @@ LinesShow =
     ∷ [])
     ≡ true ∷ true ∷ false ∷ true ∷ []
 
-lines-show : LinesShow
-unfolding together
-lines-show = refl
-
 -- Moves that go together ------------------------------------------------------------------------------------------------------------------
 
 -- a packet at node 0 and one at node 2, each with a hop to the next node
@@ -77,10 +69,6 @@ two-waiting = holding (holding (empty ring) 0 0 (tagged 1 1 1 ∷ [])) 2 0 (tagg
 abbrev pub FourQueues : Type 0
 FourQueues = differ ring (move_of 0 0 1) (move_of 2 0 1) ≡ true ∷ true ∷ true ∷ []
 
-four-queues : FourQueues
-unfolding together
-four-queues = refl
-
 -- R606: two accepted, none delivered, two moves made; 2^32 + 2^16 stands in node 1, and 2 × 2^32 + 3 × 2^16 in node 3. Behind the last node stand 7 and 9
 abbrev both-moved : List ℕ
 both-moved = 4 ∷ 1 ∷ 1 ∷ 2 ∷ 1 ∷ 1 ∷ 2 ∷ 0 ∷ 2 ∷ (replicate 74 0 ++ (in_queue1 4295032832 ++ (replicate 74 0 ++ (in_queue1 8590131200 ++ (7 ∷ 9 ∷ [])))))
@@ -88,10 +76,6 @@ both-moved = 4 ∷ 1 ∷ 1 ∷ 2 ∷ 1 ∷ 1 ∷ 2 ∷ 0 ∷ 2 ∷ (replicate 74
 abbrev pub GoTogether : Type 0
 GoTogether = (moved (moved (two-waiting ++ (7 ∷ 9 ∷ [])) (move_of 0 0 1)) (move_of 2 0 1) ≡ both-moved)
     × (moved (moved (two-waiting ++ (7 ∷ 9 ∷ [])) (move_of 2 0 1)) (move_of 0 0 1) ≡ both-moved)
-
-go-together : GoTogether
-unfolding together
-go-together = (refl, refl)
 
 -- Two deliveries at one node --------------------------------------------------------------------------------------------------------------
 
@@ -103,18 +87,10 @@ two-arrived = holding (holding (empty ring) 1 0 (tagged 1 1 0 ∷ [])) 1 1 (tagg
 abbrev pub NoTarget : Type 0
 NoTarget = differ ring (move_of 1 0 0) (move_of 1 1 0) ≡ true ∷ true ∷ true ∷ []
 
-no_target : NoTarget
-unfolding together
-no_target = refl
-
 -- R606, R608: each is handed out by its own move, whichever comes first
 abbrev pub TwoDeliveries : Type 0
 TwoDeliveries = (answers two-arrived (move_of 1 0 0 ∷ move_of 1 1 0 ∷ []) ≡ Moved.Delivered 4295032832 ∷ Moved.Delivered 8590000128 ∷ [])
     × (answers two-arrived (move_of 1 1 0 ∷ move_of 1 0 0 ∷ []) ≡ Moved.Delivered 8590000128 ∷ Moved.Delivered 4295032832 ∷ [])
-
-two-deliveries : TwoDeliveries
-unfolding together
-two-deliveries = (refl, refl)
 
 -- R609: at node 1, and in the order of the moves
 abbrev pub HandedOutInOrder : Type 0
@@ -122,28 +98,16 @@ HandedOutInOrder = (words_of (run (as_moves (move_of 1 0 0 ∷ move_of 1 1 0 ∷
     × (words_of (run (as_moves (move_of 1 1 0 ∷ move_of 1 0 0 ∷ [])) two-arrived).handed_out ≡ 8590000128 ∷ 4295032832 ∷ [])
     × (nodes_of (run (as_moves (move_of 1 1 0 ∷ move_of 1 0 0 ∷ [])) two-arrived).handed_out ≡ 1 ∷ 1 ∷ [])
 
-handed-out-in-order : HandedOutInOrder
-unfolding together
-handed-out-in-order = (refl, refl, refl)
-
 -- R613: of a hop and two deliveries two are deliveries
 abbrev pub DeliveriesCounted : Type 0
 DeliveriesCounted = deliveries_among (move_of 0 0 1 ∷ move_of 1 0 0 ∷ move_of 1 1 0 ∷ []) ≡ 2
 
-deliveries-counted : DeliveriesCounted
-unfolding together
-deliveries-counted = refl
-
 -- R613: two accepted, two delivered, two moves made, and no packet is left
-abbrev all-out : List ℕ
+abbrev pub all-out : List ℕ
 all-out = 4 ∷ 1 ∷ 1 ∷ 2 ∷ 1 ∷ 1 ∷ 2 ∷ 2 ∷ 2 ∷ replicate 296 0
 
 abbrev pub AllOut : Type 0
 AllOut = (moved (moved two-arrived (move_of 1 0 0)) (move_of 1 1 0) ≡ all-out) × (moved (moved two-arrived (move_of 1 1 0)) (move_of 1 0 0) ≡ all-out)
-
-all-out-either-way : AllOut
-unfolding together
-all-out-either-way = (refl, refl)
 
 -- A list of moves ------------------------------------------------------------------------------------------------------------------------
 
@@ -171,10 +135,6 @@ ThreeMoves = (in-turn.words ≡ three_made)
     × (words_of in-turn.handed_out ≡ 4295032832 ∷ 8590000128 ∷ [])
     × (words_of last-first.handed_out ≡ 8590000128 ∷ 4295032832 ∷ [])
 
-three-moves : ThreeMoves
-unfolding together
-three-moves = (refl, refl, refl, refl, refl, refl)
-
 -- A target that is the other's source -----------------------------------------------------------------------------------------------------
 
 -- a packet with two hops left at node 0, and one with one hop left in the queue where it goes
@@ -185,10 +145,6 @@ one-behind chunks = holding (holding (empty ring) 0 0 (of_chunks chunks (tagged 
 abbrev pub TargetIsSource : Type 0
 TargetIsSource = differ ring (move_of 0 0 1) (move_of 1 1 1) ≡ false ∷ true ∷ true ∷ []
 
-target-is-source : TargetIsSource
-unfolding together
-target-is-source = refl
-
 -- R606, R612: the first stands in queue 1 of node 1 and the second in queue 1 of node 2, each one hop nearer
 abbrev one_on : List ℕ
 one_on = 4 ∷ 1 ∷ 1 ∷ 2 ∷ 1 ∷ 1 ∷ 2 ∷ 0 ∷ 2 ∷ (replicate 74 0 ++ (in_queue1 4295099392 ++ (in_queue1 8590065664 ++ replicate 74 0)))
@@ -196,34 +152,18 @@ one_on = 4 ∷ 1 ∷ 1 ∷ 2 ∷ 1 ∷ 1 ∷ 2 ∷ 0 ∷ 2 ∷ (replicate 74 0 +
 abbrev pub MovesUp : Type 0
 MovesUp = (moved (moved (one-behind 1) (move_of 0 0 1)) (move_of 1 1 1) ≡ one_on) × (moved (moved (one-behind 1) (move_of 1 1 1)) (move_of 0 0 1) ≡ one_on)
 
-moves-up : MovesUp
-unfolding together
-moves-up = (refl, refl)
-
 -- R612: what the queues hold afterwards, said of both moves at once; and where nobody leaves the target, the newcomer stands behind who waits there
 abbrev pub HeldAfterwards : Type 0
 HeldAfterwards = (held_after ring (one-behind 1) (move_of 0 0 1 ∷ move_of 1 1 1 ∷ []) 0 0 ≡ [])
     × (held_after ring (one-behind 1) (move_of 0 0 1 ∷ move_of 1 1 1 ∷ []) 1 1 ≡ 4295099392 ∷ [])
     × (held_after ring (one-behind 1) (move_of 0 0 1 ∷ move_of 1 1 1 ∷ []) 2 1 ≡ 8590065664 ∷ [])
 
-held-afterwards : HeldAfterwards
-unfolding together
-held-afterwards = (refl, refl, refl)
-
 abbrev pub NewcomerBehind : Type 0
 NewcomerBehind = held_after ring (one-behind 1) (move_of 0 0 1 ∷ []) 1 1 ≡ 8590066688 ∷ 4295099392 ∷ []
-
-newcomer-behind : NewcomerBehind
-unfolding together
-newcomer-behind = refl
 
 -- with eight chunks each the first does not fit behind the second, and nothing is claimed of the two
 abbrev pub FullAhead : Type 0
 FullAhead = (move_refusal (one-behind 8) 0 0 1 ≡ 11) × (move_refusal (one-behind 8) 1 1 1 ≡ 0)
-
-full-ahead : FullAhead
-unfolding together
-full-ahead = (refl, refl)
 
 -- One target ------------------------------------------------------------------------------------------------------------------------------
 
@@ -235,27 +175,15 @@ same_way chunks = holding (holding (empty ring) 0 0 (of_chunks chunks (tagged 1 
 abbrev pub OneTarget : Type 0
 OneTarget = differ ring (move_of 0 0 1) (move_of 0 1 1) ≡ false ∷ true ∷ false ∷ []
 
-one-target : OneTarget
-unfolding together
-one-target = refl
-
 -- both are permitted in both orders, and stand behind each other in the order in which they came
 abbrev pub BehindEachOther : Type 0
 BehindEachOther = (held ring (moved (moved (same_way 1) (move_of 0 0 1)) (move_of 0 1 1)) 1 1 ≡ 4295032832 ∷ 8590000128 ∷ [])
     × (held ring (moved (moved (same_way 1) (move_of 0 1 1)) (move_of 0 0 1)) 1 1 ≡ 8590000128 ∷ 4295032832 ∷ [])
 
-behind-each-other : BehindEachOther
-unfolding together
-behind-each-other = (refl, refl)
-
 -- with eight chunks each the second does not fit, whichever it is
 abbrev pub NoRoomForTwo : Type 0
 NoRoomForTwo = (answers (same_way 8) (move_of 0 0 1 ∷ move_of 0 1 1 ∷ []) ≡ Moved.Passed ∷ Moved.Refused 11 ∷ [])
     × (answers (same_way 8) (move_of 0 1 1 ∷ move_of 0 0 1 ∷ []) ≡ Moved.Passed ∷ Moved.Refused 11 ∷ [])
-
-no-room-for-two : NoRoomForTwo
-unfolding together
-no-room-for-two = (refl, refl)
 
 -- One source ------------------------------------------------------------------------------------------------------------------------------
 
@@ -270,10 +198,6 @@ one-queue = holding (empty square) 0 0 ((tagged 1 5 1 + 2 ^ 5) ∷ (tagged 2 5 1
 abbrev pub OneSource : Type 0
 OneSource = differ square (move_of 0 0 1) (move_of 0 0 3) ≡ false ∷ false ∷ true ∷ []
 
-one-source : OneSource
-unfolding together
-one-source = refl
-
 -- whoever is first goes by the move that is made first: to queue 1 of node 1, where dx is used up, or to queue 3 of node 4, where dy is
 abbrev pub FirstGoesFirst : Type 0
 FirstGoesFirst =
@@ -282,10 +206,6 @@ FirstGoesFirst =
   where
     arrived : List ℕ → List ℕ
     arrived v = held square v 1 1 ++ held square v 4 3
-
-first-goes-first : FirstGoesFirst
-unfolding together
-first-goes-first = (refl, refl)
 
 -- Two entries into one ring ---------------------------------------------------------------------------------------------------------------
 
@@ -296,10 +216,6 @@ half_full = holding (holding two-waiting 0 7 (tagged 3 1 1 ∷ tagged 4 1 1 ∷ 
 -- R603: two queues of one ring are two queues
 abbrev pub TwoOfOneRing : Type 0
 TwoOfOneRing = differ ring (move_of 0 0 7) (move_of 2 0 7) ≡ true ∷ true ∷ true ∷ []
-
-two-of-one-ring : TwoOfOneRing
-unfolding together
-two-of-one-ring = refl
 
 -- R606, R80: both enter, in either order, and the ring x+ keeps a free slot. The words of a node whose queue 7 holds these: 56 of the queues before it, then
 -- three, then 15
@@ -317,10 +233,6 @@ abbrev pub TwoEntries : Type 0
 TwoEntries = (moved (moved half_full (move_of 0 0 7)) (move_of 2 0 7) ≡ both-entered)
     × (moved (moved half_full (move_of 2 0 7)) (move_of 0 0 7) ≡ both-entered)
     × (ring_has_room ring both-entered 0 0 ≡ true)
-
-two-entries : TwoEntries
-unfolding together
-two-entries = (refl, refl, refl)
 
 -- All of them -----------------------------------------------------------------------------------------------------------------------------
 
@@ -347,30 +259,3 @@ pub record TogetherRows : Type 0 where
   pub first-goes-first : FirstGoesFirst
   pub two-of-one-ring : TwoOfOneRing
   pub two-entries : TwoEntries
-
-pub together_rows : TogetherRows
-together_rows =
-    record {
-      queues-of-moves = queues-of-moves;
-      lines-show = lines-show;
-      four-queues = four-queues;
-      go-together = go-together;
-      no_target = no_target;
-      two-deliveries = two-deliveries;
-      handed-out-in-order = handed-out-in-order;
-      deliveries-counted = deliveries-counted;
-      all-out = all-out-either-way;
-      three-moves = three-moves;
-      target-is-source = target-is-source;
-      moves-up = moves-up;
-      held-afterwards = held-afterwards;
-      newcomer-behind = newcomer-behind;
-      full-ahead = full-ahead;
-      one-target = one-target;
-      behind-each-other = behind-each-other;
-      no-room-for-two = no-room-for-two;
-      one-source = one-source;
-      first-goes-first = first-goes-first;
-      two-of-one-ring = two-of-one-ring;
-      two-entries = two-entries;
-    }

@@ -8,13 +8,15 @@ use lib.Dec.{T}
 use lib.IntN.{ℤ}
 use Rattle.network.specs.Sizes.{shape_of, sizes_in_range, dimensions, most_chunks}
 use Rattle.network.specs.declared.Sizes.{Sizes}
-use Rattle.network.specs.PacketLaws.{OffsetRange, fields-positive, offset-values, offset-field-lt, tag_is, tag-with}
-use Rattle.base.specs.Digits.{product, digit, put_digit, weight, weight-pos, digit-multiple, digit-put-other, digit-weight, put-weight}
+use Rattle.network.specs.PacketLaws.{OffsetRange}
+use Rattle.network.proofs.PacketLaws.{fields-positive, offset-values, offset-field-lt, tag_is, tag-with}
+use Rattle.base.specs.Digits.{product, digit, put_digit, weight}
+use Rattle.base.proofs.Digits.{weight-pos, digit-multiple, digit-put-other, digit-weight, put-weight}
 use native.Mathlib.Nat.{zero-mul}
 use Rattle.network.specs.Packet.{offset_values, fields, offset_field, destination_field, chunk_field, unsigned, with_offset, with_offsets}
-use Rattle.network.specs.TorusLaws.{sizes-torus, in_range-size}
+use Rattle.network.proofs.TorusLaws.{sizes-torus, in_range-size}
 use Rattle.network.specs.Calls.{offered_way}
-use Rattle.network.specs.OfferLaws.{offered-range}
+use Rattle.network.proofs.OfferLaws.{offered-range}
 
 -- the weight of an offset's field, of each dimension
 pub field-weight-x : (i : ℕ) → i ≡ 0 → offset_values * offset_values ≡ weight fields (offset_field i)

@@ -14,7 +14,8 @@ use mir.Facts.{to_z-of_z, to_z_pos}
 use borrow.Author.Tests.{ltb-true, ltb-false, lt-ltb, le-ltb}
 use Rattle.network.specs.declared.Sign.{Sign}
 use Rattle.network.specs.Packet.{signed, unsigned, forward, backward, shrunk, offset_values}
-use Rattle.network.specs.PacketLaws.{half_offsets, OffsetRange, signed-small, signed-large, signed_range, shrunk-range}
+use Rattle.network.specs.PacketLaws.{half_offsets, OffsetRange}
+use Rattle.network.proofs.PacketLaws.{signed-small, signed-large, signed_range, shrunk-range}
 use Rattle.network.specs.Selection.{sign}
 
 -- the number that the bits of z stand for

@@ -8,16 +8,19 @@ use native.Mathlib.Omega.{arith}
 use borrow.Author.Tests.{eq-eqb, ne_eqb}
 use lib.Dec.{T, eqb, ltb, ltb→lt}
 use lib.ListN.{get_or}
-use Rattle.base.specs.Tests.{all_below, and_l, and_r, true-T}
-use Rattle.base.specs.Bools.{and-stop, and-on, fails-at, all_more}
+use Rattle.base.specs.Tests.{all_below}
+use Rattle.base.proofs.Tests.{and_l, and_r, true-T}
+use Rattle.base.proofs.Bools.{and-stop, and-on, fails-at, all_more}
 use Rattle.base.specs.Bits.{bit}
 use Rattle.base.specs.Digits.{weight}
-use Rattle.base.specs.Sums.{sum_below, sum-next, sum-most}
+use Rattle.base.specs.Sums.{sum_below}
+use Rattle.base.proofs.Sums.{sum-next, sum-most}
 use Rattle.network.specs.Sizes.{shape_of, sizes_in_range, size, dimensions, dimension_of, queues, most_nodes, plus, minus}
 use Rattle.network.specs.Packet.{offset_values, destination, distance, hops, hops_left, work}
-use Rattle.network.specs.PacketLaws.{half_offsets, one_way, distance_is, distance_most}
+use Rattle.network.specs.PacketLaws.{half_offsets}
+use Rattle.network.proofs.PacketLaws.{one_way, distance_is, distance_most}
 use Rattle.network.specs.Torus.{moved_by}
-use Rattle.network.specs.TorusLaws.{sizes-torus}
+use Rattle.network.proofs.TorusLaws.{sizes-torus}
 use Rattle.network.specs.Check.{packet_fits}
 use Rattle.network.specs.declared.Sizes.{Sizes}
 use Rattle.torus.specs.declared.Place.{Place}

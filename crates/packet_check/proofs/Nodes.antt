@@ -5,11 +5,11 @@ use native.Mathlib.Nat.{mod-le}
 use native.Mathlib.Omega.{arith}
 use lib.ListN.{get_or}
 use Rattle.base.specs.Digits.{weight}
-use Rattle.base.specs.Numbers.{lowest-none, lowest-more, lowest-all}
+use Rattle.base.proofs.Numbers.{lowest-none, lowest-more, lowest-all}
 use Rattle.network.specs.Sizes.{shape_of, size, nodes, dimensions, most_nodes, plus, minus}
 use Rattle.network.specs.Packet.{hops}
 use Rattle.network.specs.Torus.{coordinate, moved_by}
-use Rattle.network.specs.TorusLaws.{sizes-torus, sizes-nodes, coordinate-moved_by, moved_by-lt}
+use Rattle.network.proofs.TorusLaws.{sizes-torus, sizes-nodes, coordinate-moved_by, moved_by-lt}
 use Rattle.network.specs.declared.Sizes.{Sizes}
 use Rattle.torus.specs.declared.Place.{Place}
 use Rattle.torus.specs.Geometry.{node_at, OnTorus}

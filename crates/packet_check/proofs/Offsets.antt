@@ -7,13 +7,15 @@ use Prim.Native.Nat.{ℕ, ◌+◌, ◌*◌, ◌-◌, ◌%◌, ◌<◌, ◌≤◌
 use native.Mathlib.Decide.{dec_lt, ℕ_discrete}
 use native.Mathlib.Omega.{arith}
 use lib.Dec.{T, leb, ltb, leb→le, le→leb, ltb→lt, lt→ltb}
-use Rattle.base.specs.Tests.{and_l, and_r, and_i}
-use Rattle.base.specs.Bools.{same_test}
-use Rattle.base.specs.Bits.{bit, bit-row}
+use Rattle.base.proofs.Tests.{and_l, and_r, and_i}
+use Rattle.base.proofs.Bools.{same_test}
+use Rattle.base.specs.Bits.{bit}
+use Rattle.base.proofs.Bits.{bit-row}
 use Rattle.base.specs.Digits.{digit}
 use Rattle.network.specs.Sizes.{shape_of, sizes_in_range, plus, minus}
 use Rattle.network.specs.Packet.{fields, offset_field, signed, forward, backward, offset, hops, offset_values}
-use Rattle.network.specs.PacketLaws.{half_offsets, signed-small, signed-large, hops-plus, hops-minus}
+use Rattle.network.specs.PacketLaws.{half_offsets}
+use Rattle.network.proofs.PacketLaws.{signed-small, signed-large, hops-plus, hops-minus}
 use Rattle.torus.specs.GeometryLaws.{moved-is}
 use Rattle.network.specs.declared.Sizes.{Sizes}
 use Rattle.packet_check.specs.PacketLimits.{limit, OneWay, below_both}

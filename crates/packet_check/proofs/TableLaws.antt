@@ -12,7 +12,7 @@ use lib.Seq.{get_or-set_same, get_or-set_other}
 use Rattle.network.specs.PacketLaws.{half_offsets}
 use Rattle.base.specs.Digits.{weight}
 use Rattle.network.specs.Sizes.{shape_of, sizes_in_range, size, queues}
-use Rattle.network.specs.TorusLaws.{in_range-size}
+use Rattle.network.proofs.TorusLaws.{in_range-size}
 use Rattle.network.specs.declared.Sizes.{Sizes}
 use Rattle.packet_check.specs.Tables.{ring_words, dimension_words, passing, Part, PartWritten, RingTable, DimensionPart}
 use Rattle.packet_check.proofs.Offsets.{moved-above}

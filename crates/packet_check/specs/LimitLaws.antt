@@ -8,15 +8,19 @@ use Rattle.std.proofs.Math.Decide.{ℕ_discrete, dec_lt}
 use native.Mathlib.Omega.{arith}
 use borrow.Author.Tests.{eq-eqb, ne_eqb, lt-ltb, le-ltb}
 use Rattle.std.proofs.Math.Dec.{ltb, eqb}
-use Rattle.base.specs.Tests.{all_pass, EachPasses, clauses-of, clauses-by, all-at, all-by, and_l, and_r, and_i, T_true, passed?, T_false}
-use Rattle.base.specs.Bools.{same_test}
+use Rattle.base.specs.Tests.{all_pass, EachPasses}
+use Rattle.base.proofs.Tests.{clauses-of, clauses-by, all-at, all-by, and_l, and_r, and_i, T_true, passed?, T_false}
+use Rattle.base.proofs.Bools.{same_test}
 use Rattle.network.specs.Sizes.{Shape, shape_of, sizes_in_range, size, nodes, dimensions, directions, dimension_of, direction_of, is_escape, is_plus, plus, minus, injection_queue}
 use Rattle.network.specs.Packet.{destination, spare, upper_spare, distance, hops}
-use Rattle.network.specs.PacketLaws.{half_offsets, one_way, distance_is, hops-le, dimension-lt}
+use Rattle.network.specs.PacketLaws.{half_offsets}
+use Rattle.network.proofs.PacketLaws.{one_way, distance_is, hops-le, dimension-lt}
 use Rattle.network.specs.Torus.{moved_by}
-use Rattle.network.specs.TorusLaws.{Torus, sizes-torus, size-pos, in_range-size, moved_by-lt}
+use Rattle.network.specs.TorusLaws.{Torus}
+use Rattle.network.proofs.TorusLaws.{sizes-torus, size-pos, in_range-size, moved_by-lt}
 use Rattle.network.specs.Check.{longest, is_queue_of, reach, opposite, spare_clear, upper_spare_clear, packet_fits}
-use Rattle.network.specs.CheckLaws.{PacketFits, packet-of, packet-by, eq-T, reach-least, reach-other, opposite-dimension, opposite-lt}
+use Rattle.network.specs.CheckLaws.{PacketFits}
+use Rattle.network.proofs.CheckLaws.{packet-of, packet-by, eq-T, reach-least, reach-other, opposite-dimension, opposite-lt}
 use Rattle.network.specs.declared.Sizes.{Sizes}
 use Rattle.packet_check.specs.PacketLimits.{spares_clear, limit, below_both, below_along, below_limits}
 

@@ -4,10 +4,11 @@ use mathlib.Core.List.{List}
 use Prim.Native.Nat.{ℕ, ◌+◌, ◌*◌, ◌<◌, ◌≤◌}
 use native.Mathlib.Omega.{arith}
 use lib.ListN.{length, get_or, drop}
-use Rattle.base.specs.Sums.{sum_of, sum_of-most, sum-from, sum-end}
+use Rattle.base.specs.Sums.{sum_of}
+use Rattle.base.proofs.Sums.{sum_of-most, sum-from, sum-end}
 use Rattle.network.specs.Sizes.{most_chunks, largest_capacity}
 use Rattle.network.specs.Packet.{chunks}
-use Rattle.network.specs.PacketLaws.{chunks-most}
+use Rattle.network.proofs.PacketLaws.{chunks-most}
 
 -- one packet more
 pub chunks-more : (ps : List ℕ) (i sum c : ℕ) → sum + sum_of chunks (drop i ps) ≡ sum_of chunks ps → i < length ps → c ≡ chunks (get_or ps i 0)

@@ -6,14 +6,15 @@ use Prim.Native.Nat.{ℕ, zero, suc, ◌+◌, ◌*◌, ◌-◌, ◌<◌, ◌≤�
 use native.Mathlib.Nat.{zero-mul, suc-mul, mul-le-mul, add-suc}
 use native.Mathlib.Omega.{arith}
 use borrow.Author.Tests.{ne_eqb, lt-ltb, le-ltb}
-use Rattle.base.specs.Sums.{sum_below, sum-fewer, sum-most}
+use Rattle.base.specs.Sums.{sum_below}
+use Rattle.base.proofs.Sums.{sum-fewer, sum-most}
 use lib.Dec.{T}
 use Rattle.network.specs.declared.Sizes.{Sizes}
 use Rattle.network.specs.Sizes.{Shape, shape_of, sizes_in_range, nodes, most_nodes, most_chunks, largest_capacity, queues, directions, injection_queue, adaptive_queue, escape_queue, capacity}
-use Rattle.network.specs.SizesLaws.{range-of, capacity-most}
-use Rattle.network.specs.TorusLaws.{sizes-nodes}
+use Rattle.network.proofs.SizesLaws.{range-of, capacity-most}
+use Rattle.network.proofs.TorusLaws.{sizes-nodes}
 use Rattle.network.specs.Layout.{header_words, queue_length, node_words, queue_end}
-use Rattle.network.specs.LayoutLaws.{node-words, end-node}
+use Rattle.network.proofs.LayoutLaws.{node-words, end-node}
 
 -- the capacity by the kind of the queue
 pub capacity-injection : (S : Shape) (q : ℕ) → q ≡ 0 → capacity S q ≡ S.injection

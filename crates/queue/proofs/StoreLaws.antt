@@ -8,7 +8,7 @@ use native.Mathlib.Omega.{arith}
 use lib.ListN.{length, get_or, take, drop, set, replicate, length-append, length-drop}
 use lib.Seq.{paste, paste-zero, paste-suc, length_paste_head, append_snoc, set-append_seam, take-append_seam, drop-append_seam, drop-cons, get_or-append-add, get_or-drop, get_or-take}
 use Rattle.network.specs.Layout.{queue_words, count_of, packets_of}
-use Rattle.network.specs.LayoutLaws.{queue_words-packets_of, length-packets_of}
+use Rattle.network.proofs.LayoutLaws.{queue_words-packets_of, length-packets_of}
 use Rattle.network.specs.Refusals.{head}
 use Rattle.queue.specs.Queue.{IsQueue, slots}
 

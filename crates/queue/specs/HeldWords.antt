@@ -2,11 +2,12 @@
 -- the two words; the packets; the words at the place that the code computes. Assumes nothing.
 use Rattle.std.specs.Prelude.{◌≡◌, refl, List, [], ◌∷◌, ℕ, zero, suc, ◌+◌, ◌-◌, ◌<◌, ◌≤◌, T, length, get_or, take, drop}
 use Rattle.std.proofs.Common.{ap, ap₂, sym, ◌∙◌, arith, get_or-take, get_or-drop, take-take, drop-drop}
-use Rattle.base.specs.Parts.{get_or-span}
+use Rattle.base.proofs.Parts.{get_or-span}
 use Rattle.network.specs.Sizes.{Shape, shape_of, sizes_in_range, nodes, queues, capacity}
-use Rattle.network.specs.SizesLaws.{range-of, capacity-pos}
+use Rattle.network.proofs.SizesLaws.{range-of, capacity-pos}
 use Rattle.network.specs.Layout.{queue_start, queue_end, queue_length, queue_part, count_of, packets_of, held}
-use Rattle.network.specs.LayoutLaws.{Fits, end-start, end-length, length-queue_part, length-packets_of, count_word}
+use Rattle.network.specs.LayoutLaws.{Fits}
+use Rattle.network.proofs.LayoutLaws.{end-start, end-length, length-queue_part, length-packets_of, count_word}
 use Rattle.network.specs.CheckLaws.{QueueFits}
 use Rattle.network.specs.Refusals.{head}
 use Rattle.network.specs.declared.Sizes.{Sizes}

@@ -9,7 +9,8 @@ use Rattle.base.specs.Tests.{all_of}
 use Rattle.base.specs.Parts.{span, splice}
 use Rattle.network.specs.Sizes.{Shape, sizes_in_range, nodes, queues, capacity}
 use Rattle.network.specs.Layout.{queue_length, queue_start, queue_end, need, queue_words, queue_part, count_of, packets_of, unused_of, held, put_queue}
-use Rattle.network.specs.LayoutLaws.{Fits, start-end, end-length, length-queue_part, length-packets_of, count_of-queue_words, unused-zero, part-put-same, part-put-other, length-put}
+use Rattle.network.specs.LayoutLaws.{Fits}
+use Rattle.network.proofs.LayoutLaws.{start-end, end-length, length-queue_part, length-packets_of, count_of-queue_words, unused-zero, part-put-same, part-put-other, length-put}
 use Rattle.network.specs.CheckLaws.{Network}
 use Rattle.network.specs.Refusals.{head}
 use Rattle.queue.specs.Queue.{IsQueue, QueueAt, CheckedQueue, slots}

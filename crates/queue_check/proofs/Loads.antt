@@ -8,11 +8,12 @@ use native.Mathlib.Omega.{arith}
 use borrow.Author.Tests.{le-leb, lt-leb, lt-ltb, le-ltb}
 use lib.Dec.{leb, ltb}
 use lib.ListN.{length, take, drop}
-use Rattle.base.specs.Sums.{sum_of, sum_of-ones}
+use Rattle.base.specs.Sums.{sum_of}
+use Rattle.base.proofs.Sums.{sum_of-ones}
 use Rattle.network.specs.Sizes.{is_adaptive, largest_capacity}
 use Rattle.network.specs.Packet.{chunks}
 use Rattle.network.specs.Layout.{count_of, packets_of, load}
-use Rattle.network.specs.LayoutLaws.{load_one, load-chunks}
+use Rattle.network.proofs.LayoutLaws.{load_one, load-chunks}
 use Rattle.queue.specs.Queue.{slots}
 use Rattle.queue_check.proofs.Tallies.{packets-length}
 

@@ -10,7 +10,7 @@ use lib.ListN.{length, take, drop}
 use lib.Seq.{drop-drop}
 use Rattle.base.specs.Tests.{all_of}
 use Rattle.base.specs.Sums.{sum_of}
-use Rattle.base.specs.Bools.{and-stop, and-on}
+use Rattle.base.proofs.Bools.{and-stop, and-on}
 use Rattle.network.specs.Sizes.{Shape, capacity}
 use Rattle.network.specs.Packet.{work}
 use Rattle.network.specs.Layout.{count_of, packets_of, unused_of, queue_length, load}

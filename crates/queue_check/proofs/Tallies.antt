@@ -11,13 +11,15 @@ use native.Mathlib.Omega.{arith}
 use lib.ListN.{length, get_or, drop, drop_of_length-le}
 use lib.Seq.{drop-cons, get_or-take, get_or-drop}
 use Rattle.base.specs.Tests.{all_below, all_of}
-use Rattle.base.specs.Sums.{sum_below, sum_of, sum-from, sum-end}
-use Rattle.base.specs.Bools.{and-stop, and-on, fails-at}
+use Rattle.base.specs.Sums.{sum_below, sum_of}
+use Rattle.base.proofs.Sums.{sum-from, sum-end}
+use Rattle.base.proofs.Bools.{and-stop, and-on, fails-at}
 use Rattle.network.specs.Sizes.{dimensions, largest_capacity}
 use Rattle.network.specs.Packet.{work}
-use Rattle.network.specs.PacketLaws.{half_offsets, hops_left-most}
+use Rattle.network.specs.PacketLaws.{half_offsets}
+use Rattle.network.proofs.PacketLaws.{hops_left-most}
 use Rattle.network.specs.Layout.{count_of, packets_of}
-use Rattle.network.specs.LayoutLaws.{length-packets_of}
+use Rattle.network.proofs.LayoutLaws.{length-packets_of}
 use Rattle.queue_check.specs.declared.Tally.{Tally}
 use Rattle.queue_check.specs.QueueTally.{tally}
 use Rattle.queue_check.specs.TallyLaws.{Passed, tally-yes, tally-no}

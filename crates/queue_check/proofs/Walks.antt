@@ -10,15 +10,17 @@ use native.Mathlib.Omega.{arith}
 use lib.Dec.{T}
 use lib.ListN.{length, take, drop, replicate, length-take, length-drop}
 use Rattle.base.specs.Tests.{all_below}
-use Rattle.base.specs.Sums.{sum_below, sum_of, sum-most}
+use Rattle.base.specs.Sums.{sum_below, sum_of}
+use Rattle.base.proofs.Sums.{sum-most}
 use Rattle.base.specs.Parts.{span}
 use Rattle.network.specs.Sizes.{Shape, shape_of, sizes_in_range, dimensions, nodes, most_nodes, queues, capacity, largest_capacity}
-use Rattle.network.specs.SizesLaws.{range-of, capacity-most}
+use Rattle.network.proofs.SizesLaws.{range-of, capacity-most}
 use Rattle.network.specs.Packet.{work}
 use Rattle.network.specs.Layout.{header_words, need, node_words, queue_start, queue_end, queue_length, queue_part, count_of, packets_of, held, total, taken}
-use Rattle.network.specs.LayoutLaws.{Fits, end-next, end-length, length-queue_part}
+use Rattle.network.specs.LayoutLaws.{Fits}
+use Rattle.network.proofs.LayoutLaws.{end-next, end-length, length-queue_part}
 use Rattle.network.specs.Check.{queue_fits, queues_fit, packets_held, work_left}
-use Rattle.network.specs.TorusLaws.{sizes-nodes}
+use Rattle.network.proofs.TorusLaws.{sizes-nodes}
 use Rattle.torus.specs.declared.Place.{Place}
 use Rattle.torus.specs.Geometry.{node_at, OnTorus, WalkTo}
 use Rattle.torus.specs.GeometryLaws.{walk_start, walk-next}

@@ -10,7 +10,7 @@ use lib.Bits.{bit_and, bit_or, or_add_and, and_le_r}
 use lib.Dec.{eqb, eqb-zero-suc, eqb-suc-zero}
 use lib.ListN.{length, get_or, drop}
 use Rattle.base.specs.Tests.{all_of}
-use Rattle.base.specs.Bools.{and-stop, and-on}
+use Rattle.base.proofs.Bools.{and-stop, and-on}
 use Rattle.queue_check.proofs.Tallies.{all_from, all_end}
 
 -- a test for 0, either way round

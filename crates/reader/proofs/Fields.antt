@@ -12,7 +12,8 @@ use lib.Seq.{drop-cons, drop-length, drop-drop}
 use borrow.Author.Tests.{eq-eqb, ne_eqb}
 use Rattle.sheet.specs.Text.{comma}
 use Rattle.sheet.specs.Commands.{up_to, first_field, later_fields}
-use Rattle.sheet.specs.Fields.{up_to-stop, up_to-other, end_from, field_at, field-up_to, end-within, end-stops}
+use Rattle.sheet.specs.Fields.{end_from, field_at}
+use Rattle.sheet.proofs.Fields.{up_to-stop, up_to-other, field-up_to, end-within, end-stops}
 use Rattle.reader.specs.Reading.{Separator}
 
 -- the end of the field that starts at a place is the end seen from a later place in it

@@ -15,7 +15,7 @@ use Rattle.reader.specs.declared.Numbers.{Numbers}
 use Rattle.sheet.specs.Lines.{line_limit}
 use Rattle.sheet.specs.Commands.{first_field, later_fields, ten, largest_number, value, is_number, command_with, well_formed, command_of}
 use Rattle.sheet.specs.Text.{comma}
-use Rattle.sheet.specs.Fields.{up_to-length, up_to-take}
+use Rattle.sheet.proofs.Fields.{up_to-length, up_to-take}
 use Rattle.reader.specs.Reading.{Separator, first_numbers, NumbersOf}
 use Rattle.reader.proofs.Fields.{later-behind, end-separator}
 

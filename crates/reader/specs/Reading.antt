@@ -5,7 +5,8 @@ use Rattle.std.specs.Prelude.{Bool, ◌&&◌, List, [], ◌∷◌, map, ℕ, ◌
 use Rattle.std.proofs.Math.Bool.{true, false, cond}
 use Rattle.std.proofs.Common.{arith, leb-true}
 use Rattle.std.proofs.Math.Dec.{T, leb}
-use Rattle.base.specs.Tests.{all_of, and_r, T_true, true-T}
+use Rattle.base.specs.Tests.{all_of}
+use Rattle.base.proofs.Tests.{and_r, T_true, true-T}
 use Rattle.reader.specs.declared.Number.{Number}
 use Rattle.reader.specs.declared.Numbers.{Numbers}
 use Rattle.sheet.specs.Text.{comma}

@@ -9,7 +9,8 @@ use borrow.Author.Tests.{eq-eqb, ne_eqb, lt-ltb, ltb-true, eqb-false}
 use Rattle.network.specs.declared.Found.{Found}
 use Rattle.network.specs.Sizes.{Shape, nodes, queues, directions, direction_of, most_nodes}
 use Rattle.network.specs.Torus.{neighbour}
-use Rattle.network.specs.TorusLaws.{Torus, neighbour-lt}
+use Rattle.network.specs.TorusLaws.{Torus}
+use Rattle.network.proofs.TorusLaws.{neighbour-lt}
 use Rattle.network.specs.Check.{opposite}
 use Rattle.network.specs.CheckLaws.{Network}
 use Rattle.network.specs.RefusalLaws.{Permitted}

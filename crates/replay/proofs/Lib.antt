@@ -1,1 +1,7 @@
 -- Proofs of the replay.
+pub mod Rows
+pub mod ReplayLaws
+pub mod Whole
+pub mod FillsLaws
+pub mod StepsLaws
+pub mod Dumps

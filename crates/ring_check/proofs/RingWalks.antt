@@ -10,19 +10,23 @@ use native.Mathlib.Nat.{add-zero, eq-or-lt_of_le, le_of_suc-le-suc, not-suc-le-z
 use native.Mathlib.Omega.{arith}
 use lib.Dec.{T, ltb, ltb→lt, lt→ltb}
 use lib.ListN.{length, get_or, take, drop, length-take, length-drop}
-use Rattle.base.specs.Tests.{all_below, some_below, all-at, all-by, some_at, some-by, T_true, true-T}
-use Rattle.base.specs.Parts.{get_or-span}
-use Rattle.base.specs.Bools.{same_test, fails-at, passes_at}
-use Rattle.base.specs.Digits.{product, digit, put_digit, weight, rotate, digit_lt, product-pos, weight-pos, above, product-weight, around, digit-around, put-around, around-lt, is-around, above-lt}
+use Rattle.base.specs.Tests.{all_below, some_below}
+use Rattle.base.proofs.Tests.{all-at, all-by, some_at, some-by, T_true, true-T}
+use Rattle.base.proofs.Parts.{get_or-span}
+use Rattle.base.proofs.Bools.{same_test, fails-at, passes_at}
+use Rattle.base.specs.Digits.{product, digit, put_digit, weight, rotate, above, around}
+use Rattle.base.proofs.Digits.{digit_lt, product-pos, weight-pos, product-weight, digit-around, put-around, around-lt, is-around, above-lt}
 use Rattle.network.specs.Sizes.{Shape, shape_of, size, nodes, dimensions, directions, dimension_of, is_plus, queues, escape_queue, capacity, is_adaptive}
-use Rattle.network.specs.SizesLaws.{escape-slots, escape-capacity}
-use Rattle.network.specs.PacketLaws.{dimension-lt}
+use Rattle.network.proofs.SizesLaws.{escape-slots, escape-capacity}
+use Rattle.network.proofs.PacketLaws.{dimension-lt}
 use Rattle.network.specs.Torus.{stride, along}
-use Rattle.network.specs.TorusLaws.{Torus, size-pos, sizes-torus}
+use Rattle.network.specs.TorusLaws.{Torus}
+use Rattle.network.proofs.TorusLaws.{size-pos, sizes-torus}
 use Rattle.network.specs.Layout.{need, node_words, queue_start, queue_end, queue_length, queue_part, count_of, packets_of, held}
-use Rattle.network.specs.LayoutLaws.{Fits, end-node, end-start, length-queue_part}
+use Rattle.network.specs.LayoutLaws.{Fits}
+use Rattle.network.proofs.LayoutLaws.{end-node, end-start, length-queue_part}
 use Rattle.network.specs.Check.{has_room, ring_has_room}
-use Rattle.network.specs.CheckLaws.{has-room-held}
+use Rattle.network.proofs.CheckLaws.{has-room-held}
 use Rattle.network.specs.declared.Sizes.{Sizes}
 use Rattle.queue.specs.Queue.{EnoughWords}
 use Rattle.ring_check.specs.RingLines.{Steps, RingsIn, rings_of, ring_room, group_room, groups_room}

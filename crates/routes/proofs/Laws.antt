@@ -8,13 +8,14 @@ use Prim.Native.Nat.{ℕ, suc, ◌+◌, ◌<◌, ◌≤◌}
 use borrow.Author.Tests.{eq-eqb, ne_eqb}
 use lib.Dec.{eqb}
 use lib.ListN.{length, get_or, drop}
-use Rattle.base.specs.Tests.{elem, EachBelow, each_at, each_from}
+use Rattle.base.specs.Tests.{elem, EachBelow}
+use Rattle.base.proofs.Tests.{each_at, each_from}
 use Rattle.network.specs.declared.Sign.{Sign}
 use Rattle.network.specs.Sizes.{queues}
 use Rattle.network.specs.Packet.{offset}
 use Rattle.network.specs.Routes.{routes}
 use Rattle.network.specs.Selection.{sign, adaptive_x, adaptive_y, adaptive_z, in_turn, last_case, selection, selected}
-use Rattle.network.specs.SelectionLaws.{selection-routes}
+use Rattle.network.proofs.SelectionLaws.{selection-routes}
 use Rattle.routes.specs.Lines.{last_selection_line, applies, outputs_from, unless_zero}
 use Rattle.routes.specs.LinesLaws.{line_taken, line-passed, lines_end}
 

@@ -3,7 +3,8 @@ use Rattle.std.specs.Prelude.{◌≡◌, Bool, true, false, cond, List, [], ◌�
 use Rattle.std.proofs.Common.{ap, sym, ◌∙◌, add-zero, zero-add, add-suc, suc-add, not-suc-le-zero, le_of_suc-le-suc, add-one, drop-cons}
 use Rattle.std.proofs.Math.Dec.{eqb_refl}
 use Rattle.std.proofs.Math.Seq.{drop-length}
-use Rattle.base.specs.Tests.{elem, or_l, or_r}
+use Rattle.base.specs.Tests.{elem}
+use Rattle.base.proofs.Tests.{or_l, or_r}
 use Rattle.routes.specs.Lines.{applies, outputs_from}
 
 step : (r : List ℕ) (k : ℕ) → k < length r

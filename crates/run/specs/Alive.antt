@@ -9,20 +9,23 @@ use Rattle.std.proofs.Math.Nat.{le_step}
 use Rattle.std.proofs.Math.Decide.{ℕ_discrete, dec_lt}
 use native.Mathlib.Omega.{arith}
 use Rattle.network.specs.Sizes.{Shape, size, nodes, queues, directions, dimension_of, direction_of, escape_queue, capacity}
-use Rattle.network.specs.SizesLaws.{range-of, escape-capacity}
+use Rattle.network.proofs.SizesLaws.{range-of, escape-capacity}
 use Rattle.network.specs.Packet.{distance, hops, heading, hops_left}
-use Rattle.network.specs.PacketLaws.{dimension-lt, heading-lt, heading-dimension, heading-of}
+use Rattle.network.proofs.PacketLaws.{dimension-lt, heading-lt, heading-dimension, heading-of}
 use Rattle.network.specs.Torus.{along, neighbour}
-use Rattle.network.specs.TorusLaws.{Torus, along-lt, along-add, along-zero, along-round, neighbour-lt, size-pos}
+use Rattle.network.specs.TorusLaws.{Torus}
+use Rattle.network.proofs.TorusLaws.{along-lt, along-add, along-zero, along-round, neighbour-lt, size-pos}
 use Rattle.network.specs.Layout.{held, taken}
-use Rattle.network.specs.LayoutLaws.{taken_none, taken-some, some-held}
+use Rattle.network.proofs.LayoutLaws.{taken_none, taken-some, some-held}
 use Rattle.network.specs.Check.{packets_held, opposite}
-use Rattle.network.specs.CheckLaws.{PacketFits, Network, both_zero}
+use Rattle.network.specs.CheckLaws.{PacketFits, Network}
+use Rattle.network.proofs.CheckLaws.{both_zero}
 use Rattle.network.specs.Routes.{deliver, target, load_needed, free_load}
-use Rattle.network.specs.RoutesLaws.{EscapeRoute, escape-route, arrived-route, free-load-is, needed-escape}
+use Rattle.network.specs.RoutesLaws.{EscapeRoute}
+use Rattle.network.proofs.RoutesLaws.{escape-route, arrived-route, free-load-is, needed-escape}
 use Rattle.network.specs.Refusals.{head}
 use Rattle.network.specs.RefusalLaws.{Permitted}
-use Rattle.network.specs.AfterLaws.{head-fits}
+use Rattle.network.proofs.AfterLaws.{head-fits}
 use Rattle.run.specs.Rings.{Room, RingRoom, ring_of, escape-direction, escape-lt, escape-is}
 
 -- a number below n at which f is not 0, or f is 0 at all of them

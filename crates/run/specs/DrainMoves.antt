@@ -15,12 +15,14 @@ use Rattle.network.specs.Check.{packets_held}
 use Rattle.network.specs.CheckLaws.{Network}
 use Rattle.network.specs.Routes.{deliver}
 use Rattle.network.specs.Refusals.{network_refusal, head}
-use Rattle.network.specs.RefusalLaws.{Permitted, network-passes}
-use Rattle.network.specs.FirstLaws.{Finds, nothing, named, first_finds}
+use Rattle.network.specs.RefusalLaws.{Permitted}
+use Rattle.network.proofs.RefusalLaws.{network-passes}
+use Rattle.network.specs.FirstLaws.{Finds, nothing, named}
+use Rattle.network.proofs.FirstLaws.{first_finds}
 use Rattle.network.specs.Calls.{NamedMove, move_of, Delivery, Progress, after_move, first_move, stopped, one_more, deliver_next, move_next, drain_from}
 use Rattle.network.specs.Run.{Leads}
 use Rattle.network.specs.FirstMoves.{ByFirst}
-use Rattle.network.specs.FirstMovesLaws.{search-named, by-first-leads, by-first-one, by-first-append}
+use Rattle.network.proofs.FirstMovesLaws.{search-named, by-first-leads, by-first-one, by-first-append}
 use Rattle.run.specs.Step.{Ran, ran-none, ran_then, hands_out, step}
 
 -- moves that led from w to where r has come

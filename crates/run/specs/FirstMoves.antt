@@ -5,9 +5,9 @@ use Rattle.std.proofs.Common.{eq-eqb, ne_eqb}
 use Rattle.network.specs.Layout.{shape}
 use Rattle.network.specs.CheckLaws.{Network}
 use Rattle.network.specs.Refusals.{network_refusal}
-use Rattle.network.specs.RefusalLaws.{network-passed}
+use Rattle.network.proofs.RefusalLaws.{network-passed}
 use Rattle.network.specs.Calls.{drained, drain_words}
-use Rattle.network.specs.CallLaws.{torus}
+use Rattle.network.proofs.CallLaws.{torus}
 use Rattle.network.specs.Run.{Call, move, drain, outcome}
 use Rattle.network.specs.FirstMoves.{ByFirst, DrainsByFirst}
 use Rattle.run.specs.DrainMoves.{drain-by-first}

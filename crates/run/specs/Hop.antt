@@ -5,11 +5,13 @@ use Rattle.std.proofs.Common.{ap, sym, ◌∙◌, inl, inr, arith, ltb→lt}
 use Rattle.std.proofs.Math.Decide.{ℕ_discrete}
 use Rattle.network.specs.Sizes.{Shape, nodes, directions, dimensions, dimension_of, direction_of, is_escape, injection_queue, adaptive_queue, escape_queue}
 use Rattle.network.specs.Packet.{spare_field, destination_field, upper_spare_field, destination, spare, upper_spare, distance, hops, heading, hop}
-use Rattle.network.specs.PacketLaws.{dimension-lt, field-hop, distance-hop-same, distance-hop-other, hops-hop-same, hops-le, heading-dimension, heading-lt, hops-heading}
+use Rattle.network.proofs.PacketLaws.{dimension-lt, field-hop, distance-hop-same, distance-hop-other, hops-hop-same, hops-le, heading-dimension, heading-lt, hops-heading}
 use Rattle.network.specs.Torus.{neighbour}
-use Rattle.network.specs.TorusLaws.{Torus, moved_by-hop}
+use Rattle.network.specs.TorusLaws.{Torus}
+use Rattle.network.proofs.TorusLaws.{moved_by-hop}
 use Rattle.network.specs.Check.{longest, reach, opposite}
-use Rattle.network.specs.CheckLaws.{PacketFits, reach-least, reach-most, reach-other, opposite-dimension, opposite-lt, only-way}
+use Rattle.network.specs.CheckLaws.{PacketFits}
+use Rattle.network.proofs.CheckLaws.{reach-least, reach-most, reach-other, opposite-dimension, opposite-lt, only-way}
 use Rattle.network.specs.RoutesLaws.{Onward}
 use Rattle.run.specs.Rings.{escape-direction}
 

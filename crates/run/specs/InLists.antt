@@ -3,14 +3,15 @@ use Rattle.std.specs.Prelude.{◌≡◌, refl, List, [], ◌∷◌, map, ℕ, su
 use Rattle.std.proofs.Math.Decide.{ℕ_discrete}
 use Rattle.std.proofs.Common.{arith}
 use Rattle.std.proofs.lemmas.List.{length-map}
-use Rattle.base.specs.Rearrangement.{Rearranged, count-append}
+use Rattle.base.specs.Rearrangement.{Rearranged}
+use Rattle.base.proofs.Rearrangement.{count-append}
 use Rattle.network.specs.Packet.{label}
 use Rattle.network.specs.Layout.{shape}
 use Rattle.network.specs.Refusals.{network_refusal}
 use Rattle.network.specs.Calls.{Delivery}
 use Rattle.network.specs.Run.{Call, Outcome, run, AfterRun, Demand3}
 use Rattle.network.specs.InLists.{all_held, words_of, InLists}
-use Rattle.network.specs.InListsLaws.{held_number, held-with-is, handed-with-is, at-home-is, leads-is, some-move-is, all-kept-is}
+use Rattle.network.proofs.InListsLaws.{held_number, held-with-is, handed-with-is, at-home-is, leads-is, some-move-is, all-kept-is}
 use Rattle.run.specs.Theorem.{demand3}
 
 -- what holds after a run, in lists

@@ -7,15 +7,18 @@ use Rattle.base.specs.Tests.{elem}
 use Rattle.network.specs.declared.Found.{Found}
 use Rattle.network.specs.Sizes.{Shape, nodes, queues, directions, direction_of}
 use Rattle.network.specs.Torus.{neighbour}
-use Rattle.network.specs.TorusLaws.{Torus, neighbour-lt}
+use Rattle.network.specs.TorusLaws.{Torus}
+use Rattle.network.proofs.TorusLaws.{neighbour-lt}
 use Rattle.network.specs.Layout.{held, taken}
 use Rattle.network.specs.Check.{opposite}
-use Rattle.network.specs.CheckLaws.{Network, neighbour-back}
+use Rattle.network.specs.CheckLaws.{Network}
+use Rattle.network.proofs.CheckLaws.{neighbour-back}
 use Rattle.network.specs.Routes.{routes, deliver, target, free_load, load_needed}
-use Rattle.network.specs.RoutesLaws.{free-load-fewer}
+use Rattle.network.proofs.RoutesLaws.{free-load-fewer}
 use Rattle.network.specs.Refusals.{head}
 use Rattle.network.specs.RefusalLaws.{Permitted}
-use Rattle.network.specs.FirstLaws.{Finds, nothing, named, Its, queue-finds, queue-nothing, search-at, search-nowhere}
+use Rattle.network.specs.FirstLaws.{Finds, nothing, named, Its}
+use Rattle.network.proofs.FirstLaws.{queue-finds, queue-nothing, search-at, search-nowhere}
 use Rattle.network.specs.Calls.{after_move, first_in_queue, first_in_node, first_move}
 use Rattle.run.specs.Step.{Elsewhere, step-elsewhere}
 

@@ -3,8 +3,10 @@
 use Rattle.std.specs.Prelude.{◌≡◌, refl, List, [], ◌∷◌, ◌++◌, ℕ, ◌≤◌, T, drop}
 use Rattle.std.proofs.Common.{ap, sym}
 use Rattle.std.proofs.Math.Path.{fun_ext}
-use Rattle.base.specs.Tests.{all_of, all_of-tail, all_of-append}
-use Rattle.base.specs.Sums.{sum_of, sum_of-ones}
+use Rattle.base.specs.Tests.{all_of}
+use Rattle.base.proofs.Tests.{all_of-tail, all_of-append}
+use Rattle.base.specs.Sums.{sum_of}
+use Rattle.base.proofs.Sums.{sum_of-ones}
 use Rattle.network.specs.Sizes.{Shape, capacity}
 use Rattle.network.specs.Layout.{held, taken, total}
 use Rattle.network.specs.Check.{packet_fits, packets_held}
@@ -22,7 +24,7 @@ all_of-rest f (p ∷ ps) t = all_of-tail f p ps t
 
 pub all_of-newest : (f : ℕ → mathlib.Core.Bool.Bool) (ps : List ℕ) (p : ℕ) → T (all_of f ps) → T (f p) → T (all_of f (ps ++ (p ∷ [])))
 unfolding all_of
-all_of-newest f ps p s t = all_of-append f ps (p ∷ []) s (Rattle.base.specs.Tests.and_i (f p) mathlib.Core.Bool.true t tt)
+all_of-newest f ps p s t = all_of-append f ps (p ∷ []) s (Rattle.base.proofs.Tests.and_i (f p) mathlib.Core.Bool.true t tt)
 
 -- the number of packets is the sum of one for each
 abbrev pub one : ℕ → ℕ

@@ -12,25 +12,31 @@ use native.Mathlib.Omega.{arith}
 use Rattle.std.proofs.Math.ListN.{length, get_or, replicate, length-append, length-replicate, get_or-replicate, get_or-append}
 use Rattle.std.proofs.Math.Seq.{get_or-append-add}
 use Rattle.base.specs.Tests.{all_of}
-use Rattle.base.specs.Sums.{sum_of, sum_below, sum-zero, sum_of-append, sum_of-one}
-use Rattle.base.specs.Parts.{span, length-span, get_or-span}
+use Rattle.base.specs.Sums.{sum_of, sum_below}
+use Rattle.base.proofs.Sums.{sum-zero, sum_of-append, sum_of-one}
+use Rattle.base.specs.Parts.{span}
+use Rattle.base.proofs.Parts.{length-span, get_or-span}
 use Rattle.network.specs.declared.Sizes.{Sizes}
 use Rattle.network.specs.Sizes.{Shape, shape_of, sized, size, sizes_in_range, nodes, queues, directions, dimensions, injection_queue, escape_queue, capacity, most_chunks}
-use Rattle.network.specs.SizesLaws.{range-of, capacity-pos}
+use Rattle.network.proofs.SizesLaws.{range-of, capacity-pos}
 use Rattle.network.specs.Packet.{destination_values, spare_field, destination_field, upper_spare_field, destination, spare, upper_spare, hops_left, work}
 use Rattle.network.specs.Torus.{along}
-use Rattle.network.specs.TorusLaws.{Torus, in_range-torus, in_range-size, in_range-nodes, along-lt}
+use Rattle.network.specs.TorusLaws.{Torus}
+use Rattle.network.proofs.TorusLaws.{in_range-torus, in_range-size, in_range-nodes, along-lt}
 use Rattle.network.specs.Layout.{header_words, shape, need, node_words, queue_start, queue_end, queue_words, queue_part, packets_of, held, taken, total, accepted, delivered, moves_made}
-use Rattle.network.specs.LayoutLaws.{start-header, start-end, end-start, end-need, packets_of-queue_words, load_one, taken_none, taken-same, taken-joined, total-change}
+use Rattle.network.proofs.LayoutLaws.{start-header, start-end, end-start, end-need, packets_of-queue_words, load_one, taken_none, taken-same, taken-joined, total-change}
 use Rattle.network.specs.Check.{reach, is_queue_of, packet_fits, ring_has_room, packets_held, work_left, most_accepted, most_work}
-use Rattle.network.specs.CheckLaws.{PacketFits, packet-by, Network}
-use Rattle.network.specs.SameWords.{same?, queue-stored}
+use Rattle.network.specs.CheckLaws.{PacketFits, Network}
+use Rattle.network.proofs.CheckLaws.{packet-by}
+use Rattle.network.proofs.SameWords.{same?, queue-stored}
 use Rattle.network.specs.Refusals.{network_refusal, make_refusal, offer_rules, offer_refusal}
-use Rattle.network.specs.RefusalLaws.{not-refused, neither, network-passed, network-passes, own-node-exactly}
-use Rattle.network.specs.OfferLaws.{ShortRings, field-offered, distance-offered, work-offered, moved_by-offered, hops-offered}
+use Rattle.network.proofs.RefusalLaws.{not-refused, neither, network-passed, network-passes, own-node-exactly}
+use Rattle.network.specs.OfferLaws.{ShortRings}
+use Rattle.network.proofs.OfferLaws.{field-offered, distance-offered, work-offered, moved_by-offered, hops-offered}
 use Rattle.network.specs.Calls.{empty_header, empty_network, make_words, offered, after_offer, offer_words}
 use Rattle.network.specs.AfterLaws.{OfferTaken}
-use Rattle.network.specs.CallLaws.{torus, Accepting, accepting, few-chunks, accepted-taken, offer-call, empty-length}
+use Rattle.network.specs.CallLaws.{Accepting}
+use Rattle.network.proofs.CallLaws.{torus, accepting, few-chunks, accepted-taken, offer-call, empty-length}
 use Rattle.run.specs.Queues.{fits_by, one, packets-sum, all_of-newest}
 use Rattle.run.specs.Rings.{Room, RingRoom, ring_of, ring-by, escape-lt}
 

@@ -4,18 +4,19 @@ use Rattle.std.specs.Prelude.{◌≡◌, ◌≢◌, Bool, cond, List, ℕ, ◌+�
 use Rattle.std.proofs.Common.{ap, sym, ◌∙◌, arith, ne_eqb, lt→ltb}
 use native.Mathlib.Nat.{mod-lt, mod-add-div', lt_of_le_of_lt}
 use Rattle.std.proofs.Math.Decide.{ℕ_discrete}
-use Rattle.base.specs.Tests.{some_at, some-by}
+use Rattle.base.proofs.Tests.{some_at, some-by}
 use Rattle.network.specs.Sizes.{Shape, size, nodes, queues, directions, dimension_of, direction_of, is_escape, escape_queue, capacity}
-use Rattle.network.specs.PacketLaws.{dimension-lt}
+use Rattle.network.proofs.PacketLaws.{dimension-lt}
 use Rattle.network.specs.Torus.{along, neighbour}
-use Rattle.network.specs.TorusLaws.{Torus, along-lt, along-add, along-rounds, along-round, size-pos}
+use Rattle.network.specs.TorusLaws.{Torus}
+use Rattle.network.proofs.TorusLaws.{along-lt, along-add, along-rounds, along-round, size-pos}
 use Rattle.network.specs.Layout.{load, taken}
-use Rattle.network.specs.LayoutLaws.{load-escape}
+use Rattle.network.proofs.LayoutLaws.{load-escape}
 use Rattle.network.specs.Check.{has_room, ring_has_room}
-use Rattle.network.specs.CheckLaws.{has-room-of, has-room-by}
-use Rattle.network.specs.SameWords.{same?}
+use Rattle.network.proofs.CheckLaws.{has-room-of, has-room-by}
+use Rattle.network.proofs.SameWords.{same?}
 use Rattle.network.specs.Routes.{deliver, load_needed, free_load, target}
-use Rattle.network.specs.RoutesLaws.{free-load-is, needed-escape}
+use Rattle.network.proofs.RoutesLaws.{free-load-is, needed-escape}
 use Rattle.network.specs.AfterLaws.{NotTarget}
 
 -- a free slot in one queue

@@ -6,24 +6,31 @@ use Rattle.std.proofs.Math.Path.{ap, subst}
 use Rattle.std.proofs.Common.{sym, ◌∙◌, inl, inr, zero-add, add-zero, le_refl, le_trans, le_of_eq, eq-eqb, ne_eqb, length-append}
 use Prim.Native.Nat.{ℕ, suc, ◌+◌, ◌*◌, ◌<◌, ◌≤◌}
 use native.Mathlib.Omega.{arith}
-use Rattle.base.specs.Tests.{all_of, all_of-append, and_i}
-use Rattle.base.specs.Sums.{sum_of, sum_of-append, sum_of-one}
+use Rattle.base.specs.Tests.{all_of}
+use Rattle.base.proofs.Tests.{all_of-append, and_i}
+use Rattle.base.specs.Sums.{sum_of}
+use Rattle.base.proofs.Sums.{sum_of-append, sum_of-one}
 use Rattle.network.specs.Sizes.{Shape, nodes, queues, dimensions, directions, dimension_of, direction_of, capacity}
 use Rattle.network.specs.Packet.{destination, hops, heading, hop, label, hops_left, work}
-use Rattle.network.specs.PacketLaws.{arrived-label, label-hop, hops-hop-le, work-hop}
+use Rattle.network.proofs.PacketLaws.{arrived-label, label-hop, hops-hop-le, work-hop}
 use Rattle.network.specs.Torus.{neighbour}
-use Rattle.network.specs.TorusLaws.{Torus, moved_by-here}
+use Rattle.network.specs.TorusLaws.{Torus}
+use Rattle.network.proofs.TorusLaws.{moved_by-here}
 use Rattle.network.specs.Layout.{shape, need, held, taken, total, accepted, delivered, moves_made}
-use Rattle.network.specs.LayoutLaws.{load-pos, load-hop, taken-same}
+use Rattle.network.proofs.LayoutLaws.{load-pos, load-hop, taken-same}
 use Rattle.network.specs.Check.{packet_fits, packets_held, work_left, most_work}
-use Rattle.network.specs.CheckLaws.{PacketFits, packet-by, Network, eq-T}
+use Rattle.network.specs.CheckLaws.{PacketFits, Network}
+use Rattle.network.proofs.CheckLaws.{packet-by, eq-T}
 use Rattle.network.specs.Routes.{deliver, target}
-use Rattle.network.specs.RoutesLaws.{Onward, route-of}
+use Rattle.network.specs.RoutesLaws.{Onward}
+use Rattle.network.proofs.RoutesLaws.{route-of}
 use Rattle.network.specs.Refusals.{head}
-use Rattle.network.specs.RefusalLaws.{Permitted, target-takes}
+use Rattle.network.specs.RefusalLaws.{Permitted}
+use Rattle.network.proofs.RefusalLaws.{target-takes}
 use Rattle.network.specs.Calls.{Delivery, after_move}
 use Rattle.network.specs.SameWords.{OtherQueue}
-use Rattle.network.specs.AfterLaws.{head-fits, onward-along, hopped, NotTarget, MoveMade, move-made, Role, is-source, is-target, is-neither, role, source-taken, target-taken, move-sum}
+use Rattle.network.specs.AfterLaws.{hopped, NotTarget, MoveMade, Role, is-source, is-target, is-neither}
+use Rattle.network.proofs.AfterLaws.{head-fits, onward-along, move-made, role, source-taken, target-taken, move-sum}
 use Rattle.network.specs.Run.{is_labelled, held_with, handed_with, hops_of, hops_with, at_destination}
 use Rattle.run.specs.Queues.{fits_by, one, packets-sum, all_of-rest, all_of-newest}
 use Rattle.run.specs.Rings.{Shifted, ring-kept}

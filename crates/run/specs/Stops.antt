@@ -17,11 +17,14 @@ use Rattle.network.specs.Check.{packets_held}
 use Rattle.network.specs.CheckLaws.{Network}
 use Rattle.network.specs.Routes.{deliver}
 use Rattle.network.specs.Refusals.{network_refusal, head}
-use Rattle.network.specs.RefusalLaws.{Permitted, network-passed, network-passes}
-use Rattle.network.specs.FirstLaws.{Finds, nothing, named, first_finds, first-nothing}
+use Rattle.network.specs.RefusalLaws.{Permitted}
+use Rattle.network.proofs.RefusalLaws.{network-passed, network-passes}
+use Rattle.network.specs.FirstLaws.{Finds, nothing, named}
+use Rattle.network.proofs.FirstLaws.{first_finds, first-nothing}
 use Rattle.network.specs.Calls.{NamedMove, move_of, Delivery, Progress, after_move, first_move, first_answer, stopped, one_more, deliver_next, move_next, drain_from, drained, drain_words, drain_answer, drained_moves, drained_delivered, drained_stop, found_move}
-use Rattle.network.specs.CallLaws.{torus}
-use Rattle.network.specs.DrainLaws.{Within, drain-within}
+use Rattle.network.proofs.CallLaws.{torus}
+use Rattle.network.specs.DrainLaws.{Within}
+use Rattle.network.proofs.DrainLaws.{drain-within}
 use Rattle.network.specs.Choices.{NextDelivers, DrainStops}
 use Rattle.run.specs.Step.{Ran, step}
 use Rattle.run.specs.Alive.{PermittedMove, alive}

@@ -7,21 +7,22 @@
 use Rattle.std.specs.Prelude.{◌≡◌, refl, ◌≢◌, Bool, true, false, cond, List, [], ◌∷◌, ◌++◌, map, ℕ, ◌+◌, ◌≤◌, eqb, length}
 use Rattle.std.proofs.Common.{ap, ap₂, sym, ◌∙◌, subst, arith, eq-eqb, ne_eqb, length-append}
 use Rattle.std.proofs.Math.Decide.{ℕ_discrete}
-use Rattle.base.specs.Sums.{sum_of, sum_of-least, sum_below, sum-zero}
+use Rattle.base.specs.Sums.{sum_of, sum_below}
+use Rattle.base.proofs.Sums.{sum_of-least, sum-zero}
 use Rattle.network.specs.declared.Moved.{Moved}
 use Rattle.network.specs.Sizes.{Shape, nodes, queues}
 use Rattle.network.specs.Packet.{work}
 use Rattle.network.specs.Layout.{shape, held, total}
-use Rattle.network.specs.LayoutLaws.{total-zero, some-held, total-part}
+use Rattle.network.proofs.LayoutLaws.{total-zero, some-held, total-part}
 use Rattle.network.specs.Check.{packets_held, work_left}
 use Rattle.network.specs.CheckLaws.{Network}
 use Rattle.network.specs.Routes.{deliver}
 use Rattle.network.specs.Refusals.{network_refusal, move_rules, move_refusal, head}
-use Rattle.network.specs.RefusalLaws.{network-passed, network-passes, neither, else_by-zero, permitted-of, permitted-by}
+use Rattle.network.proofs.RefusalLaws.{network-passed, network-passes, neither, else_by-zero, permitted-of, permitted-by}
 use Rattle.network.specs.Calls.{move_of, unless_refused, moved_number, Delivery, after_move, move_words, move_answer, moved_packets, drained, drain_words, drain_answer, drained_moves}
-use Rattle.network.specs.CallLaws.{torus}
+use Rattle.network.proofs.CallLaws.{torus}
 use Rattle.network.specs.Run.{Call, move, drain, Outcome, outcome, run, Leads, ledger_of, SomeMove, AfterRun, Demand3}
-use Rattle.network.specs.RunLaws.{drain-handed, run-kept, leads-none, leads_one, leads-append}
+use Rattle.network.proofs.RunLaws.{drain-handed, run-kept, leads-none, leads_one, leads-append}
 use Rattle.run.specs.Step.{Ran, ran-none, ran_then, hands_out, step}
 use Rattle.run.specs.Alive.{PermittedMove, alive}
 use Rattle.run.specs.DrainMoves.{drain-ran, drain-leads}

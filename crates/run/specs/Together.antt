@@ -5,23 +5,26 @@ use Rattle.std.specs.Prelude.{◌≡◌, refl, ◌↔◌, ◌≢◌, cond, ℕ, 
 use Rattle.std.proofs.Common.{ap, ap₂, sym, ◌∙◌, subst, arith, eq-eqb}
 use mathlib.Core.List.{List, [], ◌∷◌, ◌++◌, map, flat_map, append-nil, append_assoc}
 use Rattle.base.specs.Tests.{EachOf}
-use Rattle.base.specs.Rearrangement.{count, count_same, count-append, Rearranged, rearranged-each, rearranged-flat}
-use Rattle.base.specs.Different.{different-exactly}
+use Rattle.base.specs.Rearrangement.{count, Rearranged}
+use Rattle.base.proofs.Rearrangement.{count_same, count-append, rearranged-each, rearranged-flat}
+use Rattle.base.proofs.Different.{different-exactly}
 use Rattle.network.specs.declared.Moved.{Moved}
 use Rattle.network.specs.Sizes.{Shape}
 use Rattle.network.specs.Layout.{shape, held}
 use Rattle.network.specs.CheckLaws.{Network}
 use Rattle.network.specs.Routes.{deliver}
 use Rattle.network.specs.Refusals.{network_refusal, move_rules, move_refusal, head}
-use Rattle.network.specs.RefusalLaws.{network-passed, neither, else_by-zero, Permitted, permitted-of, permitted-by}
+use Rattle.network.specs.RefusalLaws.{Permitted}
+use Rattle.network.proofs.RefusalLaws.{network-passed, neither, else_by-zero, permitted-of, permitted-by}
 use Rattle.network.specs.Calls.{NamedMove, Delivery, move_answer, moved_packets}
-use Rattle.network.specs.CallLaws.{torus, move-call}
+use Rattle.network.proofs.CallLaws.{torus, move-call}
 use Rattle.network.specs.Choices.{Permits}
 use Rattle.network.specs.Run.{move, outcome, run, Leads, Demand3}
 use Rattle.network.specs.InLists.{as_moves}
-use Rattle.network.specs.InListsLaws.{leads-is}
+use Rattle.network.proofs.InListsLaws.{leads-is}
 use Rattle.network.specs.Together.{Place, same_place?, source, targets, sources, all_targets, queues_differ, sources_differ, targets_differ, Apart, outputs_differ, answered, moved, EitherOrder, same_move?, same_delivery?, answers, AnyOrder}
-use Rattle.network.specs.TogetherLaws.{sources-append, targets-append, differ-apart, AfterAll, after_none, same_head, still-permitted, after-one-more, apart-rearranged, same_end, same_target, outputs-differ}
+use Rattle.network.specs.TogetherLaws.{AfterAll}
+use Rattle.network.proofs.TogetherLaws.{sources-append, targets-append, differ-apart, after_none, same_head, still-permitted, after-one-more, apart-rearranged, same_end, same_target, outputs-differ}
 use Rattle.run.specs.Theorem.{demand3}
 
 -- One move after others -------------------------------------------------------------------------------------------------------------------

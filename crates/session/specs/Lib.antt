@@ -7,4 +7,3 @@ pub mod Listing
 pub mod Coming
 pub mod ComingLaws
 pub mod Running
-pub mod RunningLaws

@@ -10,5 +10,4 @@ pub mod Cutting
 pub mod Cuts
 pub mod Fields
 pub mod Numerals
-pub mod Lengths
 pub mod Puts

@@ -9,12 +9,15 @@ use Rattle.std.proofs.Math.Decide.{ℕ_discrete}
 use native.Mathlib.Omega.{arith}
 use Rattle.std.proofs.Math.ListN.{get_or}
 use Rattle.std.proofs.lemmas.List.{length-replicate}
-use Rattle.base.specs.Digits.{product, digit, put_digit, rotate, weight, weight-pos, digit-weight, put-weight}
-use Rattle.base.specs.Numbers.{number, weight-first, weight-next, weight-all, number-zero, number-set, number_lt, digit-number}
+use Rattle.base.specs.Digits.{product, digit, put_digit, rotate, weight}
+use Rattle.base.proofs.Digits.{weight-pos, digit-weight, put-weight}
+use Rattle.base.specs.Numbers.{number}
+use Rattle.base.proofs.Numbers.{weight-first, weight-next, weight-all, number-zero, number-set, number_lt, digit-number}
 use Rattle.network.specs.Sizes.{Shape, shape_of, size, nodes, most_nodes, largest_ring, dimensions, directions, dimension_of, sizes_in_range}
-use Rattle.network.specs.PacketLaws.{dimension-lt}
+use Rattle.network.proofs.PacketLaws.{dimension-lt}
 use Rattle.network.specs.Torus.{coordinate, stride, along, neighbour}
-use Rattle.network.specs.TorusLaws.{Torus, sizes-torus, in_range-size, size-pos, coordinate-lt, neighbour-lt}
+use Rattle.network.specs.TorusLaws.{Torus}
+use Rattle.network.proofs.TorusLaws.{sizes-torus, in_range-size, size-pos, coordinate-lt, neighbour-lt}
 use Rattle.network.specs.declared.Sizes.{Sizes}
 use Rattle.torus.specs.declared.Place.{Place}
 use Rattle.torus.specs.Geometry.{node_at, OnTorus, WalkTo}

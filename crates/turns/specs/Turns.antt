@@ -16,7 +16,8 @@ use Rattle.network.specs.CheckLaws.{Network}
 use Rattle.network.specs.Routes.{deliver}
 use Rattle.network.specs.Refusals.{head}
 use Rattle.network.specs.RefusalLaws.{Permitted}
-use Rattle.network.specs.FirstLaws.{Finds, nothing, named, first_finds}
+use Rattle.network.specs.FirstLaws.{Finds, nothing, named}
+use Rattle.network.proofs.FirstLaws.{first_finds}
 use Rattle.network.specs.Calls.{NamedMove, move_of, Delivery, Progress, after_move, first_move, stopped, one_more, deliver_next, move_next, drain_from}
 use Rattle.run.specs.Step.{step}
 use Rattle.turns.specs.declared.Turn.{Turn}

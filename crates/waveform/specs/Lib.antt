@@ -11,6 +11,5 @@ pub mod ReadingLaws
 pub mod Theorem
 pub mod Exact
 pub mod ChangesLaws
-pub mod CallsLaws
 pub mod TheoremLaws
 pub mod Examples

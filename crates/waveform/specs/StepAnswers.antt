@@ -1,57 +1,19 @@
 -- What the answer of a call that writes or reads a step tells: its number, the refusal or 0, and each of its values, where the call is refused and where it
 -- is not, by the definitions at the end of Calls.antt. Order: a step written; a step read. Assumes nothing.
-use Rattle.std.specs.Prelude.{◌≡◌, refl, Bool, true, false, cond, List, ℕ, length}
+use Rattle.std.specs.Prelude.{◌≡◌, Bool, cond, List, ℕ, length}
 use Rattle.network.specs.Calls.{unless_refused}
-use Rattle.network.specs.Answers.{by-refusal, number_of}
 use Rattle.waveform.specs.declared.Written.{Written}
 use Rattle.waveform.specs.declared.StepRead.{StepRead}
 use Rattle.waveform.specs.Reading.{read_step}
-use Rattle.waveform.specs.Calls.{written_step, write_refusal, write_answer, read_refusal, step_told, read_answer}
+use Rattle.waveform.specs.Calls.{written_step, write_refusal, read_refusal}
 use Rattle.waveform.specs.Calls.{written_number, written_length, read_number, read_time, read_named, read_headers}
 
 pub record WriteTells (first : Bool) (w list page : List ℕ) (r : Written) : Type 0 where
   pub number : written_number r ≡ write_refusal first w list page
   pub bytes : written_length r ≡ unless_refused (write_refusal first w list page) (length (written_step first w list)) 0
 
-pub write-tells : (first : Bool) (w list page : List ℕ) → WriteTells first w list page (write_answer first w list page)
-unfolding write_answer written_number written_length
-write-tells first w list page =
-    record {
-      number = number_of written_number (write_refusal first w list page) refl refl;
-      bytes = by-refusal written_length (write_refusal first w list page) refl refl;
-    }
-
 pub record ReadTells (bytes list : List ℕ) (r : StepRead) : Type 0 where
   pub number : read_number r ≡ read_refusal bytes list
   pub header : read_headers r ≡ unless_refused (read_refusal bytes list) (cond (read_step bytes).header 1 0) 0
   pub time : read_time r ≡ unless_refused (read_refusal bytes list) (read_step bytes).time 0
   pub named : read_named r ≡ unless_refused (read_refusal bytes list) (length (read_step bytes).changes) 0
-
-pub read-tells : (bytes list : List ℕ) → ReadTells bytes list (read_answer bytes list)
-unfolding read_answer step_told read_number read_headers read_time read_named
-read-tells bytes list =
-    record {
-      number = number_of read_number (read_refusal bytes list) (number (read_step bytes).header) refl;
-      header = by-refusal read_headers (read_refusal bytes list) (header (read_step bytes).header) refl;
-      time = by-refusal read_time (read_refusal bytes list) (time (read_step bytes).header) refl;
-      named = by-refusal read_named (read_refusal bytes list) (named (read_step bytes).header) refl;
-    }
-  where
-    answer : Bool → StepRead
-    answer b = cond b (StepRead.Header (read_step bytes).time (length (read_step bytes).changes)) (StepRead.Later (read_step bytes).time (length (read_step bytes).changes))
-
-    number : (b : Bool) → read_number (answer b) ≡ 0
-    number true = refl
-    number false = refl
-
-    header : (b : Bool) → read_headers (answer b) ≡ cond b 1 0
-    header true = refl
-    header false = refl
-
-    time : (b : Bool) → read_time (answer b) ≡ (read_step bytes).time
-    time true = refl
-    time false = refl
-
-    named : (b : Bool) → read_named (answer b) ≡ length (read_step bytes).changes
-    named true = refl
-    named false = refl

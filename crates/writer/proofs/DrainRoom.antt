@@ -6,8 +6,8 @@ use native.Mathlib.Omega.{arith}
 use lib.ListN.{length, get_or, take, length-take, get_or-eq_default}
 use lib.Seq.{length-take-le, get_or-take}
 use Rattle.sheet.specs.Output.{packet_lines, packet_room, drain_room, Room, Put}
-use Rattle.sheet.specs.Lengths.{packets-length}
-use Rattle.sheet.specs.Puts.{put-length}
+use Rattle.sheet.proofs.Lengths.{packets-length}
+use Rattle.sheet.proofs.Puts.{put-length}
 
 -- what a Drain prints: the first words of the ledger as packets, then its line
 take_words : (d : ℕ) (l : List ℕ) → ((i : ℕ) → get_or l i 0 < 2 ^ 64) → (i : ℕ) → get_or (take d l) i 0 < 2 ^ 64

@@ -1,7 +1,8 @@
 -- `bench::main` is safe and ends. The loop's invariant: the sheet has come from its start to here by reads. The measure is the turns left. Assumes
 -- nothing.
 use borrow.Author.Rules.{rules}
-use Rattle.session.specs.Reads.{sheet, Reached, reached-start}
+use Rattle.session.specs.Reads.{sheet, Reached}
+use Rattle.session.proofs.Reads.{reached-start}
 use Rattle.bench.proofs.main.Statement.{statement}
 use Rattle.bench.proofs.main.Tie as tie
 

@@ -6,7 +6,8 @@ use Prim.Native.Nat.{ℕ}
 use Rattle.network.specs.Sizes.{shape_of}
 use Rattle.network.specs.declared.Credit.{Credit}
 use Rattle.network.specs.Calls.{credit_answer}
-use Rattle.network.specs.Answers.{CreditTells, credit-tells}
+use Rattle.network.specs.Answers.{CreditTells}
+use Rattle.network.proofs.Answers.{credit-tells}
 use Rattle.calls.specs.Returns.{credit-broken, credit-refused, credit-free, credit-place}
 use Rattle.checker.specs.Opened.{broken, is_open, is-shut}
 use Rattle.calls.proofs.credit.Statement.{statement}

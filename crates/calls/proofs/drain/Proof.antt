@@ -6,7 +6,8 @@ use Prim.Native.Nat.{ℕ}
 use Rattle.network.specs.Sizes.{shape_of}
 use Rattle.network.specs.declared.Drained.{Drained}
 use Rattle.network.specs.Calls.{drain_answer}
-use Rattle.network.specs.Answers.{DrainTells, drain-tells}
+use Rattle.network.specs.Answers.{DrainTells}
+use Rattle.network.proofs.Answers.{drain-tells}
 use Rattle.calls.specs.Returns.{drain-broken, drain-done}
 use Rattle.checker.specs.Opened.{broken, is_open, is-shut}
 use Rattle.calls.proofs.drain.Statement.{statement}

@@ -6,7 +6,8 @@ use Prim.Native.Nat.{ℕ}
 use Rattle.network.specs.Sizes.{shape_of}
 use Rattle.network.specs.declared.Found.{Found}
 use Rattle.network.specs.Calls.{first_answer}
-use Rattle.network.specs.Answers.{FirstTells, first-tells}
+use Rattle.network.specs.Answers.{FirstTells}
+use Rattle.network.proofs.Answers.{first-tells}
 use Rattle.calls.specs.Returns.{first-broken, first_found}
 use Rattle.checker.specs.Opened.{broken, is_open, is-shut}
 use Rattle.calls.proofs.first.Statement.{statement}

@@ -5,7 +5,7 @@ use mathlib.Core.Bool.{true}
 use Prim.Native.Nat.{ℕ, ◌<◌, ◌≤◌}
 use lib.ListN.{length}
 use borrow.Author.Tests.{not-true, not-false}
-use Rattle.base.specs.Tests.{true-T}
+use Rattle.base.proofs.Tests.{true-T}
 use Rattle.network.specs.Sizes.{shape_of, sizes_in_range}
 use Rattle.calls.specs.Returns.{make-wrong-size, make-short, make-made}
 use Rattle.calls.proofs.make.Statement.{statement}

@@ -6,9 +6,10 @@ use Prim.Native.Nat.{ℕ}
 use native.Mathlib.Omega.{arith}
 use Rattle.network.specs.Sizes.{shape_of}
 use Rattle.network.specs.declared.Moved.{Moved}
-use Rattle.network.specs.RefusalLaws.{permitted-of}
+use Rattle.network.proofs.RefusalLaws.{permitted-of}
 use Rattle.network.specs.Calls.{move_answer}
-use Rattle.network.specs.Answers.{MoveTells, move-tells}
+use Rattle.network.specs.Answers.{MoveTells}
+use Rattle.network.proofs.Answers.{move-tells}
 use Rattle.calls.specs.Returns.{move-refused, move-broken, move-rules, move-delivered, move-passed}
 use Rattle.checker.specs.Opened.{broken, is_open, is-shut}
 use Rattle.calls.proofs.move_packet.Statement.{statement}

@@ -3,9 +3,9 @@ use borrow.Author.Rules.{rules}
 use mathlib.Core.Path.{sym, ◌∙◌}
 use native.Mathlib.Omega.{arith}
 use Rattle.network.specs.Sizes.{shape_of, injection_queue, most_chunks}
-use Rattle.network.specs.SizesLaws.{between-of}
-use Rattle.network.specs.LayoutLaws.{length_taken}
-use Rattle.network.specs.CallLaws.{accepting}
+use Rattle.network.proofs.SizesLaws.{between-of}
+use Rattle.network.proofs.LayoutLaws.{length_taken}
+use Rattle.network.proofs.CallLaws.{accepting}
 use Rattle.calls.specs.Returns.{offer-refused, offer-broken, offer-rules, offer-taken}
 use Rattle.checker.specs.Opened.{broken, is_open, is-shut}
 use Rattle.calls.proofs.offer.Statement.{statement}

@@ -1,7 +1,7 @@
 -- `changes::make_move` meets its contract, by whether the move is a delivery. Assumes nothing.
 use Rattle.std.proofs.Common.{arith}
 use Rattle.network.specs.Sizes.{shape_of}
-use Rattle.network.specs.RoutesLaws.{target_is}
+use Rattle.network.proofs.RoutesLaws.{target_is}
 use Rattle.changes.proofs.make_move.Goals as goal
 
 pub move_to-requires : goal.move_to-requires

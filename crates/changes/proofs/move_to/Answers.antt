@@ -3,7 +3,7 @@
 use Rattle.std.proofs.Common.{◌≡◌, ap, ◌∙◌, ℕ, ◌/◌, arith}
 use Rattle.network.specs.Sizes.{shape_of, dimension_of, direction_of}
 use Rattle.network.specs.Packet.{hop}
-use Rattle.network.specs.TorusLaws.{sizes-torus}
+use Rattle.network.proofs.TorusLaws.{sizes-torus}
 use Rattle.network.specs.Routes.{target}
 use Rattle.queue.specs.QueueLaws.{checked}
 use Rattle.changes.proofs.ChangeLaws.{Left, delivered-left, moves-handed, handed-words, target-checked, target_room, moves-arrived, moved-words}

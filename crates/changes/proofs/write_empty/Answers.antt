@@ -2,7 +2,7 @@
 use Rattle.std.proofs.Common.{◌≤◌, arith, length, length-set}
 use Rattle.network.specs.Sizes.{shape_of}
 use Rattle.network.specs.Layout.{header_words}
-use Rattle.network.specs.LayoutLaws.{need-header}
+use Rattle.network.proofs.LayoutLaws.{need-header}
 use Rattle.changes.proofs.ChangeLaws.{empty-words}
 use Rattle.changes.proofs.write_empty.Goals as goal
 use Rattle.changes.proofs.write_empty.Goals.{After-clear}

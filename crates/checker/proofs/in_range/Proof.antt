@@ -4,7 +4,7 @@ use borrow.Author.Tests.{not-true, not-false}
 use mathlib.Core.Path.{◌≡◌, sym, ◌∙◌}
 use mathlib.Core.Bool.{true}
 use Rattle.base.specs.Tests.{all_of}
-use Rattle.base.specs.Bools.{and-stop, and-on}
+use Rattle.base.proofs.Bools.{and-stop, and-on}
 use Rattle.network.specs.Sizes.{shape_of, within, largest_ring, sizes_in_range}
 use Rattle.checker.proofs.in_range.Statement.{statement}
 use Rattle.checker.proofs.in_range.Tie as tie

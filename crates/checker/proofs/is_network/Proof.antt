@@ -7,8 +7,8 @@ use mathlib.Core.List.{List}
 use Prim.Native.Nat.{ℕ}
 use native.Mathlib.Omega.{arith}
 use lib.ListN.{length}
-use Rattle.base.specs.Tests.{T_true}
-use Rattle.base.specs.Bools.{and-stop, and-on}
+use Rattle.base.proofs.Tests.{T_true}
+use Rattle.base.proofs.Bools.{and-stop, and-on}
 use Rattle.network.specs.Sizes.{Shape, shape_of, sizes_in_range}
 use Rattle.network.specs.Layout.{need}
 use Rattle.network.specs.Check.{queues_fit, packets_held, work_left, rings_have_room, counters_fit, is_network}

@@ -8,7 +8,7 @@ use Prim.Native.Nat.{ℕ, ◌<◌, ◌≤◌}
 use native.Mathlib.Omega.{arith}
 use lib.Dec.{ltb}
 use lib.ListN.{length}
-use Rattle.base.specs.Tests.{true-T}
+use Rattle.base.proofs.Tests.{true-T}
 use Rattle.network.specs.Sizes.{Shape, shape_of, sizes_in_range}
 use Rattle.network.specs.Layout.{shape, header_words, need}
 use Rattle.network.specs.Check.{is_network}

@@ -1,8 +1,8 @@
 -- `checker::open` meets its contract. Assumes nothing.
 use borrow.Author.Rules.{rules}
 use mathlib.Core.Path.{sym, ◌∙◌}
-use Rattle.network.specs.LayoutLaws.{header-long}
-use Rattle.network.specs.RefusalLaws.{network-passed}
+use Rattle.network.proofs.LayoutLaws.{header-long}
+use Rattle.network.proofs.RefusalLaws.{network-passed}
 use Rattle.checker.specs.Opened.{opened-shut, opened-open}
 use Rattle.checker.proofs.open.Statement.{statement}
 use Rattle.checker.proofs.open.Tie as tie

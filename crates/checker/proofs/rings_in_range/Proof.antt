@@ -4,7 +4,7 @@ use borrow.Author.Tests.{not-true, not-false}
 use mathlib.Core.Path.{◌≡◌, sym, ◌∙◌}
 use mathlib.Core.Bool.{true, and-true}
 use Rattle.base.specs.Tests.{all_of}
-use Rattle.base.specs.Bools.{and-stop, and-on}
+use Rattle.base.proofs.Bools.{and-stop, and-on}
 use Rattle.network.specs.Sizes.{shape_of, within}
 use Rattle.checker.proofs.rings_in_range.Statement.{statement}
 use Rattle.checker.proofs.rings_in_range.Tie as tie

@@ -5,8 +5,8 @@ use Rattle.network.specs.Sizes.{shape_of}
 use Rattle.network.specs.declared.Stop.{Stop}
 use Rattle.network.specs.Layout.{accepted, delivered}
 use Rattle.turns.specs.Turns.{turn-emptied, none-held}
-use Rattle.network.specs.LayoutLaws.{header-long}
-use Rattle.network.specs.TorusLaws.{sizes-torus, sizes-nodes}
+use Rattle.network.proofs.LayoutLaws.{header-long}
+use Rattle.network.proofs.TorusLaws.{sizes-torus, sizes-nodes}
 use Rattle.drains.specs.SoFar.{so-far-start, so-far-end}
 use Rattle.drains.proofs.drain_network.Statement.{statement}
 use Rattle.drains.proofs.drain_network.Tie as tie

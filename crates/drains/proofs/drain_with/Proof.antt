@@ -5,7 +5,7 @@ use Prim.Native.Nat.{ℕ, ◌≤◌}
 use Rattle.network.specs.Sizes.{shape_of, most_nodes}
 use Rattle.headset.specs.Set.{HeadsBelow}
 use Rattle.ready.specs.ReadyHeads.{covered-filled}
-use Rattle.network.specs.TorusLaws.{sizes-nodes}
+use Rattle.network.proofs.TorusLaws.{sizes-nodes}
 use Rattle.drains.proofs.drain_with.Statement.{statement}
 use Rattle.drains.proofs.drain_with.Tie as tie
 

@@ -9,7 +9,7 @@ use native.Mathlib.Omega.{arith}
 use lib.ListN.{length, length-set}
 use Rattle.network.specs.Sizes.{shape_of}
 use Rattle.turns.specs.Turned.{Kept}
-use Rattle.network.specs.TorusLaws.{sizes-torus}
+use Rattle.network.proofs.TorusLaws.{sizes-torus}
 use Rattle.drains.specs.SoFar.{SoFar, so-far-start, next-passed, next-delivered, end-of-it, passed-budget, delivered-budget}
 use Rattle.drains.proofs.take_turns.Statement.{statement}
 use Rattle.drains.proofs.take_turns.Tie as tie

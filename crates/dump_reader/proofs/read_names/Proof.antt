@@ -5,7 +5,7 @@ use borrow.Author.Rules.{rules}
 use borrow.Author.Tests.{not-true, not-false}
 use Rattle.waveform.specs.Dump.{variables_begin}
 use Rattle.waveform.specs.Reading.{starts_with}
-use Rattle.waveform.specs.StartLaws.{starts-long}
+use Rattle.waveform.proofs.StartLaws.{starts-long}
 use Rattle.dump_reader.proofs.Headers.{names-first, names-none, names-part, names-last, names-found}
 use Rattle.dump_reader.proofs.read_names.Statement.{statement}
 use Rattle.dump_reader.proofs.read_names.Tie as tie

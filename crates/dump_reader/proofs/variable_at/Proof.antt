@@ -2,7 +2,7 @@
 use native.Mathlib.Omega.{arith}
 use borrow.Author.Rules.{rules}
 use lib.ListN.{drop}
-use Rattle.waveform.specs.Lengths.{variable-room}
+use Rattle.waveform.proofs.Lengths.{variable-room}
 use Rattle.dump_reader.proofs.Headers.{front-within, front_length, front-there, front-missing}
 use Rattle.dump_reader.proofs.variable_at.Statement.{statement}
 use Rattle.dump_reader.proofs.variable_at.Tie as tie

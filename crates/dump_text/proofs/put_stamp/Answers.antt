@@ -2,7 +2,8 @@
 use Rattle.std.proofs.Common.{List, [], ◌∷◌, ◌++◌, ℕ, arith}
 use Rattle.sheet.specs.Text.{lf}
 use Rattle.sheet.specs.Output.{decimal}
-use Rattle.sheet.specs.Puts.{ToPut, all-to-put, run_room, run-put}
+use Rattle.sheet.specs.Puts.{ToPut}
+use Rattle.sheet.proofs.Puts.{all-to-put, run_room, run-put}
 use Rattle.waveform.specs.Dump.{stamp_line}
 use Rattle.dump_text.proofs.put_stamp.Goals as goal
 use Rattle.dump_text.proofs.put_stamp.Goals.{After-put_byte-next, After-put_number-next, Start}

@@ -2,7 +2,8 @@
 use Rattle.std.proofs.Common.{List, [], ◌∷◌, ◌++◌, ℕ, arith}
 use Rattle.sheet.specs.Text.{lf}
 use Rattle.sheet.specs.Output.{numeral, decimal}
-use Rattle.sheet.specs.Puts.{ToPut, all-to-put, run_room, run-put}
+use Rattle.sheet.specs.Puts.{ToPut}
+use Rattle.sheet.proofs.Puts.{all-to-put, run_room, run-put}
 use Rattle.waveform.specs.Dump.{value_line}
 use Rattle.dump_text.proofs.put_value.Goals as goal
 use Rattle.dump_text.proofs.put_value.Goals.{After-put_byte-next, After-put_byte-next-2, After-put_number-next, After-put_number-next-2, Start}

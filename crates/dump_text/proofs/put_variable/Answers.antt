@@ -2,7 +2,8 @@
 use Rattle.std.proofs.Common.{List, ◌++◌, ℕ, ◌/◌, ◌%◌, arith}
 use Rattle.sheet.specs.Text.{text}
 use Rattle.sheet.specs.Output.{decimal}
-use Rattle.sheet.specs.Puts.{ToPut, all-to-put, run_room, run-put}
+use Rattle.sheet.specs.Puts.{ToPut}
+use Rattle.sheet.proofs.Puts.{all-to-put, run_room, run-put}
 use Rattle.network.specs.Sizes.{queues}
 use Rattle.waveform.specs.Dump.{variable_line}
 use Rattle.dump_text.proofs.put_variable.Goals as goal

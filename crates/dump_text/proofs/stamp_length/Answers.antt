@@ -1,6 +1,6 @@
 -- `dump_text::stamp_length` meets its contract. Assumes nothing.
 use Rattle.std.proofs.Common.{arith}
-use Rattle.waveform.specs.Lengths.{stamp-length, decimal-digits}
+use Rattle.waveform.proofs.Lengths.{stamp-length, decimal-digits}
 use Rattle.dump_text.proofs.stamp_length.Goals as goal
 
 pub overflow_add-result : goal.overflow_add-result

@@ -1,6 +1,6 @@
 -- `dump_text::value_length` meets its contract. Assumes nothing.
 use Rattle.std.proofs.Common.{arith}
-use Rattle.waveform.specs.Lengths.{value-length, decimal-digits, binary-digits}
+use Rattle.waveform.proofs.Lengths.{value-length, decimal-digits, binary-digits}
 use Rattle.dump_text.proofs.value_length.Goals as goal
 
 pub overflow_add-result : goal.overflow_add-result

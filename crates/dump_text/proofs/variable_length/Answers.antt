@@ -1,7 +1,7 @@
 -- `dump_text::variable_length` meets its contract. Assumes nothing.
 use Rattle.std.proofs.Common.{◌+◌, ◌/◌, ◌%◌, ◌≤◌, arith}
 use Rattle.network.specs.Sizes.{queues}
-use Rattle.waveform.specs.Lengths.{variable-length, decimal-digits}
+use Rattle.waveform.proofs.Lengths.{variable-length, decimal-digits}
 use Rattle.dump_text.proofs.variable_length.Goals as goal
 use Rattle.dump_text.proofs.variable_length.Goals.{After-number_length}
 

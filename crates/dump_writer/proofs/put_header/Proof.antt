@@ -4,7 +4,8 @@ use mathlib.Core.Bool.{true}
 use mathlib.Core.List.{List, ◌++◌}
 use Prim.Native.Nat.{ℕ}
 use lib.ListN.{length}
-use Rattle.sheet.specs.Puts.{ToPut, all-to-put, run_room, run-put}
+use Rattle.sheet.specs.Puts.{ToPut}
+use Rattle.sheet.proofs.Puts.{all-to-put, run_room, run-put}
 use Rattle.waveform.specs.Dump.{variables_begin, variables_end, values_begin, values_end, variable_lines, stamp_line, value_lines, changes, step_bytes}
 use Rattle.dump_writer.proofs.put_header.Statement.{statement}
 use Rattle.dump_writer.proofs.put_header.Tie as tie

@@ -3,7 +3,8 @@ use borrow.Author.Rules.{rules}
 use mathlib.Core.Bool.{false}
 use mathlib.Core.List.{List, ◌++◌}
 use Prim.Native.Nat.{ℕ}
-use Rattle.sheet.specs.Puts.{ToPut, all-to-put, run_room, run-put}
+use Rattle.sheet.specs.Puts.{ToPut}
+use Rattle.sheet.proofs.Puts.{all-to-put, run_room, run-put}
 use Rattle.waveform.specs.Dump.{stamp_line, value_lines, changes, step_bytes}
 use Rattle.dump_writer.proofs.put_later.Statement.{statement}
 use Rattle.dump_writer.proofs.put_later.Tie as tie

@@ -1,7 +1,7 @@
 -- `dump_writer::put_variables` meets its contract. The loop's invariant is `VariablesPut`. Assumes nothing.
 use Prim.Native.Nat.{◌-◌}
 use native.Mathlib.Omega.{arith}
-use Rattle.sheet.specs.Puts.{put-length}
+use Rattle.sheet.proofs.Puts.{put-length}
 use Rattle.dump_writer.proofs.Loops.{VariablesPut, variables-none, variable-room, variables-more, variables-all}
 use Rattle.dump_writer.proofs.put_variables.Statement.{statement}
 use Rattle.dump_writer.proofs.put_variables.Tie as tie

@@ -3,8 +3,8 @@ use borrow.Author.Rules.{rules}
 use Prim.Native.Nat.{◌-◌}
 use native.Mathlib.Omega.{arith}
 use Rattle.network.specs.Sizes.{shape_of, queues}
-use Rattle.network.specs.SizesLaws.{range-of, capacity-most}
-use Rattle.network.specs.TorusLaws.{sizes-nodes}
+use Rattle.network.proofs.SizesLaws.{range-of, capacity-most}
+use Rattle.network.proofs.TorusLaws.{sizes-nodes}
 use Rattle.dump_writer.proofs.Node.{NodeRead, node-none, node-count, node-place, node-more, node-all}
 use Rattle.dump_writer.proofs.read_node.Statement.{statement}
 use Rattle.dump_writer.proofs.read_node.Tie as tie

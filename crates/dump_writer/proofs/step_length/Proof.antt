@@ -5,7 +5,8 @@ use Prim.Native.Nat.{◌+◌, ◌*◌, ◌≤◌}
 use native.Mathlib.Omega.{arith}
 use lib.ListN.{length}
 use Rattle.waveform.specs.Dump.{most_variables, value_lines, changes, step_bytes}
-use Rattle.waveform.specs.Lengths.{stamp-length, decimal-digits, variable_room, variables-room, value_room, values-room, header-length, later-length}
+use Rattle.waveform.specs.Lengths.{variable_room, value_room}
+use Rattle.waveform.proofs.Lengths.{stamp-length, decimal-digits, variables-room, values-room, header-length, later-length}
 use Rattle.dump_writer.proofs.step_length.Statement.{statement}
 use Rattle.dump_writer.proofs.step_length.Tie as tie
 

@@ -6,11 +6,11 @@ use Prim.Native.Nat.{ℕ, ◌*◌, ◌<◌, ◌≤◌}
 use native.Mathlib.Omega.{arith}
 use lib.ListN.{length}
 use Rattle.network.specs.Sizes.{Shape, shape_of, nodes}
-use Rattle.network.specs.TorusLaws.{sizes-nodes}
+use Rattle.network.proofs.TorusLaws.{sizes-nodes}
 use Rattle.network.specs.Layout.{need, node_words, moves_at, moves_made}
 use Rattle.network.specs.CheckLaws.{Network}
 use Rattle.waveform.specs.Dump.{most_variables, fills}
-use Rattle.waveform.specs.DumpLaws.{fills-length}
+use Rattle.waveform.proofs.DumpLaws.{fills-length}
 use Rattle.dump_writer.specs.Writing.{Leaves, counts_answer, counts_list, counts_page}
 use Rattle.dump_writer.proofs.write_fills.Statement.{statement}
 use Rattle.dump_writer.proofs.write_fills.Tie as tie

@@ -2,7 +2,8 @@
 use borrow.Author.Rules.{rules}
 use mathlib.Core.Path.{sym, subst}
 use mathlib.Core.Bool.{true}
-use Rattle.waveform.specs.StepAnswers.{WriteTells, write-tells}
+use Rattle.waveform.specs.StepAnswers.{WriteTells}
+use Rattle.waveform.proofs.StepAnswers.{write-tells}
 use Rattle.dump_writer.proofs.write_header.Statement.{statement}
 use Rattle.dump_writer.proofs.write_header.Tie as tie
 

@@ -6,7 +6,7 @@ use native.Mathlib.Omega.{arith}
 use lib.ListN.{length}
 use lib.Seq.{length-take-le}
 use Rattle.network.specs.Sizes.{queues}
-use Rattle.network.specs.TorusLaws.{sizes-nodes}
+use Rattle.network.proofs.TorusLaws.{sizes-nodes}
 use Rattle.dump_writer.proofs.write_network.Statement.{statement}
 use Rattle.dump_writer.proofs.write_network.Tie as tie
 

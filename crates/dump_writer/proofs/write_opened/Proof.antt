@@ -1,7 +1,7 @@
 -- `dump_writer::write_opened` meets its contract: each list is long enough for the networks that it is made for. Assumes nothing.
 use borrow.Author.Rules.{rules}
 use native.Mathlib.Omega.{arith}
-use Rattle.network.specs.TorusLaws.{sizes-nodes}
+use Rattle.network.proofs.TorusLaws.{sizes-nodes}
 use Rattle.dump_writer.proofs.write_opened.Statement.{statement}
 use Rattle.dump_writer.proofs.write_opened.Tie as tie
 

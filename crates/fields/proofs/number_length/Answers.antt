@@ -1,6 +1,6 @@
 -- `fields::number_length` meets its contract: the goals that the check does not find by itself. Assumes nothing.
 use Rattle.std.proofs.Common.{arith}
-use Rattle.sheet.specs.Numerals.{smaller}
+use Rattle.sheet.proofs.Numerals.{smaller}
 use Rattle.fields.proofs.Digits.{counted_none, counted-more, counted-all}
 use Rattle.fields.proofs.number_length.Goals as goal
 

@@ -1,6 +1,6 @@
 -- `fields::put_byte` meets its contract. Assumes nothing.
 use Rattle.std.proofs.Common.{arith}
-use Rattle.sheet.specs.Puts.{put_one}
+use Rattle.sheet.proofs.Puts.{put_one}
 use Rattle.fields.proofs.put_byte.Goals as goal
 
 pub returns : goal.returns

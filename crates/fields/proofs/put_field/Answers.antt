@@ -1,6 +1,6 @@
 -- `fields::put_field` meets its contract. Assumes nothing.
 use Rattle.std.proofs.Common.{arith}
-use Rattle.sheet.specs.Puts.{put-behind}
+use Rattle.sheet.proofs.Puts.{put-behind}
 use Rattle.fields.proofs.put_field.Goals as goal
 
 pub returns : goal.returns

@@ -2,7 +2,7 @@
 use Rattle.std.proofs.Common.{List, [], ◌∷◌, ◌++◌, ℕ}
 use Rattle.sheet.specs.Text.{comma, cr, lf}
 use Rattle.sheet.specs.Output.{fields_and_end, stop_word, Room}
-use Rattle.sheet.specs.Puts.{first-room, second-room, third-room, put_three}
+use Rattle.sheet.proofs.Puts.{first-room, second-room, third-room, put_three}
 use Rattle.fields.proofs.put_last.Goals as goal
 use Rattle.fields.proofs.put_last.Goals.{Start}
 

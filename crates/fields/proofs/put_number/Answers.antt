@@ -1,6 +1,6 @@
 -- `fields::put_number` meets its contract: the goals that the check does not find by itself. Assumes nothing.
 use Rattle.std.proofs.Common.{ap, ◌∙◌, ◌+◌, arith, mod-lt, length-set}
-use Rattle.sheet.specs.Numerals.{smaller, numeral-some}
+use Rattle.sheet.proofs.Numerals.{smaller, numeral-some}
 use Rattle.fields.proofs.Digits.{behind-none, behind-length, behind-place, behind_more, behind-above, behind-all}
 use Rattle.fields.proofs.put_number.Goals as goal
 

@@ -13,9 +13,9 @@ use Rattle.network.specs.Layout.{accepted, delivered}
 use Rattle.network.specs.Calls.{first_in_queue, first_move}
 use Rattle.routes.specs.Lines.{selection_lines}
 use Rattle.queue.specs.QueueOf.{QueueOf}
-use Rattle.network.specs.LayoutLaws.{header-long}
+use Rattle.network.proofs.LayoutLaws.{header-long}
 use Rattle.queue.specs.HeldWords.{inside-at}
-use Rattle.network.specs.TorusLaws.{sizes-nodes}
+use Rattle.network.proofs.TorusLaws.{sizes-nodes}
 use Rattle.first.proofs.Searching.{Reading, AtLine, AtQueue, AtNode, found-from-first, output-lt, line-none, line_refused, line-found, lines_none, end-at, queue-none, queues-begin, queue-next, queue-found, nodes-begin, node-next, node-found, nodes-none, nothing-held}
 use Rattle.first.proofs.first_move.Statement.{statement}
 use Rattle.first.proofs.first_move.Tie as tie

@@ -8,7 +8,7 @@ use borrow.Author.Tests.{eq-eqb, ne_eqb}
 use lib.Dec.{eqb}
 use Rattle.network.specs.Sizes.{directions, escape_queue}
 use Rattle.network.specs.Routes.{load_needed}
-use Rattle.network.specs.RoutesLaws.{needed-escape, needed-adaptive}
+use Rattle.network.proofs.RoutesLaws.{needed-escape, needed-adaptive}
 use Rattle.flow.proofs.load_needed.Statement.{statement}
 use Rattle.flow.proofs.load_needed.Tie as tie
 

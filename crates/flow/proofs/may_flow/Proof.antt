@@ -11,15 +11,15 @@ use borrow.Author.Rules.{rules}
 use borrow.Author.Tests.{eq-eqb, ne_eqb, le-leb, lt-leb}
 use lib.Dec.{leb, eqb}
 use Rattle.network.specs.Sizes.{shape_of, capacity, most_chunks, largest_capacity}
-use Rattle.network.specs.SizesLaws.{range-of, capacity-most}
+use Rattle.network.proofs.SizesLaws.{range-of, capacity-most}
 use Rattle.network.specs.Layout.{taken}
 use Rattle.network.specs.Routes.{target, free_load, load_needed}
-use Rattle.network.specs.RoutesLaws.{target_is, needed-most}
+use Rattle.network.proofs.RoutesLaws.{target_is, needed-most}
 use Rattle.network.specs.Refusals.{flow_rules}
-use Rattle.network.specs.RefusalLaws.{flow-of, flow-by}
+use Rattle.network.proofs.RefusalLaws.{flow-of, flow-by}
 use Rattle.network.specs.declared.Sizes.{Sizes}
 use Rattle.queue.specs.QueueOf.{QueueOf}
-use Rattle.network.specs.TorusLaws.{sizes-nodes}
+use Rattle.network.proofs.TorusLaws.{sizes-nodes}
 use Rattle.queue.specs.HeldWords.{asked}
 use Rattle.near.specs.Table.{entry-within}
 use Rattle.flow.proofs.Targets.{at_target, target-few, target_free}

@@ -1,6 +1,6 @@
 -- `flow::target` meets its contract. Assumes nothing.
 use borrow.Author.Rules.{rules}
-use Rattle.network.specs.RoutesLaws.{target_is}
+use Rattle.network.proofs.RoutesLaws.{target_is}
 use Rattle.flow.proofs.target.Statement.{statement}
 use Rattle.flow.proofs.target.Tie as tie
 

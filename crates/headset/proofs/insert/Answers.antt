@@ -1,6 +1,6 @@
 -- `headset::insert` meets its contract, by the law `inserted`. Assumes nothing.
 use Rattle.std.proofs.Common.{arith, lit<}
-use Rattle.base.specs.Bits.{shifted-some}
+use Rattle.base.proofs.Bits.{shifted-some}
 use Rattle.headset.proofs.Sets.{inserted}
 use Rattle.headset.proofs.insert.Goals as goal
 

@@ -1,7 +1,7 @@
 -- `headset::insert_node` meets its contract, by the law `node-inserted`. Assumes nothing.
 use Rattle.std.proofs.Common.{arith, lit<}
 use Rattle.network.specs.Sizes.{queues}
-use Rattle.base.specs.Bits.{shifted-some}
+use Rattle.base.proofs.Bits.{shifted-some}
 use Rattle.headset.proofs.Sets.{node-inserted}
 use Rattle.headset.proofs.insert_node.Goals as goal
 

@@ -1,6 +1,6 @@
 -- `lines::ended` meets its contract: each way out is a law of `sheet`, specs/Cuts.antt. Assumes nothing.
 use Rattle.std.proofs.Common.{sym}
-use Rattle.sheet.specs.Cuts.{ended-empty, ended-over, ended-cr, ended-long, ended-line}
+use Rattle.sheet.proofs.Cuts.{ended-empty, ended-over, ended-cr, ended-long, ended-line}
 use Rattle.lines.proofs.ended.Goals as goal
 
 pub returns-then-count-eq0 : goal.returns-then-count-eq0

@@ -1,6 +1,6 @@
 -- `lines::feed` meets its contract: each way out is a law of `sheet`, specs/Cuts.antt. Assumes nothing.
 use Rattle.std.proofs.Common.{sym, ◌∙◌}
-use Rattle.sheet.specs.Cuts.{fed-end, fed-held, fed-over}
+use Rattle.sheet.proofs.Cuts.{fed-end, fed-held, fed-over}
 use Rattle.lines.proofs.feed.Goals as goal
 
 pub returns-then-b-eq10 : goal.returns-then-b-eq10

@@ -1,6 +1,6 @@
 -- `lines::finish` meets its contract: each way out is a law of `sheet`, specs/Cuts.antt. Assumes nothing.
 use Rattle.std.proofs.Common.{sym}
-use Rattle.sheet.specs.Cuts.{finished-none, finished-long, finished-line}
+use Rattle.sheet.proofs.Cuts.{finished-none, finished-long, finished-line}
 use Rattle.lines.proofs.finish.Goals as goal
 
 pub returns-then-count-eq0 : goal.returns-then-count-eq0

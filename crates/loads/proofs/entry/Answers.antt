@@ -1,6 +1,6 @@
 -- `loads::entry` meets its contract. Assumes nothing.
 use Rattle.std.proofs.Common.{arith}
-use Rattle.network.specs.SizesLaws.{adaptive-of}
+use Rattle.network.proofs.SizesLaws.{adaptive-of}
 use Rattle.loads.proofs.entry.Goals as goal
 
 pub overflow_sub-result : goal.overflow_sub-result

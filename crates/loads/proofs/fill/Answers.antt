@@ -1,7 +1,7 @@
 -- `loads::fill` meets its contract: the goals that the check does not find by itself. Assumes nothing.
 use Rattle.std.proofs.Common.{◌≡◌, refl, ap, subst, ◌∙◌, ℕ, ◌*◌, ◌-◌, ◌/◌, ◌%◌, ◌<◌, arith, length-set}
 use Rattle.network.specs.Sizes.{shape_of, directions, nodes, most_nodes, adaptive_queue}
-use Rattle.network.specs.TorusLaws.{sizes-nodes}
+use Rattle.network.proofs.TorusLaws.{sizes-nodes}
 use Rattle.near.specs.Table.{TableTo, table_none, table_more}
 use Rattle.loads.specs.Loads.{load_in, load-small}
 use Rattle.loads.proofs.fill.Goals as goal

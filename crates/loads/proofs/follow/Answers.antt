@@ -2,8 +2,9 @@
 use Rattle.std.proofs.Common.{◌≡◌, ap, ◌∙◌, List, ℕ, ◌+◌, ◌-◌, arith, get_or}
 use Rattle.network.specs.Sizes.{shape_of}
 use Rattle.network.specs.Packet.{chunks}
-use Rattle.network.specs.PacketLaws.{chunks-most}
-use Rattle.network.specs.TorusLaws.{Torus, sizes-torus, sizes-nodes}
+use Rattle.network.proofs.PacketLaws.{chunks-most}
+use Rattle.network.specs.TorusLaws.{Torus}
+use Rattle.network.proofs.TorusLaws.{sizes-torus, sizes-nodes}
 use Rattle.network.specs.Layout.{held}
 use Rattle.network.specs.Refusals.{head}
 use Rattle.loads.specs.Loads.{entry_of, with_load, load-within, source-enough, source-small, there-node, there-within, there-small, loads-after}

@@ -1,8 +1,8 @@
 -- `loads::taken` meets its contract. Assumes nothing.
 use Rattle.std.proofs.Common.{◌≡◌, ap, sym, ◌∙◌, true, ℕ, ◌<◌, arith, length, get_or}
 use Rattle.network.specs.Sizes.{shape_of, is_adaptive}
-use Rattle.network.specs.TorusLaws.{sizes-nodes}
-use Rattle.network.specs.LayoutLaws.{taken-length}
+use Rattle.network.proofs.TorusLaws.{sizes-nodes}
+use Rattle.network.proofs.LayoutLaws.{taken-length}
 use Rattle.loads.specs.Loads.{load-within, load_at}
 use Rattle.loads.proofs.taken.Goals as goal
 use Rattle.loads.proofs.taken.Goals.{After-entry-at, Else-not-is_adaptive}

@@ -2,7 +2,7 @@
 use Rattle.std.proofs.Common.{◌≡◌, refl, subst, ◌∙◌, ℕ, ◌*◌, ◌-◌, ◌<◌, arith}
 use Rattle.network.specs.Sizes.{shape_of, directions, nodes}
 use Rattle.network.specs.Torus.{neighbour}
-use Rattle.network.specs.TorusLaws.{sizes-nodes}
+use Rattle.network.proofs.TorusLaws.{sizes-nodes}
 use Rattle.torus.specs.GeometryLaws.{walk_start, walk-next}
 use Rattle.near.specs.Table.{NearTo, table_none}
 use Rattle.near.proofs.fill.Goals as goal

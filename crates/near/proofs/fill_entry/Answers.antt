@@ -1,7 +1,7 @@
 -- `near::fill_entry` meets its contract. Assumes nothing.
 use Rattle.std.proofs.Common.{refl, ◌+◌, ◌*◌, arith}
 use Rattle.network.specs.Sizes.{shape_of, directions}
-use Rattle.network.specs.TorusLaws.{sizes-torus, sizes-nodes, neighbour-lt}
+use Rattle.network.proofs.TorusLaws.{sizes-torus, sizes-nodes, neighbour-lt}
 use Rattle.near.specs.Table.{table_more}
 use Rattle.near.proofs.fill_entry.Goals as goal
 

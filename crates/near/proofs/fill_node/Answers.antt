@@ -1,7 +1,7 @@
 -- `near::fill_node` meets its contract: the goals that the check does not find by itself. Assumes nothing.
 use Rattle.std.proofs.Common.{◌≡◌, refl, ap, subst, ◌∙◌, List, ℕ, ◌-◌, ◌<◌, arith, get_or}
 use Rattle.network.specs.Sizes.{Shape, shape_of, directions, dimension_of, nodes}
-use Rattle.network.specs.PacketLaws.{dimension-lt}
+use Rattle.network.proofs.PacketLaws.{dimension-lt}
 use Rattle.network.specs.Torus.{coordinate}
 use Rattle.torus.specs.GeometryLaws.{place-node, place-coordinate}
 use Rattle.near.specs.Table.{NearTo}

@@ -1,6 +1,6 @@
 -- `packet::destination` meets its contract. Assumes nothing.
 use Rattle.std.proofs.Common.{sym}
-use Rattle.network.specs.PacketLaws.{destination-is}
+use Rattle.network.proofs.PacketLaws.{destination-is}
 use Rattle.packet.proofs.destination.Goals as goal
 
 pub returns : goal.returns

@@ -1,7 +1,8 @@
 -- `packet::hop` meets its contract. Assumes nothing.
 use Rattle.std.proofs.Common.{◌≡◌, ap, ◌∙◌, ℕ}
 use Rattle.network.specs.Packet.{offset, shrunk, hop, with_offset}
-use Rattle.network.specs.PacketLaws.{OffsetRange, offset-range, shrunk-range}
+use Rattle.network.specs.PacketLaws.{OffsetRange}
+use Rattle.network.proofs.PacketLaws.{offset-range, shrunk-range}
 use Rattle.packet.proofs.Numbers.{back, range_back}
 use Rattle.packet.proofs.hop.Goals as goal
 use Rattle.packet.proofs.hop.Goals.{After-shrunk}

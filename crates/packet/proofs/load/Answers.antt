@@ -1,6 +1,6 @@
 -- `packet::load` meets its contract, by the kind of the queue. Assumes nothing.
 use Rattle.std.proofs.Common.{sym, ◌∙◌}
-use Rattle.network.specs.LayoutLaws.{load_one, load-chunks}
+use Rattle.network.proofs.LayoutLaws.{load_one, load-chunks}
 use Rattle.packet.proofs.load.Goals as goal
 
 pub returns-then-not-is_adaptive : goal.returns-then-not-is_adaptive

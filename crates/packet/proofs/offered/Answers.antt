@@ -1,7 +1,7 @@
 -- `packet::offered` meets its contract: the goals that the check does not find by itself. Assumes nothing.
 use Rattle.std.proofs.Common.{◌-◌, arith}
 use Rattle.network.specs.Packet.{packet_word}
-use Rattle.network.specs.TorusLaws.{sizes-nodes}
+use Rattle.network.proofs.TorusLaws.{sizes-nodes}
 use Rattle.network.specs.Calls.{offered}
 use Rattle.packet.proofs.Numbers.{back, range_back}
 use Rattle.packet.proofs.FieldWords.{sizes-way, word-start, word_more, word_end}

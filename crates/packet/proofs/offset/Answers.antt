@@ -1,7 +1,7 @@
 -- `packet::offset` meets its contract. Assumes nothing.
 use Rattle.std.proofs.Common.{ap, ◌∙◌, arith}
 use Rattle.network.specs.Packet.{signed, offset}
-use Rattle.network.specs.PacketLaws.{signed_range, field_lt}
+use Rattle.network.proofs.PacketLaws.{signed_range, field_lt}
 use Rattle.packet.proofs.Numbers.{back}
 use Rattle.packet.proofs.offset.Goals as goal
 

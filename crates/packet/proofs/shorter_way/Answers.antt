@@ -1,7 +1,7 @@
 -- `packet::shorter_way` meets its contract. Assumes nothing.
 use Rattle.std.proofs.Common.{sym, ◌∙◌, ◌-◌, arith, w64}
 use mir.Facts.{to_z_pos}
-use Rattle.network.specs.PacketLaws.{shorter_way-plus, shorter_way-minus}
+use Rattle.network.proofs.PacketLaws.{shorter_way-plus, shorter_way-minus}
 use Rattle.packet.proofs.Numbers.{small-negation-fits, small-negation}
 use Rattle.packet.proofs.shorter_way.Goals as goal
 

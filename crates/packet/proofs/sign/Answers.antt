@@ -1,5 +1,5 @@
 -- `packet::sign` meets its contract. Assumes nothing.
-use Rattle.network.specs.PacketLaws.{offset-range}
+use Rattle.network.proofs.PacketLaws.{offset-range}
 use Rattle.packet.proofs.Numbers.{sign-minus, sign-plus, sign_zero}
 use Rattle.packet.proofs.sign.Goals as goal
 

@@ -1,6 +1,6 @@
 -- `packet::spare` meets its contract. Assumes nothing.
 use Rattle.std.proofs.Common.{sym}
-use Rattle.network.specs.PacketLaws.{spare-is}
+use Rattle.network.proofs.PacketLaws.{spare-is}
 use Rattle.packet.proofs.spare.Goals as goal
 
 pub returns : goal.returns

@@ -1,6 +1,6 @@
 -- `packet::spares_clear` meets its contract. Assumes nothing.
 use Rattle.std.proofs.Common.{◌∙◌, ap, sym, eq-eqb, ne_eqb, eqb}
-use Rattle.base.specs.Bools.{and-stop, and-on}
+use Rattle.base.proofs.Bools.{and-stop, and-on}
 use Rattle.network.specs.Packet.{spare}
 use Rattle.network.specs.Check.{spare_clear, upper_spare_clear}
 use Rattle.packet.proofs.spares_clear.Goals as goal

@@ -1,6 +1,6 @@
 -- `packet::upper_spare` meets its contract. Assumes nothing.
 use Rattle.std.proofs.Common.{sym}
-use Rattle.network.specs.PacketLaws.{upper_spare-is}
+use Rattle.network.proofs.PacketLaws.{upper_spare-is}
 use Rattle.packet.proofs.upper_spare.Goals as goal
 
 pub returns : goal.returns

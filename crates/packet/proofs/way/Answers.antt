@@ -2,7 +2,7 @@
 use Rattle.std.proofs.Common.{◌≡◌, ◌∙◌, ℕ, ◌<◌, ◌≤◌, arith}
 use Rattle.network.specs.Sizes.{largest_ring}
 use Rattle.network.specs.Packet.{steps_ahead, shorter_way}
-use Rattle.network.specs.PacketLaws.{ahead-lt}
+use Rattle.network.proofs.PacketLaws.{ahead-lt}
 use Rattle.torus.specs.GeometryLaws.{on-ring}
 use Rattle.packet.proofs.Numbers.{back}
 use Rattle.packet.proofs.FieldWords.{sizes-way}

@@ -1,6 +1,6 @@
 -- `packet_check::above` meets its contract. Assumes nothing.
 use Rattle.std.proofs.Common.{arith}
-use Rattle.network.specs.PacketLaws.{field_lt}
+use Rattle.network.proofs.PacketLaws.{field_lt}
 use Rattle.packet_check.proofs.Offsets.{above-is}
 use Rattle.packet_check.proofs.above.Goals as goal
 

@@ -1,8 +1,8 @@
 -- `packet_check::fill_tables` meets its contract: the goals that the check does not find by itself. Assumes nothing.
 use Rattle.std.proofs.Common.{sym, ◌∙◌, ℕ, ◌-◌, ◌<◌, arith}
-use Rattle.base.specs.Numbers.{weight-most}
+use Rattle.base.proofs.Numbers.{weight-most}
 use Rattle.network.specs.Sizes.{shape_of, nodes}
-use Rattle.network.specs.TorusLaws.{sizes-torus, sizes-nodes, in_range-size, size-pos}
+use Rattle.network.proofs.TorusLaws.{sizes-torus, sizes-nodes, in_range-size, size-pos}
 use Rattle.packet_check.proofs.TableLaws.{dimension-more, dimension-kept}
 use Rattle.packet_check.proofs.fill_tables.Goals as goal
 

@@ -3,7 +3,7 @@ use Rattle.std.proofs.Common.{ap, ◌∙◌, ℕ, ◌+◌, ◌*◌, ◌-◌, ◌
 use Rattle.network.specs.PacketLaws.{half_offsets}
 use Rattle.base.specs.Digits.{weight}
 use Rattle.network.specs.Sizes.{shape_of, largest_ring}
-use Rattle.network.specs.TorusLaws.{in_range-size}
+use Rattle.network.proofs.TorusLaws.{in_range-size}
 use Rattle.packet_check.specs.Tables.{dimension_words, RingTable}
 use Rattle.packet_check.proofs.TableLaws.{moved-read}
 use Rattle.packet_check.proofs.moved.Goals as goal

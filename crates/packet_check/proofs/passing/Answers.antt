@@ -1,7 +1,7 @@
 -- `packet_check::passing` meets its contract: in each case the limits of both directions along dimension i. Assumes nothing.
 use Rattle.std.proofs.Common.{le-ltb, ◌≡◌, ap, ap₂, sym, ◌∙◌, ◌≢◌, ℕ, ◌+◌, ◌*◌, ◌/◌, ◌<◌, ◌≤◌, arith, lt→ltb}
 use Rattle.network.specs.Sizes.{Shape, shape_of, directions, dimension_of, direction_of, injection_queue, plus, minus}
-use Rattle.network.specs.TorusLaws.{in_range-size}
+use Rattle.network.proofs.TorusLaws.{in_range-size}
 use Rattle.network.specs.Check.{longest}
 use Rattle.packet_check.specs.PacketLimits.{limit}
 use Rattle.packet_check.specs.LimitLaws.{limit-injection, limit-own, limit-back, limit-lower, limit-adaptive, limit-higher}

@@ -1,6 +1,7 @@
 -- `packet_check::row` meets its contract. Assumes nothing.
 use Rattle.std.proofs.Common.{◌≡◌, ap, sym, subst, ◌∙◌, ℕ, ◌+◌, ◌*◌, ◌-◌, ◌%◌, ◌^◌, ◌<◌, ◌≤◌, arith, pow_pos, shl_exact}
-use Rattle.base.specs.Bits.{one_bit, one-exact}
+use Rattle.base.specs.Bits.{one_bit}
+use Rattle.base.proofs.Bits.{one-exact}
 use Rattle.packet_check.specs.Tables.{row}
 use Rattle.packet_check.proofs.row.Goals as goal
 use Rattle.packet_check.proofs.row.Goals.{Start}

@@ -2,7 +2,7 @@
 use Rattle.std.proofs.Common.{sym, arith}
 use Rattle.queue.proofs.ClosedForms.{capacity-injection, capacity-escape, capacity-adaptive}
 use Rattle.network.specs.Sizes.{shape_of}
-use Rattle.network.specs.SizesLaws.{range-of}
+use Rattle.network.proofs.SizesLaws.{range-of}
 use Rattle.queue.proofs.capacity.Goals as goal
 
 pub returns-then-q-eq-INJECTION_QUEUE : goal.returns-then-q-eq-INJECTION_QUEUE

@@ -1,7 +1,7 @@
 -- `queue::need` meets its contract. Assumes nothing.
 use Rattle.std.proofs.Common.{ap, ap₂, ℕ, ◌+◌, ◌*◌, ◌≤◌, arith}
 use Rattle.network.specs.Sizes.{most_nodes}
-use Rattle.network.specs.TorusLaws.{sizes-nodes}
+use Rattle.network.proofs.TorusLaws.{sizes-nodes}
 use Rattle.network.specs.Layout.{header_words, need}
 use Rattle.queue.proofs.ClosedForms.{most_node_words, product_small, node-small}
 use Rattle.queue.proofs.need.Goals as goal

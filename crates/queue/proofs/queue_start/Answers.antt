@@ -2,7 +2,7 @@
 use Rattle.std.proofs.Common.{ap, ℕ, ◌+◌, ◌*◌, ◌-◌, ◌≤◌, arith}
 use Rattle.network.specs.Sizes.{most_nodes}
 use Rattle.network.specs.Layout.{queue_start}
-use Rattle.network.specs.TorusLaws.{sizes-nodes}
+use Rattle.network.proofs.TorusLaws.{sizes-nodes}
 use Rattle.queue.proofs.ClosedForms.{most_node_words, most_words, product_small, node-small, before_small}
 use Rattle.queue.proofs.queue_start.Goals as goal
 use Rattle.queue.proofs.queue_start.Goals.{After-words_before-before}

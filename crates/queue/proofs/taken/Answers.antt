@@ -2,9 +2,9 @@
 use Rattle.std.proofs.Common.{sym, ◌∙◌, ap, ◌+◌, ◌≤◌, arith, length}
 use Rattle.base.specs.Sums.{sum_of}
 use Rattle.network.specs.Sizes.{shape_of}
-use Rattle.network.specs.SizesLaws.{range-of, capacity-most}
+use Rattle.network.proofs.SizesLaws.{range-of, capacity-most}
 use Rattle.network.specs.Packet.{chunks}
-use Rattle.network.specs.LayoutLaws.{taken-length, taken-chunks}
+use Rattle.network.proofs.LayoutLaws.{taken-length, taken-chunks}
 use Rattle.queue.specs.HeldWords.{asked, held-part, held-end, held-few}
 use Rattle.queue.proofs.taken.Goals as goal
 use Rattle.queue.proofs.taken.Goals.{After-queue_start-first}

@@ -6,7 +6,7 @@ use Prim.Native.Nat.{◌+◌, ◌-◌, ◌<◌, ◌≤◌}
 use native.Mathlib.Omega.{arith}
 use Rattle.network.specs.Sizes.{shape_of, nodes}
 use Rattle.network.specs.Layout.{node_words}
-use Rattle.network.specs.TorusLaws.{sizes-nodes}
+use Rattle.network.proofs.TorusLaws.{sizes-nodes}
 use Rattle.packet_check.specs.Tables.{Tables}
 use Rattle.queue_check.proofs.Walks.{most_packets, most_work_left, NetWalk, net-start, net-first, net-tally, net-within, net-more, net-small, net-stop, net-done}
 use Rattle.queue_check.proofs.queues_fit.Statement.{statement}

@@ -1,6 +1,6 @@
 -- `reader::read_number` meets its contract. Assumes nothing.
 use Rattle.std.proofs.Common.{◌∙◌, ⊎_elim}
-use Rattle.sheet.specs.Numerals.{not-leading}
+use Rattle.sheet.proofs.Numerals.{not-leading}
 use Rattle.reader.proofs.ReadDigits.{number-of-digits, no_number, empty, leading, single}
 use Rattle.reader.proofs.read_number.Goals as goal
 use Rattle.reader.proofs.read_number.Goals.{then-n-gt1+else-field-eq48, else-n-gt1}

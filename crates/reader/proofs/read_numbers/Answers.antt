@@ -2,7 +2,7 @@
 use Rattle.std.proofs.Common.{sym, ◌∙◌, ⊎_elim, ◌+◌, ◌-◌, arith}
 use Rattle.sheet.specs.Text.{comma}
 use Rattle.sheet.specs.Commands.{ten, largest_number}
-use Rattle.sheet.specs.Fields.{end-within}
+use Rattle.sheet.proofs.Fields.{end-within}
 use Rattle.reader.specs.Reading.{number_fits}
 use Rattle.reader.proofs.Gather.{none, more, left_out, broken, all}
 use Rattle.reader.proofs.read_numbers.Goals as goal

@@ -5,8 +5,8 @@ use native.Mathlib.Nat.{lt_of_lt_of_le}
 use native.Mathlib.Omega.{arith}
 use Rattle.network.specs.Sizes.{shape_of}
 use Rattle.network.specs.Torus.{neighbour}
-use Rattle.network.specs.TorusLaws.{sizes-torus, sizes-nodes}
-use Rattle.network.specs.RoutesLaws.{target_is}
+use Rattle.network.proofs.TorusLaws.{sizes-torus, sizes-nodes}
+use Rattle.network.proofs.RoutesLaws.{target_is}
 use Rattle.near.specs.Table.{entry-within}
 use Rattle.ready.specs.ReadyHeads.{neighbour-node, arrival-marked}
 use Rattle.ready.proofs.mark_arrival.Statement.{statement}

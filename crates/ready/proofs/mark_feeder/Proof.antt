@@ -6,7 +6,7 @@ use native.Mathlib.Nat.{lt_of_lt_of_le}
 use native.Mathlib.Omega.{arith}
 use Rattle.network.specs.Sizes.{shape_of, nodes}
 use Rattle.network.specs.Torus.{neighbour}
-use Rattle.network.specs.TorusLaws.{sizes-torus, sizes-nodes}
+use Rattle.network.proofs.TorusLaws.{sizes-torus, sizes-nodes}
 use Rattle.near.specs.Table.{entry-within}
 use Rattle.ready.specs.ReadyHeads.{neighbour-node, before-is, feeder-marked}
 use Rattle.ready.proofs.mark_feeder.Statement.{statement}

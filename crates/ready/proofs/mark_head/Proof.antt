@@ -4,7 +4,7 @@ use Prim.Native.Nat.{◌<◌}
 use native.Mathlib.Nat.{lt_of_lt_of_le}
 use native.Mathlib.Omega.{arith}
 use Rattle.network.specs.Sizes.{shape_of, most_nodes}
-use Rattle.network.specs.TorusLaws.{sizes-nodes}
+use Rattle.network.proofs.TorusLaws.{sizes-nodes}
 use Rattle.ready.specs.ReadyHeads.{source-marked}
 use Rattle.ready.proofs.mark_head.Statement.{statement}
 use Rattle.ready.proofs.mark_head.Tie as tie

@@ -7,7 +7,7 @@ use native.Mathlib.Omega.{arith}
 use lib.ListN.{length}
 use Rattle.headset.specs.Set.{heads, LowestMember}
 use Rattle.network.specs.Sizes.{shape_of, nodes, most_nodes}
-use Rattle.network.specs.TorusLaws.{sizes-nodes}
+use Rattle.network.proofs.TorusLaws.{sizes-nodes}
 use Rattle.ready.specs.ReadyHeads.{Covered, covered-removed, lowest-first, lowest-rises, lowest-none, refused-some, move_some}
 use Rattle.ready.proofs.next_move.Statement.{statement}
 use Rattle.ready.proofs.next_move.Tie as tie

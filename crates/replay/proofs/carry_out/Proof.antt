@@ -6,7 +6,7 @@ use Prim.Native.Nat.{ℕ, ◌≤◌}
 use lib.ListN.{length}
 use Rattle.sheet.specs.declared.Command.{Command}
 use Rattle.replay.specs.Replay.{Shown, shown, shown_if, carried_out, changed, begins_dump, command_shown}
-use Rattle.replay.specs.Whole.{shown-within}
+use Rattle.replay.proofs.Whole.{shown-within}
 use borrow.Author.Rules.{rules}
 use Rattle.replay.proofs.carry_out.Statement.{statement}
 use Rattle.replay.proofs.carry_out.Tie as tie

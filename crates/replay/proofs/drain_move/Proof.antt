@@ -9,9 +9,9 @@ use lib.ListN.{length, take}
 use lib.Seq.{length-take-le}
 use Rattle.network.specs.declared.Drained.{Drained}
 use Rattle.network.specs.Calls.{drain_words, drain_answer, drained_moves, drained_delivered}
-use Rattle.network.specs.DrainLaws.{delivered-within}
+use Rattle.network.proofs.DrainLaws.{delivered-within}
 use Rattle.replay.specs.Replay.{Shown, shown, shown_if, one_word, moved_on, makes_move, room_left, move_shown}
-use Rattle.replay.specs.Whole.{shown-within}
+use Rattle.replay.proofs.Whole.{shown-within}
 use borrow.Author.Rules.{rules}
 use Rattle.replay.proofs.drain_move.Statement.{statement}
 use Rattle.replay.proofs.drain_move.Tie as tie

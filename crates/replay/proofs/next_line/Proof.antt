@@ -8,14 +8,15 @@ use Rattle.sheet.specs.Commands.{largest_number}
 use Rattle.session.specs.declared.Cursor.{Cursor}
 use Rattle.session.specs.Session.{ledger_words, store_words}
 use Rattle.session.specs.Coming.{coming, command_before}
-use Rattle.session.specs.ComingLaws.{next-given, next-none}
+use Rattle.session.proofs.ComingLaws.{next-given, next-none}
 use Rattle.replay.specs.declared.ReplayCursor.{ReplayCursor}
 use Rattle.replay.specs.declared.NextStep.{NextStep}
 use Rattle.replay.specs.Replay.{shown, carried_out, command_shown, moves_asked, FillsOf}
 use Rattle.replay.specs.Whole.{Roomy}
-use Rattle.replay.specs.FillsLaws.{command-tells}
+use Rattle.replay.proofs.FillsLaws.{command-tells}
 use Rattle.replay.specs.Steps.{finished, finished_by, Shows, GoesOn}
-use Rattle.replay.specs.StepsLaws.{replay_at, command-made, read-ended, onward-leads, onward-shows, command-fewer}
+use Rattle.replay.specs.StepsLaws.{replay_at}
+use Rattle.replay.proofs.StepsLaws.{command-made, read-ended, onward-leads, onward-shows, command-fewer}
 use borrow.Author.Rules.{rules}
 use Rattle.replay.proofs.next_line.Statement.{statement}
 use Rattle.replay.proofs.next_line.Tie as tie

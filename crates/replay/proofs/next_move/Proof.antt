@@ -10,9 +10,10 @@ use Rattle.replay.specs.declared.ReplayCursor.{ReplayCursor}
 use Rattle.replay.specs.declared.NextStep.{NextStep}
 use Rattle.replay.specs.Replay.{shown, moved_on, move_shown, move_bytes, FillsOf}
 use Rattle.replay.specs.Whole.{Roomy}
-use Rattle.replay.specs.FillsLaws.{move-tells}
+use Rattle.replay.proofs.FillsLaws.{move-tells}
 use Rattle.replay.specs.Steps.{finished, finished_by, Shows, GoesOn}
-use Rattle.replay.specs.StepsLaws.{replay_at, Onward, move-made, move-ended, onward-leads, onward-shows, move-fewer}
+use Rattle.replay.specs.StepsLaws.{replay_at, Onward}
+use Rattle.replay.proofs.StepsLaws.{move-made, move-ended, onward-leads, onward-shows, move-fewer}
 use borrow.Author.Rules.{rules}
 use Rattle.replay.proofs.next_move.Statement.{statement}
 use Rattle.replay.proofs.next_move.Tie as tie

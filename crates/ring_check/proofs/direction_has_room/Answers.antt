@@ -1,7 +1,7 @@
 -- `ring_check::direction_has_room` meets its contract. Assumes nothing.
 use Rattle.std.proofs.Common.{◌*◌, arith}
 use Rattle.network.specs.Sizes.{shape_of}
-use Rattle.network.specs.TorusLaws.{sizes-torus, nodes-pos}
+use Rattle.network.proofs.TorusLaws.{sizes-torus, nodes-pos}
 use Rattle.ring_check.specs.RingLines.{RingsIn}
 use Rattle.ring_check.proofs.RingWalks.{Found, made, found_in, found-are}
 use Rattle.ring_check.proofs.direction_has_room.Goals as goal

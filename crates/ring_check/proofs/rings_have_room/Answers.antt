@@ -1,7 +1,7 @@
 -- `ring_check::rings_have_room` meets its contract: the goals that the check does not find by itself. Assumes nothing.
 use Rattle.std.proofs.Common.{◌≡◌, refl, ap, sym, ◌∙◌, Bool, true, List, ℕ, ◌-◌, arith}
 use Rattle.base.specs.Tests.{all_below}
-use Rattle.base.specs.Bools.{fails-at, all_more}
+use Rattle.base.proofs.Bools.{fails-at, all_more}
 use Rattle.network.specs.Sizes.{Shape, shape_of, directions, nodes}
 use Rattle.network.specs.Check.{ring_has_room, rings_have_room}
 use Rattle.ring_check.proofs.rings_have_room.Goals as goal

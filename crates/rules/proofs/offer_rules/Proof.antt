@@ -9,7 +9,7 @@ use borrow.Author.Tests.{eq-eqb, ne_eqb, le-leb, lt-leb}
 use lib.Dec.{leb, eqb}
 use Rattle.network.specs.Sizes.{Shape, shape_of, nodes, capacity, injection_queue}
 use Rattle.network.specs.Layout.{accepted, taken}
-use Rattle.network.specs.LayoutLaws.{header-long, taken-length}
+use Rattle.network.proofs.LayoutLaws.{header-long, taken-length}
 use Rattle.network.specs.Check.{most_accepted}
 use Rattle.network.specs.Refusals.{refuse, wrong_chunks, offer_rules, wrong_size, no_such_node, count_spent, injection_full, own_node}
 use Rattle.rules.proofs.offer_rules.Statement.{statement}

@@ -7,13 +7,13 @@ use native.Mathlib.Omega.{arith}
 use mir.Syntax.{w64}
 use mir.Val.{Fits}
 use lib.ListN.{length}
-use Rattle.base.specs.Parts.{length-span, length-splice}
+use Rattle.base.proofs.Parts.{length-span, length-splice}
 use Rattle.session.specs.Session.{command_room}
 use Rattle.session.specs.Reads.{sheet, answer_read}
 use Rattle.session.specs.Coming.{coming, command_before}
-use Rattle.session.specs.ComingLaws.{next-given, next-none, fewer-coming}
+use Rattle.session.proofs.ComingLaws.{next-given, next-none, fewer-coming}
 use Rattle.session.specs.Running.{Answering}
-use Rattle.session.specs.RunningLaws.{put-within, answering-none, answering-room, answering-more, answering-all}
+use Rattle.session.proofs.RunningLaws.{put-within, answering-none, answering-room, answering-more, answering-all}
 use borrow.Author.Rules.{rules}
 use Rattle.session.proofs.answer_read.Statement.{statement}
 use Rattle.session.proofs.answer_read.Tie as tie

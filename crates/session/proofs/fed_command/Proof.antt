@@ -9,7 +9,7 @@ use Rattle.sheet.specs.declared.Command.{Command}
 use Rattle.sheet.specs.Commands.{command_of}
 use Rattle.session.specs.declared.NextCommand.{NextCommand}
 use Rattle.session.specs.Coming.{cursor_at, fed_command}
-use Rattle.session.specs.RunningLaws.{line-within}
+use Rattle.session.proofs.RunningLaws.{line-within}
 use borrow.Author.Rules.{rules}
 use Rattle.session.proofs.fed_command.Statement.{statement}
 use Rattle.session.proofs.fed_command.Tie as tie

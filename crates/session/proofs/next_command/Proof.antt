@@ -4,9 +4,9 @@ use mathlib.Core.Path.{◌≡◌, refl, ap, sym, ◌∙◌}
 use Prim.Native.Nat.{◌-◌}
 use lib.ListN.{length}
 use Rattle.session.specs.Coming.{cursor_at, coming, coming_by}
-use Rattle.session.specs.ComingLaws.{byte_more, byte-line, byte-long, bytes-passed, end-coming}
+use Rattle.session.proofs.ComingLaws.{byte_more, byte-line, byte-long, bytes-passed, end-coming}
 use Rattle.session.specs.Running.{LineWithin}
-use Rattle.session.specs.RunningLaws.{took-within, finished-within}
+use Rattle.session.proofs.RunningLaws.{took-within, finished-within}
 use borrow.Author.Rules.{rules}
 use Rattle.session.proofs.next_command.Statement.{statement}
 use Rattle.session.proofs.next_command.Tie as tie

@@ -6,7 +6,7 @@ use Rattle.network.specs.Calls.{drained_delivered}
 use borrow.Author.Rules.{rules}
 use native.Mathlib.Omega.{arith}
 use Rattle.session.specs.Session.{perform}
-use Rattle.network.specs.DrainLaws.{delivered-within}
+use Rattle.network.proofs.DrainLaws.{delivered-within}
 use Rattle.session.proofs.run_drain.Statement.{statement}
 use Rattle.session.proofs.run_drain.Tie as tie
 

@@ -1,7 +1,7 @@
 -- `torus::coordinate` meets its contract. Assumes nothing.
 use Rattle.std.proofs.Common.{arith}
 use Rattle.network.specs.Sizes.{shape_of}
-use Rattle.network.specs.TorusLaws.{sizes-torus, size-pos}
+use Rattle.network.proofs.TorusLaws.{sizes-torus, size-pos}
 use Rattle.torus.specs.GeometryLaws.{coordinate-is, weight-some}
 use Rattle.torus.proofs.coordinate.Goals as goal
 

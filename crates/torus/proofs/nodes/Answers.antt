@@ -1,6 +1,6 @@
 -- `torus::nodes` meets its contract. Assumes nothing.
 use Rattle.std.proofs.Common.{arith}
-use Rattle.network.specs.TorusLaws.{sizes-nodes}
+use Rattle.network.proofs.TorusLaws.{sizes-nodes}
 use Rattle.torus.specs.GeometryLaws.{nodes-is, plane-most}
 use Rattle.torus.proofs.nodes.Goals as goal
 

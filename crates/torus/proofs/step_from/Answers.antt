@@ -1,7 +1,7 @@
 -- `torus::step_from` meets its contract. Assumes nothing.
 use Rattle.std.proofs.Common.{arith, le_trans, le_of_eq}
 use Rattle.network.specs.Sizes.{shape_of, dimension_of}
-use Rattle.network.specs.TorusLaws.{sizes-torus, sizes-nodes, in_range-size}
+use Rattle.network.proofs.TorusLaws.{sizes-torus, sizes-nodes, in_range-size}
 use Rattle.torus.specs.GeometryLaws.{Ring, within-ring, neighbour-small, step-on, step-round, step_back, step-back-round}
 use Rattle.torus.proofs.step_from.Goals as goal
 use Rattle.torus.proofs.step_from.Goals.{After-weight-w, Start}

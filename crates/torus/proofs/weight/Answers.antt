@@ -1,6 +1,6 @@
 -- `torus::weight` meets its contract. Assumes nothing.
 use Rattle.std.proofs.Common.{arith}
-use Rattle.network.specs.TorusLaws.{sizes-nodes}
+use Rattle.network.proofs.TorusLaws.{sizes-nodes}
 use Rattle.torus.specs.GeometryLaws.{last-dimension, weight-x, weight-y, weight-z, plane-most}
 use Rattle.torus.proofs.weight.Goals as goal
 

@@ -8,7 +8,7 @@ use Rattle.network.specs.declared.Found.{Found}
 use Rattle.network.specs.declared.Stop.{Stop}
 use Rattle.turns.specs.declared.Turn.{Turn}
 use Rattle.turns.specs.Turns.{turn_by, first-permitted}
-use Rattle.network.specs.LayoutLaws.{header-long}
+use Rattle.network.proofs.LayoutLaws.{header-long}
 use Rattle.turns.specs.Turned.{Turned, turned-emptied, turned-spent, turned-nowhere, turned_by, by-nothing, by-refused}
 use Rattle.turns.proofs.take_turn.Statement.{statement}
 use Rattle.turns.proofs.take_turn.Tie as tie

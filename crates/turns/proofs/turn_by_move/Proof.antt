@@ -3,9 +3,9 @@ use borrow.Author.Rules.{rules}
 use mathlib.Core.Path.{◌≡◌}
 use native.Mathlib.Omega.{arith}
 use Rattle.network.specs.Sizes.{shape_of}
-use Rattle.network.specs.TorusLaws.{sizes-torus, sizes-nodes}
+use Rattle.network.proofs.TorusLaws.{sizes-torus, sizes-nodes}
 use Rattle.network.specs.Routes.{target}
-use Rattle.network.specs.RoutesLaws.{target_is}
+use Rattle.network.proofs.RoutesLaws.{target_is}
 use Rattle.near.specs.Table.{entry-within}
 use Rattle.turns.specs.Turned.{turned-passed, turned-delivered, turned-full}
 use Rattle.turns.proofs.turn_by_move.Statement.{statement}

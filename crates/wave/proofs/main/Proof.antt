@@ -3,9 +3,10 @@
 use mathlib.Core.Path.{◌≡◌}
 use mathlib.Core.Bool.{true}
 use mathlib.Core.List.{[]}
-use Rattle.session.specs.Reads.{sheet, Reached, reached-start}
+use Rattle.session.specs.Reads.{sheet, Reached}
+use Rattle.session.proofs.Reads.{reached-start}
 use Rattle.replay.specs.Replay.{FillsOf}
-use Rattle.replay.specs.FillsLaws.{fills-start}
+use Rattle.replay.proofs.FillsLaws.{fills-start}
 use borrow.Author.Rules.{rules}
 use Rattle.wave.proofs.main.Statement.{statement}
 use Rattle.wave.proofs.main.Tie as tie

@@ -6,7 +6,7 @@ use lib.ListN.{length}
 use Rattle.session.specs.Reads.{sheet, sheet_after}
 use Rattle.replay.specs.Replay.{FillsOf}
 use Rattle.replay.specs.Steps.{finished, left_to_do}
-use Rattle.replay.specs.StepsLaws.{start-finished, done-leads, done_on, used-leads}
+use Rattle.replay.proofs.StepsLaws.{start-finished, done-leads, done_on, used-leads}
 use borrow.Author.Rules.{rules}
 use Rattle.wave.proofs.write_steps.Statement.{statement}
 use Rattle.wave.proofs.write_steps.Tie as tie

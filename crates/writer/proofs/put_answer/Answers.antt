@@ -1,7 +1,7 @@
 -- `writer::put_answer` meets its contract: a number of 64 bits has at most 20 digits. Assumes nothing.
 use Rattle.sheet.specs.Output.{answer_line, answer_room}
-use Rattle.sheet.specs.Lengths.{answer-length}
-use Rattle.sheet.specs.Puts.{enough}
+use Rattle.sheet.proofs.Lengths.{answer-length}
+use Rattle.sheet.proofs.Puts.{enough}
 use Rattle.writer.proofs.put_answer.Goals as goal
 
 pub put_line-requires : goal.put_line-requires

@@ -1,8 +1,8 @@
 -- `writer::put_delivery` meets its contract: the packet's line, then the Move's. Assumes nothing.
 use Rattle.std.proofs.Common.{◌++◌}
 use Rattle.sheet.specs.Output.{answer_line, packet_line, moved_lines, moved_room, Room}
-use Rattle.sheet.specs.Lengths.{delivery-length}
-use Rattle.sheet.specs.Puts.{enough, room-first, room-behind, put-behind}
+use Rattle.sheet.proofs.Lengths.{delivery-length}
+use Rattle.sheet.proofs.Puts.{enough, room-first, room-behind, put-behind}
 use Rattle.writer.proofs.put_delivery.Goals as goal
 use Rattle.writer.proofs.put_delivery.Goals.{Start}
 

@@ -1,7 +1,7 @@
 -- `writer::put_drained` meets its contract: the packets, which are the first words of the ledger, then the line. Assumes nothing.
 use Rattle.std.proofs.Common.{sym, ℕ, ◌≤◌, ◌^◌, ◌<◌, arith, length, get_or, take, length-take-le}
 use Rattle.sheet.specs.Output.{packet_lines, drained_lines, Room}
-use Rattle.sheet.specs.Puts.{put-behind}
+use Rattle.sheet.proofs.Puts.{put-behind}
 use Rattle.writer.proofs.DrainRoom.{packets-room, drain-room}
 use Rattle.writer.proofs.put_drained.Goals as goal
 use Rattle.writer.proofs.put_drained.Goals.{After-drained_delivered-delivered}

@@ -2,7 +2,7 @@
 use Rattle.std.proofs.Common.{[], ◌∷◌}
 use Rattle.sheet.specs.Text.{comma, cr, lf}
 use Rattle.sheet.specs.Output.{decimal, fields_and_end, line, answer_line, Room}
-use Rattle.sheet.specs.Puts.{room-first, room-behind, put-behind}
+use Rattle.sheet.proofs.Puts.{room-first, room-behind, put-behind}
 use Rattle.writer.proofs.put_line.Goals as goal
 use Rattle.writer.proofs.put_line.Goals.{Start}
 

@@ -1,9 +1,9 @@
 -- `writer::put_packet` meets its contract: the letter and the tag, the destination, the end. Assumes nothing.
 use Rattle.std.proofs.Common.{◌≡◌, refl, List, [], ◌∷◌, ◌++◌, ℕ, ◌/◌, ◌%◌, ◌^◌}
-use Rattle.network.specs.PacketLaws.{tag_is, destination-is}
+use Rattle.network.proofs.PacketLaws.{tag_is, destination-is}
 use Rattle.sheet.specs.Text.{comma, cr, lf}
 use Rattle.sheet.specs.Output.{decimal, fields_and_end, line, packet_line, Room}
-use Rattle.sheet.specs.Puts.{first-room, second-room, third-room, put_three}
+use Rattle.sheet.proofs.Puts.{first-room, second-room, third-room, put_three}
 use Rattle.writer.proofs.put_packet.Goals as goal
 use Rattle.writer.proofs.put_packet.Goals.{Start}
 

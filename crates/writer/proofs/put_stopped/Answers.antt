@@ -3,8 +3,8 @@ use Rattle.std.proofs.Common.{List, [], ◌∷◌, ◌++◌, ℕ}
 use Rattle.network.specs.declared.Stop.{Stop}
 use Rattle.sheet.specs.Text.{comma}
 use Rattle.sheet.specs.Output.{decimal, fields_and_end, line, stop_word, stopped_line, drain_room, Room}
-use Rattle.sheet.specs.Lengths.{stopped-length}
-use Rattle.sheet.specs.Puts.{enough, first-room, second-room, third-room, put_three}
+use Rattle.sheet.proofs.Lengths.{stopped-length}
+use Rattle.sheet.proofs.Puts.{enough, first-room, second-room, third-room, put_three}
 use Rattle.writer.proofs.put_stopped.Goals as goal
 use Rattle.writer.proofs.put_stopped.Goals.{Start}
 

@@ -1,24 +1,25 @@
 -- Laws of Running.antt's facts, for the code. Order: bytes put into a buffer's part; an answer under way; the line that a byte or the end of the input
 -- hands on. Assumes nothing.
-use Rattle.std.specs.Prelude.{◌≡◌, refl, List, [], ◌∷◌, ◌++◌, ℕ, ◌+◌, ◌*◌, ◌-◌, ◌<◌, ◌≤◌, length, get_or, take}
+use Rattle.std.specs.Prelude.{◌≡◌, List, [], ◌++◌, ℕ, ◌+◌, ◌*◌, ◌-◌, ◌<◌, ◌≤◌, length, get_or, take}
 use Rattle.std.proofs.Common.{sym, ◌∙◌, subst, append-nil, append_assoc, zero-add, arith, length-append, length-drop, take-append-drop, length-take-le, take_at, drop_at, drop-drop}
 use Rattle.std.proofs.Math.Path.{ap}
 use Rattle.std.proofs.Math.Decide.{dec_le, dec_lt, ℕ_discrete}
 use Rattle.std.proofs.Math.ListN.{drop}
 use Rattle.std.proofs.lemmas.List.{drop-append-le}
-use Rattle.base.specs.Parts.{span, splice, length-span}
+use Rattle.base.specs.Parts.{span, splice}
+use Rattle.base.proofs.Parts.{length-span}
 use Rattle.sheet.specs.declared.Fed.{Fed}
 use Rattle.sheet.specs.declared.Command.{Command}
 use Rattle.sheet.specs.Text.{cr, lf}
 use Rattle.sheet.specs.Lines.{line_limit}
 use Rattle.sheet.specs.Output.{written, Put}
-use Rattle.sheet.specs.Puts.{put-none, put-behind}
+use Rattle.sheet.proofs.Puts.{put-none, put-behind}
 use Rattle.sheet.specs.Cutting.{held_bytes, ended_answer, fed_buffer, fed_answer, finished_answer, ByteFed}
-use Rattle.sheet.specs.Cuts.{ended-empty, ended-over, ended-cr, ended-long, ended-line, fed-end, fed-held, fed-over, finished-none, finished-long, finished-line}
+use Rattle.sheet.proofs.Cuts.{ended-empty, ended-over, ended-cr, ended-long, ended-line, fed-end, fed-held, fed-over, finished-none, finished-long, finished-line}
 use Rattle.session.specs.Session.{perform, command_room}
 use Rattle.session.specs.Reads.{Sheet, sheet, Answered, answer_read, printed_before}
 use Rattle.session.specs.Coming.{Coming, cursor_at, coming, command_before, none_coming, carry_coming}
-use Rattle.session.specs.ComingLaws.{fewer-coming, read-coming, carry-command, carry-none, coming-few}
+use Rattle.session.proofs.ComingLaws.{fewer-coming, read-coming, carry-command, carry-none, coming-few}
 use Rattle.session.specs.Running.{LineWithin, Answering}
 
 -- bytes that were put without making the buffer longer lie within it

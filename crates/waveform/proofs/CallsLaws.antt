@@ -8,16 +8,19 @@ use Rattle.std.proofs.Math.ListN.{get_or-append}
 use Rattle.std.proofs.Math.Seq.{drop-append_seam}
 use Rattle.network.specs.Layout.{shape, held}
 use Rattle.network.specs.Refusals.{network_refusal, refuse, bad_line, short_page}
-use Rattle.network.specs.RefusalLaws.{not-refused, neither}
+use Rattle.network.proofs.RefusalLaws.{not-refused, neither}
 use Rattle.network.specs.Calls.{unless_refused}
 use Rattle.waveform.specs.Dump.{variables_of, fills, Change}
 use Rattle.waveform.specs.Reading.{Step, read_step, needed}
 use Rattle.waveform.specs.Calls.{fills_now, written_step, write_rules, write_refusal, write_answer, write_page, write_list, read_refusal, written_length}
-use Rattle.waveform.specs.DumpLaws.{fills_to-at, fills-length}
-use Rattle.waveform.specs.Lengths.{page_room, step_room}
+use Rattle.waveform.proofs.DumpLaws.{fills_to-at, fills-length}
+use Rattle.waveform.specs.Lengths.{page_room}
+use Rattle.waveform.proofs.Lengths.{step_room}
 use Rattle.waveform.specs.ReadingLaws.{step_of}
-use Rattle.waveform.specs.Exact.{StepIn, OnlySteps, only-steps, every-step}
-use Rattle.waveform.specs.ChangesLaws.{IsTold, needed-exactly}
+use Rattle.waveform.specs.Exact.{StepIn, OnlySteps}
+use Rattle.waveform.proofs.Exact.{only-steps, every-step}
+use Rattle.waveform.specs.ChangesLaws.{IsTold}
+use Rattle.waveform.proofs.ChangesLaws.{needed-exactly}
 
 -- When a step is written (R413) -----------------------------------------------------------------------------------------------------------
 

@@ -4,10 +4,10 @@ use Rattle.std.specs.Prelude.{List, [], ◌∷◌, ◌++◌, ℕ, suc, ◌+◌, 
 use Rattle.std.proofs.Common.{arith, length-append}
 use Rattle.network.specs.declared.Stop.{Stop}
 use Rattle.network.specs.Packet.{tag, destination}
-use Rattle.network.specs.PacketLaws.{tag-within, destination-within}
+use Rattle.network.proofs.PacketLaws.{tag-within, destination-within}
 use Rattle.sheet.specs.Commands.{ten}
 use Rattle.sheet.specs.Output.{decimal, fields_and_end, line, answer_line, packet_line, packet_lines, stop_word, stopped_line, answer_room, packet_room, moved_room, drain_room}
-use Rattle.sheet.specs.Numerals.{numeral-length}
+use Rattle.sheet.proofs.Numerals.{numeral-length}
 
 pub answer-length : (letter n : ℕ) → n < 2 ^ 64 → length (answer_line letter n) ≤ answer_room
 unfolding answer_line line fields_and_end

@@ -5,19 +5,21 @@ use Rattle.std.proofs.Common.{ap, ◌∙◌, inl, inr, arith, ne_eqb, ltb→lt, 
 use Rattle.std.proofs.Math.Decide.{dec_lt}
 use Rattle.std.proofs.lemmas.Bool.{lt-leb}
 use Rattle.std.proofs.Math.Dec.{eqb_refl, not_T}
-use Rattle.base.specs.Tests.{all_of, elem, and_l, and_r, and_i, T_true}
+use Rattle.base.specs.Tests.{all_of, elem}
+use Rattle.base.proofs.Tests.{and_l, and_r, and_i, T_true}
 use Rattle.network.specs.Sizes.{Shape, nodes, queues, directions, most_chunks, direction_of, adaptive_queue, escape_queue, is_escape, is_adaptive, capacity}
-use Rattle.network.specs.SizesLaws.{adaptive-chunks, adaptive-capacity}
+use Rattle.network.proofs.SizesLaws.{adaptive-chunks, adaptive-capacity}
 use Rattle.network.specs.Packet.{chunks, distance, heading, hops_left}
-use Rattle.network.specs.PacketLaws.{heading-lt}
-use Rattle.network.specs.TorusLaws.{in_range-torus, neighbour-lt}
+use Rattle.network.proofs.PacketLaws.{heading-lt}
+use Rattle.network.proofs.TorusLaws.{in_range-torus, neighbour-lt}
 use Rattle.network.specs.Layout.{shape, held, load, taken}
-use Rattle.network.specs.LayoutLaws.{load-chunks, load-escape, load-pos, taken-equal}
+use Rattle.network.proofs.LayoutLaws.{load-chunks, load-escape, load-pos, taken-equal}
 use Rattle.network.specs.CheckLaws.{Network}
 use Rattle.network.specs.Routes.{routes, deliver, target, free_load, enters_ring, load_needed}
-use Rattle.network.specs.RoutesLaws.{Onward, route-of, free-load-is}
+use Rattle.network.specs.RoutesLaws.{Onward}
+use Rattle.network.proofs.RoutesLaws.{route-of, free-load-is}
 use Rattle.network.specs.Refusals.{refuse, network_refusal, head, flow_rules, move_rules, move_refusal, no_such_node, no_such_queue, no_such_output, queue_empty, no_route, no_slot, no_bubble}
-use Rattle.network.specs.RefusalLaws.{else_by-zero, network-passed}
+use Rattle.network.proofs.RefusalLaws.{else_by-zero, network-passed}
 use Rattle.network.specs.FlowControl.{Enters, FlowControl, ByFree, Standing}
 
 -- R80, R151, R152: the test of Routes.antt passes exactly for those who enter a ring

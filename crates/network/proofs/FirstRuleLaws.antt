@@ -5,18 +5,19 @@ use Rattle.std.proofs.Common.{ap, sym, ◌∙◌, inl, inr, arith, eq-eqb, leb�
 use Rattle.std.proofs.Math.Decide.{ℕ_discrete}
 use Rattle.std.proofs.lemmas.Bool.{lt-leb}
 use Rattle.std.proofs.Math.Dec.{eqb_refl, not_T, nleb→lt}
-use Rattle.base.specs.Tests.{elem, or_l, or_r, or-e}
+use Rattle.base.specs.Tests.{elem}
+use Rattle.base.proofs.Tests.{or_l, or_r, or-e}
 use Rattle.network.specs.Sizes.{Shape, within, sizes_in_range, most_chunks, nodes, queues, injection_queue, capacity}
 use Rattle.network.specs.Layout.{shape, header_words, need, held, load, taken, accepted}
-use Rattle.network.specs.LayoutLaws.{taken-length}
+use Rattle.network.proofs.LayoutLaws.{taken-length}
 use Rattle.network.specs.Check.{is_network, most_accepted}
 use Rattle.network.specs.Routes.{routes, deliver, free_load}
 use Rattle.network.specs.Refusals.{refuse, else_by, head, network_refusal, make_refusal, offer_rules, offer_refusal, flow_rules, move_rules, move_refusal, credit_rules, credit_refusal, look_rules, look_refusal}
-use Rattle.network.specs.RefusalLaws.{else_by-zero, else_by-first}
+use Rattle.network.proofs.RefusalLaws.{else_by-zero, else_by-first}
 use Rattle.network.specs.FlowControl.{Enters, ByFree}
-use Rattle.network.specs.FlowControlLaws.{flow-by-free}
+use Rattle.network.proofs.FlowControlLaws.{flow-by-free}
 use Rattle.network.specs.Calls.{move_answer, moved_number, credit_answer, credit_number, first_answer, found_number, drain_answer, drained_number}
-use Rattle.network.specs.Answers.{move-tells, credit-tells, first-tells, drain-tells}
+use Rattle.network.proofs.Answers.{move-tells, credit-tells, first-tells, drain-tells}
 use Rattle.network.specs.FirstRule.{Test, test, NoneApplies, Breaks, FirstRule, make_tests, network_tests, offer_tests, flow_tests, move_tests, credit_tests, look_tests, InOrder}
 
 -- Lists of tests joined -----------------------------------------------------------------------------------------------------------------

@@ -3,7 +3,8 @@
 use Rattle.std.specs.Prelude.{◌≡◌, refl, ◌⊎◌, Bool, true, false, not, ◌&&◌, ℕ, ◌+◌, ◌<◌, T}
 use Rattle.std.proofs.Common.{ap, sym, ◌∙◌, inl, inr, add-one}
 use Rattle.std.proofs.lemmas.Bool.{false≢true}
-use Rattle.base.specs.Tests.{all_below, some_below, all-at, some-by, T_true, true-T, T_false, passed?}
+use Rattle.base.specs.Tests.{all_below, some_below}
+use Rattle.base.proofs.Tests.{all-at, some-by, T_true, true-T, T_false, passed?}
 
 pub same_test : (a b : Bool) → (T a → T b) → (T b → T a) → a ≡ b
 same_test true true f g = refl

@@ -1,0 +1,27 @@
+-- The laws of the definitions in specs/.
+pub mod SizesLaws
+pub mod PacketLaws
+pub mod TorusLaws
+pub mod LayoutLaws
+pub mod CheckLaws
+pub mod SameWords
+pub mod RoutesLaws
+pub mod SelectionLaws
+pub mod RefusalLaws
+pub mod FlowControlLaws
+pub mod AfterLaws
+pub mod CallLaws
+pub mod FirstLaws
+pub mod ChoiceLaws
+pub mod Answers
+pub mod FirstRuleLaws
+pub mod OfferLaws
+pub mod DrainLaws
+pub mod RunLaws
+pub mod FirstMovesLaws
+pub mod InListsLaws
+pub mod SamePackets
+pub mod TogetherLaws
+pub mod Rows
+pub mod TogetherRows
+pub mod Cases
