@@ -7,7 +7,7 @@ use Prim.Native.Nat.{ℕ, ◌+◌, ◌*◌, ◌-◌, ◌^◌, ◌<◌, ◌≤◌
 use native.Mathlib.Omega.{arith}
 use borrow.Author.Tests.{eq-eqb, ne_eqb}
 use lib.ListN.{length, get_or, set, drop, replicate, length-append, length-drop, replicate-append-replicate}
-use Rattle.network.specs.Sizes.{Shape, shape_of, nodes, queues, capacity, injection_queue, direction_of, dimension_of}
+use Rattle.network.specs.Sizes.{Shape, shape_of, nodes, capacity, injection_queue, direction_of, dimension_of}
 use Rattle.network.specs.Packet.{hop}
 use Rattle.network.specs.Torus.{neighbour}
 use Rattle.network.specs.TorusLaws.{Torus}

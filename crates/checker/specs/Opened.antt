@@ -1,7 +1,7 @@
 -- What a call finds that opens the lent words (R181): the refusal, or that they are a network, with its sizes. Order: the answer; what holds in
 -- each case; that it holds. Assumes nothing.
-use Rattle.std.specs.Prelude.{◌≡◌, refl, ◌≢◌, Bool, true, false, cond, List, ℕ, ◌+◌, ◌*◌, ◌≤◌, eqb, length, get_or}
-use Rattle.std.proofs.Common.{ap, sym, ◌∙◌, subst, arith, eq-eqb, ne_eqb, eqb→eq}
+use Rattle.std.specs.Prelude.{◌≡◌, refl, ◌≢◌, Bool, true, false, cond, List, ℕ, eqb, get_or}
+use Rattle.std.proofs.Common.{ap, sym, ◌∙◌, subst, eq-eqb, ne_eqb, eqb→eq}
 use Rattle.std.proofs.lemmas.Bool.{eqb-false}
 use Rattle.base.proofs.Tests.{true-T}
 use Rattle.network.specs.declared.Sizes.{Sizes}

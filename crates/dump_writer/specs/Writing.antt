@@ -1,6 +1,6 @@
 -- What the inner functions of the writer of a dump do, in terms of `waveform`, specs/Dump.antt and Calls.antt. Nothing here has to be believed: no contract of
 -- a call names it. Order: fills read into a list; a step of fills that have been read; that of a network's fills it is what the calls say. Assumes nothing.
-use Rattle.std.specs.Prelude.{◌≡◌, ◌≢◌, Bool, true, ◌||◌, eqb, ltb, length, get_or}
+use Rattle.std.specs.Prelude.{◌≡◌, ◌≢◌, Bool, true, ◌||◌, ltb, length, get_or}
 use Rattle.std.proofs.Math.Path.{refl, ap, ap₂, sym}
 use Rattle.std.proofs.Common.{◌∙◌, length-append, length-drop, drop-cons}
 use mathlib.Core.List.{List, [], ◌∷◌, ◌++◌, append-nil, append_assoc}
@@ -9,7 +9,7 @@ use native.Mathlib.Omega.{arith}
 use Rattle.std.proofs.Math.ListN.{drop, set}
 use Rattle.std.proofs.Math.Seq.{drop-length, set_at}
 use borrow.Author.Tests.{ne_eqb, le-ltb}
-use Rattle.network.specs.Sizes.{Shape, nodes, queues}
+use Rattle.network.specs.Sizes.{Shape, queues}
 use Rattle.network.specs.Layout.{shape, moves_made, held}
 use Rattle.network.specs.Refusals.{network_refusal, refuse, short_page}
 use Rattle.network.proofs.RefusalLaws.{else_by-zero, else_by-first}

@@ -1,5 +1,5 @@
 -- `changes::clear` meets its contract: the goals that the check does not find by itself. Assumes nothing.
-use Rattle.std.proofs.Common.{◌≡◌, refl, ap, ◌∙◌, List, ◌++◌, ℕ, ◌-◌, arith, drop, set, replicate, length-set}
+use Rattle.std.proofs.Common.{◌≡◌, refl, ap, ◌∙◌, List, ◌++◌, ℕ, arith, drop, set, replicate, length-set}
 use borrow.Author.Fill.{fill_none, fill_more}
 use Rattle.changes.proofs.clear.Goals as goal
 

@@ -13,4 +13,8 @@ neighbour-there-requires c = (c.requires.network.in-range, omega arith, c.requir
 pub move_to-requires-2 : goal.move_to-requires-2
 move_to-requires-2 c =
     let a = c.args in
-    (c.requires.network, (c.requires.permitted, λ away. target_is (shape_of a.s) a.n a.o _ _ c.direction_of.ensures c.neighbour-there.ensures))
+    record {
+      network = c.requires.network;
+      permitted = c.requires.permitted;
+      there_value = λ away. target_is (shape_of a.s) a.n a.o _ _ c.direction_of.ensures c.neighbour-there.ensures;
+    }

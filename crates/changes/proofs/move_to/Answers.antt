@@ -29,10 +29,12 @@ left c =
     }
 
 pub raise-requires : goal.raise-requires
-raise-requires c = delivered-left (left (goal.at.raise-requires c).After-pop-p)
+raise-requires c = let may = delivered-left (left (goal.at.raise-requires c).After-pop-p) in record { at_in_bounds = may.0; at_bound = may.1 }
 
 pub raise-requires-then-o-eq-DELIVER : goal.raise-requires-then-o-eq-DELIVER
-raise-requires-then-o-eq-DELIVER c = moves-handed (left (goal.at.raise-requires-then-o-eq-DELIVER c).After-pop-p) c.raise.new.words c.raise.ensures
+raise-requires-then-o-eq-DELIVER c =
+    let may = moves-handed (left (goal.at.raise-requires-then-o-eq-DELIVER c).After-pop-p) c.raise.new.words c.raise.ensures in
+    record { at_in_bounds = may.0; at_bound = may.1 }
 
 pub returns-then-o-eq-DELIVER : goal.returns-then-o-eq-DELIVER
 returns-then-o-eq-DELIVER c = record { words = handed-words (left (goal.at.returns-then-o-eq-DELIVER c).After-pop-p) c.raise.new.words c.raise-then-o-eq-DELIVER.new.words c.if-o-eq-DELIVER.true c.raise.ensures c.raise-then-o-eq-DELIVER.ensures; head = c.pop-p.ensures.head }
@@ -53,9 +55,10 @@ push-requires c =
 
 pub raise-requires-2 : goal.raise-requires-2
 unfolding target
-raise-requires-then-o-eq-DELIVER c =
-    moves-arrived (left (goal.at.raise-requires-2 c).After-pop-p) c.args.there c.if-o-eq-DELIVER.false (c.requires.there_value c.if-o-eq-DELIVER.false) c.hop-hopped.result
-    c.push.new.words c.push.ensures
+raise-requires-2 c =
+    let may = moves-arrived (left (goal.at.raise-requires-2 c).After-pop-p) c.args.there c.if-o-eq-DELIVER.false (c.requires.there_value c.if-o-eq-DELIVER.false) c.hop-hopped.result
+      c.push.new.words c.push.ensures in
+    record { at_in_bounds = may.0; at_bound = may.1 }
 
 pub returns : goal.returns
 unfolding target

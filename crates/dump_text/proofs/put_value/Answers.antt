@@ -66,7 +66,7 @@ pub put_byte-next-requires-2 : goal.put_byte-next-requires-2
 put_byte-next-requires-2 c = run_room (blank (goal.at.put_byte-next-requires-2 c).Start) (after-blank (goal.at.put_byte-next-requires-2 c).Start) (behind-bits (goal.at.put_byte-next-requires-2 c).After-put_number-next)
 
 pub put_number-next-requires-2 : goal.put_number-next-requires-2
-put_number-next-requires-2 c = ((omega arith, omega arith), run_room (code (goal.at.put_number-next-requires-2 c).Start) (end (goal.at.put_number-next-requires-2 c).Start) (behind-blank (goal.at.put_number-next-requires-2 c).After-put_byte-next-2))
+put_number-next-requires-2 c = record { le_base = (omega arith, omega arith); room = run_room (code (goal.at.put_number-next-requires-2 c).Start) (end (goal.at.put_number-next-requires-2 c).Start) (behind-blank (goal.at.put_number-next-requires-2 c).After-put_byte-next-2) }
 
 pub put_byte-requires : goal.put_byte-requires
 put_byte-requires c = (behind-code (goal.at.put_byte-requires c).After-put_number-next-2).room

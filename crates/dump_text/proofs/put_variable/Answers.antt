@@ -1,13 +1,13 @@
 -- `dump_text::put_variable` meets its contract: seven runs of bytes, one behind the other. Assumes nothing.
 use Rattle.std.proofs.Common.{List, ◌++◌, ℕ, ◌/◌, ◌%◌, arith}
 use Rattle.sheet.specs.Text.{text}
-use Rattle.sheet.specs.Output.{decimal}
+use Rattle.sheet.specs.Output.{decimal, Put}
 use Rattle.sheet.specs.Puts.{ToPut}
 use Rattle.sheet.proofs.Puts.{all-to-put, run_room, run-put}
 use Rattle.network.specs.Sizes.{queues}
 use Rattle.waveform.specs.Dump.{variable_line}
 use Rattle.dump_text.proofs.put_variable.Goals as goal
-use Rattle.dump_text.proofs.put_variable.Goals.{After-put_bytes-next, After-put_bytes-next-2, After-put_bytes-next-3, After-put_number-next, After-put_number-next-2, After-put_number-next-3, Start}
+use Rattle.dump_text.proofs.put_variable.Goals.{Start}
 
 -- what is left to put of the line
 abbrev Left : Start → List ℕ → ℕ → List ℕ → Type 0
@@ -54,49 +54,60 @@ all : (s : Start) → Left s s.args.page.now s.args.at (kind s ++ after-kind s)
 unfolding variable_line
 all s = all-to-put s.args.page.now s.args.at (variable_line s.args.i) s.requires
 
-behind-kind : (c : After-put_bytes-next) → Left c.before.before.before.before c.put_bytes-next.new.out c.put_bytes-next.result (after-kind c.before.before.before.before)
-behind-kind c = run-put (kind c.before.before.before.before) (after-kind c.before.before.before.before) (all c.before.before.before.before) c.put_bytes-next.ensures
+behind-kind : (s : Start) {out out' : List ℕ} {at at' : ℕ} → Left s out at (kind s ++ after-kind s) → Put out at (kind s) out' at' → Left s out' at' (after-kind s)
+behind-kind s t p = run-put (kind s) (after-kind s) t p
 
-behind-code : (c : After-put_number-next) → Left c.before.before.before.before.before.before.before.before c.put_number-next.new.out c.put_number-next.result (after-code c.before.before.before.before.before.before.before.before)
-behind-code c =
-    run-put (code c.before.before.before.before.before.before.before.before) (after-code c.before.before.before.before.before.before.before.before) (behind-kind c.before.before.before.before) c.put_number-next.ensures
+behind-code : (s : Start) {out out' : List ℕ} {at at' : ℕ} → Left s out at (code s ++ after-code s) → Put out at (code s) out' at' → Left s out' at' (after-code s)
+behind-code s t p = run-put (code s) (after-code s) t p
 
-behind-n : (c : After-put_bytes-next-2) → Left c.before.before.before.before.before.before.before.before.before.before.before.before.before c.put_bytes-next-2.new.out c.put_bytes-next-2.result (after-n c.before.before.before.before.before.before.before.before.before.before.before.before.before)
-behind-n c =
-    run-put (n c.before.before.before.before.before.before.before.before.before.before.before.before.before) (after-n c.before.before.before.before.before.before.before.before.before.before.before.before.before) (behind-code c.before.before.before.before.before) c.put_bytes-next-2.ensures
+behind-n : (s : Start) {out out' : List ℕ} {at at' : ℕ} → Left s out at (n s ++ after-n s) → Put out at (n s) out' at' → Left s out' at' (after-n s)
+behind-n s t p = run-put (n s) (after-n s) t p
 
-behind-node : (c : After-put_number-next-2) → Left c.before.before.before.before.before.before.before.before.before.before.before.before.before.before.before.before.before c.put_number-next-2.new.out c.put_number-next-2.result (after-node c.before.before.before.before.before.before.before.before.before.before.before.before.before.before.before.before.before)
-behind-node c =
-    run-put (node c.before.before.before.before.before.before.before.before.before.before.before.before.before.before.before.before.before) (after-node c.before.before.before.before.before.before.before.before.before.before.before.before.before.before.before.before.before) (behind-n c.before.before.before.before) c.put_number-next-2.ensures
+behind-node : (s : Start) {out out' : List ℕ} {at at' : ℕ} → Left s out at (node s ++ after-node s) → Put out at (node s) out' at' → Left s out' at' (after-node s)
+behind-node s t p = run-put (node s) (after-node s) t p
 
-behind-q : (c : After-put_bytes-next-3) → Left c.before.before.before.before.before.before.before.before.before.before.before.before.before.before.before.before.before.before.before.before.before.before c.put_bytes-next-3.new.out c.put_bytes-next-3.result (after-q c.before.before.before.before.before.before.before.before.before.before.before.before.before.before.before.before.before.before.before.before.before.before)
-behind-q c =
-    run-put (q c.before.before.before.before.before.before.before.before.before.before.before.before.before.before.before.before.before.before.before.before.before.before) (after-q c.before.before.before.before.before.before.before.before.before.before.before.before.before.before.before.before.before.before.before.before.before.before) (behind-node c.before.before.before.before.before) c.put_bytes-next-3.ensures
+behind-q : (s : Start) {out out' : List ℕ} {at at' : ℕ} → Left s out at (q s ++ after-q s) → Put out at (q s) out' at' → Left s out' at' (after-q s)
+behind-q s t p = run-put (q s) (after-q s) t p
 
-behind-queue : (c : After-put_number-next-3) → Left c.before.before.before.before.before.before.before.before.before.before.before.before.before.before.before.before.before.before.before.before.before.before.before.before.before.before c.put_number-next-3.new.out c.put_number-next-3.result (end c.before.before.before.before.before.before.before.before.before.before.before.before.before.before.before.before.before.before.before.before.before.before.before.before.before.before)
-behind-queue c =
-    run-put (queue c.before.before.before.before.before.before.before.before.before.before.before.before.before.before.before.before.before.before.before.before.before.before.before.before.before.before) (end c.before.before.before.before.before.before.before.before.before.before.before.before.before.before.before.before.before.before.before.before.before.before.before.before.before.before) (behind-q c.before.before.before.before) c.put_number-next-3.ensures
+behind-queue : (s : Start) {out out' : List ℕ} {at at' : ℕ} → Left s out at (queue s ++ end s) → Put out at (queue s) out' at' → Left s out' at' (end s)
+behind-queue s t p = run-put (queue s) (end s) t p
 
 pub put_bytes-next-requires : goal.put_bytes-next-requires
-put_bytes-next-requires c = run_room (kind (goal.at.put_bytes-next-requires c).After-slice_known-1) (after-kind (goal.at.put_bytes-next-requires c).After-slice_known-1) (all (goal.at.put_bytes-next-requires c).After-slice_known-1)
+put_bytes-next-requires c =
+    let s = (goal.at.put_bytes-next-requires c).Start in
+    run_room (kind s) (after-kind s) (all s)
 
 pub put_number-next-requires : goal.put_number-next-requires
-put_number-next-requires c = record { le_base = (omega arith, omega arith); room = run_room (code (goal.at.put_number-next-requires c).After-slice_known-1) (after-code (goal.at.put_number-next-requires c).After-slice_known-1) (behind-kind (goal.at.put_number-next-requires c).After-put_bytes-next) }
+put_number-next-requires c =
+    let s = (goal.at.put_number-next-requires c).Start in
+    record { le_base = (omega arith, omega arith); room = run_room (code s) (after-code s) (behind-kind s (all s) c.put_bytes-next.ensures) }
 
 pub put_bytes-next-requires-2 : goal.put_bytes-next-requires-2
-put_bytes-next-requires-2 c = run_room (n (goal.at.put_bytes-next-requires-2 c).After-put_bytes-arg-1) (after-n (goal.at.put_bytes-next-requires-2 c).After-put_bytes-arg-1) (behind-code (goal.at.put_bytes-next-requires-2 c).After-page-2-1)
+put_bytes-next-requires-2 c =
+    let s = (goal.at.put_bytes-next-requires-2 c).Start in
+    run_room (n s) (after-n s) (behind-code s (behind-kind s (all s) c.put_bytes-next.ensures) c.put_number-next.ensures)
 
 pub put_number-next-requires-2 : goal.put_number-next-requires-2
-put_number-next-requires-2 c = ((omega arith, omega arith), run_room (node (goal.at.put_number-next-requires-2 c).After-put_bytes-arg-1) (after-node (goal.at.put_number-next-requires-2 c).After-put_bytes-arg-1) (behind-n (goal.at.put_number-next-requires-2 c).After-put_bytes-next-2))
+put_number-next-requires-2 c =
+    let s = (goal.at.put_number-next-requires-2 c).Start in
+    record { le_base = (omega arith, omega arith); room = run_room (node s) (after-node s) (behind-n s (behind-code s (behind-kind s (all s) c.put_bytes-next.ensures) c.put_number-next.ensures) c.put_bytes-next-2.ensures) }
 
 pub put_bytes-next-requires-3 : goal.put_bytes-next-requires-3
-put_bytes-next-requires-3 c = run_room (q (goal.at.put_bytes-next-requires-3 c).After-put_bytes-arg-2-1) (after-q (goal.at.put_bytes-next-requires-3 c).After-put_bytes-arg-2-1) (behind-node (goal.at.put_bytes-next-requires-3 c).After-page-4-1)
+put_bytes-next-requires-3 c =
+    let s = (goal.at.put_bytes-next-requires-3 c).Start in
+    run_room (q s) (after-q s) (behind-node s (behind-n s (behind-code s (behind-kind s (all s) c.put_bytes-next.ensures) c.put_number-next.ensures) c.put_bytes-next-2.ensures) c.put_number-next-2.ensures)
 
 pub put_number-next-requires-3 : goal.put_number-next-requires-3
-put_number-next-requires-3 c = ((omega arith, omega arith), run_room (queue (goal.at.put_number-next-requires-3 c).After-put_bytes-arg-2-1) (end (goal.at.put_number-next-requires-3 c).After-put_bytes-arg-2-1) (behind-q (goal.at.put_number-next-requires-3 c).After-put_bytes-next-3))
+put_number-next-requires-3 c =
+    let s = (goal.at.put_number-next-requires-3 c).Start in
+    record { le_base = (omega arith, omega arith); room = run_room (queue s) (end s) (behind-q s (behind-node s (behind-n s (behind-code s (behind-kind s (all s) c.put_bytes-next.ensures) c.put_number-next.ensures) c.put_bytes-next-2.ensures) c.put_number-next-2.ensures) c.put_bytes-next-3.ensures) }
 
 pub put_bytes-requires : goal.put_bytes-requires
-put_bytes-requires c = (behind-queue (goal.at.put_bytes-requires c).After-page-6-1).room
+put_bytes-requires c =
+    let s = (goal.at.put_bytes-requires c).Start in
+    (behind-queue s (behind-q s (behind-node s (behind-n s (behind-code s (behind-kind s (all s) c.put_bytes-next.ensures) c.put_number-next.ensures) c.put_bytes-next-2.ensures) c.put_number-next-2.ensures) c.put_bytes-next-3.ensures) c.put_number-next-3.ensures).room
 
 pub returns : goal.returns
-returns c = (behind-queue (goal.at.returns c).After-page-6-1).done _ _ c.put_bytes.ensures
+returns c =
+    let s = (goal.at.returns c).Start in
+    (behind-queue s (behind-q s (behind-node s (behind-n s (behind-code s (behind-kind s (all s) c.put_bytes-next.ensures) c.put_number-next.ensures) c.put_bytes-next-2.ensures) c.put_number-next-2.ensures) c.put_bytes-next-3.ensures) c.put_number-next-3.ensures).done _ _ c.put_bytes.ensures

@@ -1,5 +1,5 @@
 -- `dump_text::starts_with` meets its contract: the goals that the check does not find by itself. Assumes nothing.
-use Rattle.std.proofs.Common.{sym, ◌-◌, arith, drop, length-drop}
+use Rattle.std.proofs.Common.{sym, arith, drop, length-drop}
 use Rattle.waveform.proofs.StartLaws.{starts-short, same_none, same_more, same_not, same-all}
 use Rattle.dump_text.proofs.starts_with.Goals as goal
 

@@ -1,21 +1,26 @@
 -- `dump_text::variable_length` meets its contract. Assumes nothing.
-use Rattle.std.proofs.Common.{◌+◌, ◌/◌, ◌%◌, ◌≤◌, arith}
+use Rattle.std.proofs.Common.{ℕ, ◌≡◌, ◌<◌, ◌^◌, length, ◌+◌, ◌/◌, ◌%◌, ◌≤◌, arith}
 use Rattle.network.specs.Sizes.{queues}
+use Rattle.sheet.specs.Output.{decimal}
 use Rattle.waveform.proofs.Lengths.{variable-length, decimal-digits}
 use Rattle.dump_text.proofs.variable_length.Goals as goal
-use Rattle.dump_text.proofs.variable_length.Goals.{After-number_length}
 
 -- the digits of the three numbers are few
-few : (c : After-number_length) → c.number_length.result + c.number_length-node.result + c.number_length-queue.result ≤ 60
-few c =
-    let i = c.ranges.i.fits in
-    let a = decimal-digits c.args.i i in
-    let b = decimal-digits (c.args.i / queues) (omega arith) in
-    let d = decimal-digits (c.args.i % queues) (omega arith) in
-    let l = c.number_length-node.ensures in
-    let m = c.number_length-queue.ensures in
-    let n = c.number_length.ensures in
+few : (i a b d : ℕ) → i < 2 ^ 64 → a ≡ length (decimal i) → b ≡ length (decimal (i / queues)) → d ≡ length (decimal (i % queues)) → a + b + d ≤ 60
+few i a b d fits l m n =
+    let p = decimal-digits i fits in
+    let q = decimal-digits (i / queues) (omega arith) in
+    let r = decimal-digits (i % queues) (omega arith) in
     omega arith
+
+pub overflow_add-result : goal.overflow_add-result
+overflow_add-result c = let f = few _ _ _ _ c.ranges.i.fits c.number_length.ensures c.number_length-node.ensures c.number_length-queue.ensures in omega arith
+
+pub overflow_add-result-2 : goal.overflow_add-result-2
+overflow_add-result-2 c = let f = few _ _ _ _ c.ranges.i.fits c.number_length.ensures c.number_length-node.ensures c.number_length-queue.ensures in omega arith
+
+pub overflow_add-result-3 : goal.overflow_add-result-3
+overflow_add-result-3 c = let f = few _ _ _ _ c.ranges.i.fits c.number_length.ensures c.number_length-node.ensures c.number_length-queue.ensures in omega arith
 
 pub returns : goal.returns
 returns c =

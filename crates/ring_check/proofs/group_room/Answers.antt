@@ -1,5 +1,5 @@
 -- `ring_check::group_room` meets its contract: the goals that the check does not find by itself. Assumes nothing.
-use Rattle.std.proofs.Common.{sym, ◌∙◌, true, ◌+◌, ◌-◌, ◌≤◌, arith}
+use Rattle.std.proofs.Common.{sym, ◌∙◌, ◌+◌, ◌≤◌, arith}
 use Rattle.ring_check.specs.RingLines.{ring_room, group_room}
 use Rattle.ring_check.proofs.RingWalks.{walk_start, walk_more, walk-room, walk-fails, walk-all, rings-at}
 use Rattle.ring_check.proofs.group_room.Goals as goal
@@ -28,7 +28,7 @@ returns-then-not-ring_room c =
 pub overflow_add-at : goal.overflow_add-at
 overflow_add-at c =
     let n = within (goal.at.overflow_add-at c).In-loop-at in
-    omega (arith, c.requires, c.good)
+    omega (arith, c.requires, c.well_formed)
 
 pub loop-at-smaller : goal.loop-at-smaller
 loop-at-smaller c = let s = c.requires.rings.some in omega arith

@@ -1,5 +1,5 @@
 -- `ring_check::ring_room` meets its contract: the goals that the check does not find by itself. Assumes nothing.
-use Rattle.std.proofs.Common.{lt-ltb, le-ltb, sym, false, ◌-◌, ◌<◌, arith, ltb, length, get_or}
+use Rattle.std.proofs.Common.{lt-ltb, le-ltb, sym, ◌<◌, arith, ltb, length, get_or}
 use Rattle.ring_check.specs.RingLines.{ring_room}
 use Rattle.ring_check.proofs.RingWalks.{walk_start, walk_more, walk-room, walk-passes, walk_none}
 use Rattle.ring_check.proofs.ring_room.Goals as goal
@@ -31,7 +31,7 @@ returns-then-words-at c =
 pub overflow_add-at : goal.overflow_add-at
 overflow_add-at c =
     let n = walk-room c.requires.ring c.loop-at.invariant c.loop-at-test.true in
-    omega (arith, c.requires, c.good)
+    omega (arith, c.requires, c.well_formed)
 
 pub loop-at-smaller : goal.loop-at-smaller
 loop-at-smaller c = let s = c.requires.ring.some in omega arith

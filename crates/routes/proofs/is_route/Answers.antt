@@ -1,9 +1,10 @@
 -- `routes::is_route` meets its contract: the goals that the check does not find by itself. Assumes nothing.
-use Rattle.std.proofs.Common.{◌≡◌, ap, sym, ◌∙◌, ⊎_elim, List, ℕ, ◌-◌, ◌<◌, ◌≤◌, arith, length}
+use Rattle.std.proofs.Common.{◌≡◌, ap, sym, ◌∙◌, List, ℕ, ◌<◌, ◌≤◌, arith, length}
 use Rattle.base.specs.Tests.{elem}
 use Rattle.routes.specs.Lines.{selection_lines}
 use Rattle.routes.proofs.Laws.{elem-here, elem-passed, elem-other, elem_end}
 use Rattle.routes.proofs.is_route.Goals as goal
+use Rattle.routes.proofs.is_route.Goals.{then-output-o+else-applies, else-output-o}
 
 within : {k : ℕ} (r : List ℕ) → length r ≡ selection_lines → k < selection_lines → k < length r
 within r e h = omega arith
@@ -26,7 +27,10 @@ loop-k-preserved c =
     let o = c.args.o in
     let k = c.loop-k.k in (
       omega arith,
-      ⊎_elim (λ w. elem-passed o c.routes-outputs.result k h (sym w.1.ensures ∙ w.2.left)) (λ w. elem-other o c.routes-outputs.result k h w.left) c.if-output-o.branch
+      (elim c.if-output-o.branch [
+        then-output-o+else-applies w ↦ elem-passed o c.routes-outputs.result k h (sym w.applies.ensures ∙ w.if-applies.false)
+        | else-output-o w ↦ elem-other o c.routes-outputs.result k h w.if-output-o.false
+      ])
           ∙ c.loop-k.invariant.1,
     )
 

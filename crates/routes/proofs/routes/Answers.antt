@@ -52,30 +52,30 @@ outside : (q : ℕ) → q < queues → 13 ≤ q → ⊥
 outside q h l = omega arith
 
 pub returns-in_default : goal.returns-in_default
-returns-in_default c = absurd (outside c.args.q c.requires c.if-q-lt13.false)
+returns-in_default c = absurd (outside c.args.q c.requires (omega arith))
 
 -- queues 5 and 6
 pub returns-in-5 : goal.returns-in-5
 returns-in-5 c =
-    let others = right (goal.at.returns-in-5 c).After-last_case-last _ (by-z-first (decided (goal.at.returns-in-5 c).After-last_case-last) (inl (c.if-q-lt5.false, c.if-q-lt7.true))) in
+    let others = right (goal.at.returns-in-5 c).After-last_case-last _ (by-z-first (decided (goal.at.returns-in-5 c).After-last_case-last) (inl (omega arith, omega arith))) in
     record { each = refl; these = others.0; cases = others.1 }
 
 -- queues 11 and 12
 pub returns-in-5-2 : goal.returns-in-5-2
 returns-in-5-2 c =
-    let others = right (goal.at.returns-in-5-2 c).After-last_case-last _ (by-z-first (decided (goal.at.returns-in-5-2 c).After-last_case-last) (inr (c.if-q-lt11.false, c.if-q-lt13.true))) in
+    let others = right (goal.at.returns-in-5-2 c).After-last_case-last _ (by-z-first (decided (goal.at.returns-in-5-2 c).After-last_case-last) (inr (omega arith, omega arith))) in
     record { each = refl; these = others.0; cases = others.1 }
 
 -- queues 3 and 4
 pub returns-in-3 : goal.returns-in-3
 returns-in-3 c =
-    let others = right (goal.at.returns-in-3 c).After-last_case-last _ (by-y-first (decided (goal.at.returns-in-3 c).After-last_case-last) (inl (c.if-q-lt3.false, c.if-q-lt5.true))) in
+    let others = right (goal.at.returns-in-3 c).After-last_case-last _ (by-y-first (decided (goal.at.returns-in-3 c).After-last_case-last) (inl (omega arith, omega arith))) in
     record { each = refl; these = others.0; cases = others.1 }
 
 -- queues 9 and 10
 pub returns-in-3-2 : goal.returns-in-3-2
 returns-in-3-2 c =
-    let others = right (goal.at.returns-in-3-2 c).After-last_case-last _ (by-y-first (decided (goal.at.returns-in-3-2 c).After-last_case-last) (inr (c.if-q-lt9.false, c.if-q-lt11.true))) in
+    let others = right (goal.at.returns-in-3-2 c).After-last_case-last _ (by-y-first (decided (goal.at.returns-in-3-2 c).After-last_case-last) (inr (omega arith, omega arith))) in
     record { each = refl; these = others.0; cases = others.1 }
 
 -- queues 0, 1 and 2
@@ -87,5 +87,5 @@ returns-in-0 c =
 -- queues 7 and 8
 pub returns-in-0-2 : goal.returns-in-0-2
 returns-in-0-2 c =
-    let others = right (goal.at.returns-in-0-2 c).After-last_case-last _ (by-x-first (decided (goal.at.returns-in-0-2 c).After-last_case-last) (inr (c.if-q-lt7.false, c.if-q-lt9.true))) in
+    let others = right (goal.at.returns-in-0-2 c).After-last_case-last _ (by-x-first (decided (goal.at.returns-in-0-2 c).After-last_case-last) (inr (omega arith, omega arith))) in
     record { each = refl; these = others.0; cases = others.1 }

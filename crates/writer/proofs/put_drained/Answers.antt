@@ -11,7 +11,7 @@ within : (d : After-drained_delivered-delivered) → d.drained_delivered-deliver
 within d = omega arith
 
 words : (d : After-drained_delivered-delivered) (i : ℕ) → get_or d.args.ledger.now i 0 < 2 ^ 64
-words d i = (d.shared_slice_known-1.given i).fits
+words d i = (d.type_inv.ledger i).fits
 
 room : (d : After-drained_delivered-delivered)
     → Room d.args.out.now d.args.at (packet_lines (take d.drained_delivered-delivered.result d.args.ledger.now))
@@ -19,14 +19,14 @@ room d =
     packets-room d.args.out.now d.args.at d.args.ledger.now d.drained_delivered-delivered.result (words d) (within d) d.requires.drain_room_in_bounds
 
 pub slice_bounds-put_packets-end : goal.slice_bounds-put_packets-end
-slice_bounds-put_packets-end c = sym (length-take-le c.drained_delivered-delivered.result c.args.ledger.now (within (goal.at.slice_bounds-put_packets-end c).After-shared_slice_known-1))
+slice_bounds-put_packets-end c = sym (length-take-le c.drained_delivered-delivered.result c.args.ledger.now (within (goal.at.slice_bounds-put_packets-end c).After-drained_delivered-delivered))
 
 pub put_packets-next-requires : goal.put_packets-next-requires
-put_packets-next-requires c = room (goal.at.put_packets-next-requires c).After-shared_slice_known-1
+put_packets-next-requires c = room (goal.at.put_packets-next-requires c).After-drained_delivered-delivered
 
 pub put_drain-requires : goal.put_drain-requires
-put_drain-requires c = drain-room c.args.out.now c.args.at c.args.ledger.now c.drained_delivered-delivered.result (words (goal.at.put_drain-requires c).After-shared_slice_known-1) (within (goal.at.put_drain-requires c).After-shared_slice_known-1) c.requires.drain_room_in_bounds c.put_packets-next.ensures
+put_drain-requires c = drain-room c.args.out.now c.args.at c.args.ledger.now c.drained_delivered-delivered.result (words (goal.at.put_drain-requires c).After-drained_delivered-delivered) (within (goal.at.put_drain-requires c).After-drained_delivered-delivered) c.requires.drain_room_in_bounds c.put_packets-next.ensures
 
 pub returns : goal.returns
 unfolding drained_lines
-returns c = rw (sym c.drained_delivered-delivered.ensures) (put-behind c.put_packets-next.ensures c.put_drain.ensures (room (goal.at.returns c).After-shared_slice_known-1))
+returns c = rw (sym c.drained_delivered-delivered.ensures) (put-behind c.put_packets-next.ensures c.put_drain.ensures (room (goal.at.returns c).After-drained_delivered-delivered))

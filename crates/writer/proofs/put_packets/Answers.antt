@@ -1,5 +1,5 @@
 -- `writer::put_packets` meets its contract: the goals that the check does not find by itself. Assumes nothing.
-use Rattle.std.proofs.Common.{◌≡◌, refl, List, [], ◌∷◌, ◌++◌, ℕ, ◌-◌}
+use Rattle.std.proofs.Common.{◌≡◌, refl, List, [], ◌∷◌, ◌++◌, ℕ}
 use Rattle.sheet.specs.Output.{packet_line, packet_lines}
 use Rattle.sheet.proofs.Puts.{putting-none, putting-room, putting-more, putting-all, put-length}
 use Rattle.writer.proofs.put_packets.Goals as goal

@@ -1,0 +1,16 @@
+-- `dump_writer::write_header` meets its contract. Assumes nothing.
+use Rattle.std.proofs.Common.{sym, subst, true}
+use Rattle.waveform.specs.StepAnswers.{WriteTells}
+use Rattle.waveform.proofs.StepAnswers.{write-tells}
+use Rattle.dump_writer.proofs.write_header.Goals as goal
+
+pub returns : goal.returns
+returns c =
+    let w = c.write_step.ensures in
+    let a = c.args in
+    record {
+      answer = w.answer;
+      fills = w.fills;
+      page = w.page;
+      told = subst (WriteTells true a.words.now a.fills.now a.page.now) (sym w.answer) (write-tells true a.words.now a.fills.now a.page.now);
+    }
