@@ -2,7 +2,7 @@
 -- nothing.
 use borrow.Author.Rules.{rules}
 use Rattle.session.specs.Reads.{sheet, Reached}
-use Rattle.session.proofs.Reads.{reached-start}
+use Rattle.session.proofs.ReadLaws.{reached-start}
 use Rattle.bench.proofs.main.Statement.{statement}
 use Rattle.bench.proofs.main.Tie as tie
 

@@ -1,5 +1,5 @@
 -- `bench::read_once` meets its contract: it leaves the sheet as the read did, or as it was. Assumes nothing.
-use Rattle.session.proofs.Reads.{reached-more}
+use Rattle.session.proofs.ReadLaws.{reached-more}
 use borrow.Author.Rules.{rules}
 use Rattle.bench.proofs.read_once.Statement.{statement}
 use Rattle.bench.proofs.read_once.Tie as tie

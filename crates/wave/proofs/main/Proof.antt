@@ -4,7 +4,7 @@ use mathlib.Core.Path.{◌≡◌}
 use mathlib.Core.Bool.{true}
 use mathlib.Core.List.{[]}
 use Rattle.session.specs.Reads.{sheet, Reached}
-use Rattle.session.proofs.Reads.{reached-start}
+use Rattle.session.proofs.ReadLaws.{reached-start}
 use Rattle.replay.specs.Replay.{FillsOf}
 use Rattle.replay.proofs.FillsLaws.{fills-start}
 use borrow.Author.Rules.{rules}

@@ -1,7 +1,7 @@
 -- `wave::read_once` meets its contract: it leaves the sheet as the read did, or does not go on. Assumes nothing.
 use mathlib.Core.Path.{sym}
 use mathlib.Core.Bool.{true≢false}
-use Rattle.session.proofs.Reads.{reached-more}
+use Rattle.session.proofs.ReadLaws.{reached-more}
 use borrow.Author.Rules.{rules}
 use Rattle.wave.proofs.read_once.Statement.{statement}
 use Rattle.wave.proofs.read_once.Tie as tie
