@@ -11,8 +11,7 @@ use Rattle.session.proofs.fed_command.Goals as goal
 pub slice_bounds-read_command-end : goal.slice_bounds-read_command-end
 slice_bounds-read_command-end c =
     let line = c.args.line.now in
-    let told = c.fed-in-Line-1.given in
-    sym (length-take-le told.0.0 line (line-within _ told.0.0 line told.1 c.requires))
+    sym (length-take-le c.in-Line.n line (line-within _ c.in-Line.n line c.in-Line.is c.requires))
 
 line_read : (line : List ℕ) (fed : Fed) (n passed : ℕ) (command : Command) → fed ≡ Fed.Line n → command ≡ command_of (take n line)
     → NextCommand.Given command (cursor_at passed 0) ≡ fed_command line fed passed

@@ -2,10 +2,8 @@
 use Rattle.std.proofs.Common.{ap, sym, ◌∙◌, ◌-◌, rules}
 use Rattle.session.specs.Coming.{coming_by}
 use Rattle.session.proofs.ComingLaws.{byte_more, byte-line, byte-long, bytes-passed, end-coming}
-use Rattle.session.specs.Running.{LineWithin}
 use Rattle.session.proofs.RunningLaws.{took-within, finished-within}
 use Rattle.session.proofs.next_command.Goals as goal
-use Rattle.session.proofs.next_command.Goals.{After-slice_known-in-loop-passed-1}
 
 pub fed_command-requires : goal.fed_command-requires
 fed_command-requires c = rw c.finish-fed.ensures (finished-within c.args.line.now _ c.requires)
@@ -14,8 +12,11 @@ pub returns-then-piece-eq0 : goal.returns-then-piece-eq0
 returns-then-piece-eq0 c = end-coming _ _ _ _ _ c.if-piece-eq0.true c.finish-fed.ensures ∙ ap (coming_by _ _) (sym c.fed_command.ensures)
 
 -- a line that ends stands in the buffer
-within : (c : After-slice_known-in-loop-passed-1) → LineWithin c.feed-fed.result c.feed-fed.new.buf
-within c = took-within c.feed-fed.ensures (search rules)
+pub fed_command-requires-in-Line : goal.fed_command-requires-in-Line
+fed_command-requires-in-Line c = took-within c.feed-fed.ensures (search rules)
+
+pub fed_command-requires-in-TooLong : goal.fed_command-requires-in-TooLong
+fed_command-requires-in-TooLong c = took-within c.feed-fed.ensures (search rules)
 
 pub loop-passed-preserved : goal.loop-passed-preserved
 loop-passed-preserved c = (search rules, c.loop-passed.invariant.1 ∙ byte_more _ _ _ _ _ _ c.loop-passed-test.true c.feed-fed.ensures _ c.in-More.is)

@@ -17,4 +17,4 @@ returns-in-Drain c = rw c.in-Drain.is c.run_drain.ensures
 
 pub returns-in-Bad : goal.returns-in-Bad
 unfolding perform
-returns-in-Bad c = rw c.in-Bad.is (refl, c.put_bad.ensures)
+returns-in-Bad c = rw c.in-Bad.is (record { store = refl; printed = c.put_bad.ensures })

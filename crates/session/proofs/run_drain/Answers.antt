@@ -7,7 +7,7 @@ use Rattle.session.proofs.run_drain.Goals as goal
 
 pub put_drained-requires : goal.put_drained-requires
 put_drained-requires c =
-    let k : length c.drain-answer.new.ledger ≡ 64 = c.drain-answer.auto.ledger.1.0 in
+    let k : length c.drain-answer.new.ledger ≡ 64 = c.drain-answer.auto.ledger in
     let within : drained_delivered c.drain-answer.result ≤ 64
     = rw c.drain-answer.ensures.answer (delivered-within c.args.store.now c.args.budget 64) in
     let room : 1314 ≤ length c.args.out.now = c.requires in
