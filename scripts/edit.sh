@@ -131,7 +131,7 @@ try_edit() { # CRATE LABEL
 #   but a limit of the prover;
 # - what says that a proof names what is no longer there ('has no `..`', 'has no field', 'is not in scope'), nor, in a function with such a line, a goal
 #   that is open there, whose answer may stand under another name; nor an error where the parts of a proof by hand are put together (`NAME-spec`).
-#   A function or module with such a line is printed too, behind a `!`.
+#   A function or module with such a line is printed too, behind a `!`, and a file of specs/ that cannot be read behind a `?`.
 own_places() { # CRATE LOG
     LC_ALL=C awk -v "crate=$1" -v "at_limit=$at_limit" '
         function tell(place) { if (!(place in told)) { told[place] = 1; print place } }
@@ -154,7 +154,7 @@ own_places() { # CRATE LOG
             if (says ~ /was not admitted|was not checked|is rejected because/ || says ~ at_limit) next
             if (says ~ /has no `|has no field|is not in scope|is no name/) {
                 gsub(/\//, ".", path)
-                tell("!" (owner == "" ? path : owner))
+                tell($1 ~ /^(\.\/)?specs\// ? "?" path : "!" (owner == "" ? path : owner))
                 misfit[owner] = 1
                 next
             }
