@@ -1,6 +1,6 @@
 -- Lists in which no element stands twice, whatever the elements are, if they can be compared. Order: the test; that it passes exactly if every element
 -- stands in the list once at most; of a list of two parts, and of a rearrangement; three rows. Assumes nothing.
-use Rattle.std.specs.Prelude.{◌≡◌, ◌↔◌, true, false, ◌+◌, ◌≤◌, T, eqb}
+use Rattle.std.specs.Prelude.{◌≡◌, ◌↔◌, true, false, ◌≤◌, T, eqb}
 use Rattle.std.proofs.Math.Path.{refl}
 use mathlib.Core.HLevel.{Discrete}
 use mathlib.Core.List.{List, [], ◌∷◌, ◌++◌}

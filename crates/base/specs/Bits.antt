@@ -1,6 +1,6 @@
 -- The bits of a word, and their laws, each by induction on the place of the bit: bit 0 is the lowest digit, and bit j + 1 is bit j of the half.
 -- Order: a bit; digits; or, and, not; a word with one bit, and with the lowest bits; a word shifted; bits in a row; in a word of 64 bits. Assumes nothing.
-use Rattle.std.specs.Prelude.{Bool, ℕ, ◌-◌, ◌*◌, ◌/◌, ◌%◌, ◌^◌, eqb}
+use Rattle.std.specs.Prelude.{Bool, ℕ, ◌*◌, ◌/◌, ◌%◌, ◌^◌, eqb}
 
 -- bit j of the word is set
 unfoldable pub bit : ℕ → ℕ → Bool

@@ -3,7 +3,7 @@
 -- by what stands below and above a digit.
 -- Assumes nothing.
 use Rattle.std.specs.Prelude.{List, [], ◌∷◌, drop}
-use Prim.Native.Nat.{ℕ, zero, suc, ◌+◌, ◌*◌, ◌/◌, ◌%◌, ◌-◌, ◌<◌}
+use Prim.Native.Nat.{ℕ, zero, suc, ◌+◌, ◌*◌, ◌/◌, ◌%◌, ◌<◌}
 use Rattle.std.proofs.Math.ListN.{get_or}
 
 unfoldable pub product : List ℕ → ℕ

@@ -1,7 +1,7 @@
 -- Tests over ranges and lists, as Booleans that compute, and the laws that turn a test into a fact and back; and a fact for each number of a range, and for
 -- each element of a list. Order: clauses joined; below n; facts below n; for some below n; of every element; facts of every element; of a list's members;
 -- what is compared by its parts. Assumes nothing.
-use Rattle.std.specs.Prelude.{◌≡◌, List, [], ◌∷◌, ℕ, zero, suc, ◌-◌, T, eqb}
+use Rattle.std.specs.Prelude.{◌≡◌, List, [], ◌∷◌, ℕ, zero, suc, T, eqb}
 use Rattle.std.proofs.Common.{ap}
 use mathlib.Core.HLevel.{Discrete}
 use mathlib.Core.Bool.{Bool, true, false, ◌&&◌, ◌||◌}

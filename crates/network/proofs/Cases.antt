@@ -46,7 +46,7 @@ use Rattle.network.proofs.RefusalLaws.{else_by-zero, network-passed, network-pas
 use Rattle.network.specs.ByHand.{packet, here, straight, empty, only, chosen, definitions}
 use Rattle.network.proofs.Rows.{kept_rows}
 use Rattle.network.proofs.TogetherRows.{together_rows}
-use Rattle.network.specs.Cases.{Offered, four-by-three, largest-plane, largest, six-by-two, two-cubed, four-by-two, against-parity, long_along, on_ring, one_hop, outside, sources, in_each, in_sources, crossing, Entries, before-and-after, turning, blocked, leaving, standing, alone, in-every-queue, a_word, none, most, NoRing, head_of, Standing, Numbered, Within, Entering, ahead, in_ring, RingsOfTwo, KeptCases}
+use Rattle.network.specs.Cases.{Offered, four-by-three, largest-plane, largest, six-by-two, two-cubed, four-by-two, against-parity, long_along, on_ring, one_hop, outside, sources, in_each, in_sources, crossing, Entries, before-and-after, turning, blocked, leaving, alone, in-every-queue, a_word, none, NoRing, head_of, Standing, Numbered, Within, Entering, ahead, in_ring, RingsOfTwo, KeptCases}
 
 -- a test that cannot pass
 untrue : (b : Bool) → (T b → ⊥) → b ≡ false

@@ -3,7 +3,7 @@
 -- own, `kept_rows` has them all, and `kept_cases` (Cases.antt) takes it. Words are counted from 0, as in R42. Order: the words; places and the packet word;
 -- the ranges of the sizes; the check; the order of refusals; what refused calls leave; what is read of an answer; routes; flow; first in, first out;
 -- Credit; First; Drain; a run of calls; all of them. Assumes nothing.
-use Rattle.std.specs.Prelude.{◌≡◌, refl, [], ℕ, ◌-◌}
+use Rattle.std.specs.Prelude.{◌≡◌, refl, ℕ}
 use Rattle.std.proofs.Common.{ap, arith}
 use Rattle.network.specs.Calls.{moved_number, moved_packets, credit_number, credit_free, found_number, found_move, drained_number, drained_moves, drained_delivered, drained_stop}
 use Rattle.network.specs.Run.{delivery_nodes, at_nodes, ledger_of, words_written, outcome, run, is_labelled, held_with, handed_with, hops_of, hops_with, at_destination}

@@ -1,7 +1,7 @@
 -- R149: the cases of Selection.antt are the routes of a head, for each queue number and all offsets that a packet word can carry: every route, no
 -- other, in the same order. Order: the sign of an offset; lines 1 and 2; line 3 and the delivery; the whole; the same by the offsets.
 -- Assumes nothing.
-use Rattle.std.specs.Prelude.{◌≡◌, refl, false, cond, ◌≢◌, ℕ, zero, suc, ◌+◌, ◌<◌, eqb, ℤ, pos, negsuc, nat_abs, take}
+use Rattle.std.specs.Prelude.{◌≡◌, refl, false, cond, ◌≢◌, ℕ, zero, suc, ◌<◌, eqb, ℤ, pos, negsuc, nat_abs, take}
 use Rattle.std.proofs.Math.Path.{ap, sym}
 use Rattle.std.proofs.Common.{ap₂, ◌∙◌, arith, eq-eqb, ne_eqb}
 use mathlib.Core.List.{List, [], ◌∷◌, ◌++◌, map, append-nil, map-append}

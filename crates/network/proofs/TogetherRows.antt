@@ -3,8 +3,7 @@
 -- leave. Order: the queues of a move; moves that go together; two deliveries at one node; three moves; a target that is the other's source; one target; one source; two
 -- entries into one ring; all of them. Assumes nothing.
 use Rattle.std.specs.Prelude.{refl}
-use mathlib.Core.List.{[]}
-use Rattle.network.specs.TogetherRows.{together, QueuesOfMoves, LinesShow, FourQueues, GoTogether, NoTarget, TwoDeliveries, HandedOutInOrder, DeliveriesCounted, all-out, AllOut, ThreeMoves, TargetIsSource, MovesUp, HeldAfterwards, NewcomerBehind, FullAhead, OneTarget, BehindEachOther, NoRoomForTwo, OneSource, FirstGoesFirst, TwoOfOneRing, TwoEntries, TogetherRows}
+use Rattle.network.specs.TogetherRows.{together, QueuesOfMoves, LinesShow, FourQueues, GoTogether, NoTarget, TwoDeliveries, HandedOutInOrder, DeliveriesCounted, AllOut, ThreeMoves, TargetIsSource, MovesUp, HeldAfterwards, NewcomerBehind, FullAhead, OneTarget, BehindEachOther, NoRoomForTwo, OneSource, FirstGoesFirst, TwoOfOneRing, TwoEntries, TogetherRows}
 
 queues-of-moves : QueuesOfMoves
 unfolding together

@@ -1,7 +1,7 @@
 -- What Make, Offer and Move leave in the words, said of the calls themselves and of whatever words they are lent. Order: the torus of a network; what an
 -- offer needs; what Move and Offer do where they are not refused; a queue's order; the words behind the last node; what Credit tells; what fixes the words.
 -- Assumes nothing.
-use Rattle.std.specs.Prelude.{List, [], ℕ, ◌<◌, T}
+use Rattle.std.specs.Prelude.{List, ℕ, ◌<◌, T}
 use Rattle.network.specs.Sizes.{Shape, within, nodes, injection_queue, most_chunks, capacity}
 use Rattle.network.specs.Layout.{taken, accepted}
 use Rattle.network.specs.Check.{most_accepted}

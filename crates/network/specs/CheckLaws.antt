@@ -2,7 +2,7 @@
 -- Order: how far a packet may have to go; the way back; a packet, half-way round and at its own node; a queue; its room; the whole. Assumes nothing.
 use Rattle.std.specs.Prelude.{◌≡◌, ◌≢◌, List, [], ◌∷◌, T, leb, length}
 use Rattle.std.proofs.Math.Bool.{Bool}
-use Prim.Native.Nat.{ℕ, ◌+◌, ◌*◌, ◌-◌, ◌<◌, ◌≤◌}
+use Prim.Native.Nat.{ℕ, ◌+◌, ◌*◌, ◌<◌, ◌≤◌}
 use Rattle.std.proofs.Math.Dec.{eqb}
 use Rattle.base.specs.Tests.{all_of}
 use Rattle.network.specs.Sizes.{Shape, sizes_in_range, nodes, queues, directions, dimensions, dimension_of, direction_of, is_escape, injection_queue, most_chunks, capacity}

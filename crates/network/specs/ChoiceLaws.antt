@@ -2,7 +2,7 @@
 -- Order: where a search took its move from; the outputs before the one that is named; what stands before it in the whole search; two permitted moves
 -- compared; the theorem. Assumes nothing.
 use Rattle.std.specs.Prelude.{◌≡◌, ℕ, ◌+◌, ◌<◌, ◌≤◌}
-use mathlib.Core.List.{List, []}
+use mathlib.Core.List.{List}
 use Rattle.network.specs.declared.Found.{Found}
 use Rattle.network.specs.Sizes.{Shape}
 use Rattle.network.specs.Layout.{shape}

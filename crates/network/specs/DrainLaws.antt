@@ -1,7 +1,7 @@
 -- What a Drain cannot go beyond, whatever the words are: its moves are at most the budget, its deliveries at most the room in the ledger.
 -- Order: one move more; the next move; a whole Drain; the nodes of its deliveries; its answer. Assumes nothing.
 use Rattle.std.specs.Prelude.{◌≡◌, length}
-use mathlib.Core.List.{[], map}
+use mathlib.Core.List.{map}
 use Prim.Native.Nat.{ℕ, ◌≤◌}
 use Rattle.network.specs.Run.{delivery_nodes}
 use Rattle.network.specs.Calls.{Delivery, Progress}

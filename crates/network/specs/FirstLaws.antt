@@ -1,6 +1,6 @@
 -- What First's search names: a move that no rule refuses, and none only where every move is refused. ChoiceLaws.antt has that it is the earliest.
 -- Order: one search; the outputs of a head; the queues of a node and the nodes; where a search ends. Assumes nothing.
-use Rattle.std.specs.Prelude.{◌≡◌, List, [], ℕ}
+use Rattle.std.specs.Prelude.{◌≡◌, List, ℕ}
 use Rattle.network.specs.declared.Found.{Found}
 use Rattle.network.specs.Sizes.{Shape}
 use Rattle.network.specs.RefusalLaws.{Permitted}

@@ -1,6 +1,6 @@
 -- Moves that First names one after the other (FirstMoves.antt). Order: they are permitted moves; one of them, and more behind others; how a Drain begins and goes
 -- on. Assumes nothing.
-use Rattle.std.specs.Prelude.{cond, [], ℕ, suc, eqb}
+use Rattle.std.specs.Prelude.{cond, ℕ, suc, eqb}
 use Rattle.network.specs.Routes.{deliver}
 use Rattle.network.specs.Calls.{NamedMove}
 

@@ -1,6 +1,6 @@
 -- What each helper of Run.antt states, said without it, in the lists of InLists.antt. Order: a label counted; all that is held; what was handed out; a packet at
 -- at-destination; moves that lead from words to words; some move; ledgers. Assumes nothing.
-use Rattle.std.specs.Prelude.{List, [], map, ℕ, length, take, drop}
+use Rattle.std.specs.Prelude.{List, map, ℕ, length, take, drop}
 use Rattle.network.specs.Run.{Ledger}
 
 -- Ledgers ---------------------------------------------------------------------------------------------------------------------------------

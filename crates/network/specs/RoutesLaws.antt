@@ -1,6 +1,6 @@
 -- The routes of a head as facts: which outputs are routes, and that a head always has an escape route or is delivered; what is free in a target, and what
 -- a packet needs there. Order: headings; the routes; a target; free slots; slots needed. Assumes nothing.
-use Rattle.std.specs.Prelude.{◌≡◌, ◌⊎◌, ◌≢◌, List, [], ◌∷◌, ℕ, ◌+◌, ◌-◌, ◌<◌, ◌≤◌, T, take}
+use Rattle.std.specs.Prelude.{◌≡◌, ◌⊎◌, ◌≢◌, List, [], ◌∷◌, ℕ, ◌+◌, ◌<◌, ◌≤◌, T, take}
 use Rattle.base.specs.Tests.{elem}
 use Rattle.network.specs.Sizes.{dimensions, adaptive_queue, escape_queue}
 use Rattle.network.specs.Packet.{distance, heading}

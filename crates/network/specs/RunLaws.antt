@@ -1,8 +1,8 @@
 -- Laws of Run.antt about the ledgers. Order: words beside the nodes of their moves; what a Drain writes; what is handed out; the ledger afterwards;
 -- the ledgers of a run; moves that lead from words to words.
 -- Assumes nothing.
-use Rattle.std.specs.Prelude.{ℕ, ◌-◌}
-use mathlib.Core.List.{List, [], map}
+use Rattle.std.specs.Prelude.{ℕ}
+use mathlib.Core.List.{List, map}
 use Rattle.std.proofs.Math.ListN.{length}
 use Rattle.network.specs.Calls.{Delivery, drained}
 

@@ -1,7 +1,7 @@
 -- Words are what stands in them: two stores with the same header, the same packets in every queue and the same words behind the last node are the same
 -- words, if their queues are stored as R44 to R46 say. Order: a queue so stored; all of them, also where one is replaced or a counter raised; the law; two
 -- networks, and their headers by sizes and counters. Assumes nothing.
-use Rattle.std.specs.Prelude.{◌≡◌, List, ℕ, ◌-◌, ◌<◌, ◌≤◌, T, eqb, length, get_or}
+use Rattle.std.specs.Prelude.{◌≡◌, List, ℕ, ◌<◌, ◌≤◌, T, eqb, length, get_or}
 use Rattle.base.specs.Tests.{all_of}
 use Rattle.network.specs.Sizes.{Shape, nodes, queues, capacity}
 use Rattle.network.specs.Layout.{header_words, need, queue_part, count_of, unused_of, held}

@@ -1,5 +1,5 @@
 -- Sizes in range as facts, and back; then the kinds of the queues, their capacities and the bounds of these. Assumes nothing.
-use Rattle.std.specs.Prelude.{[], ℕ, ◌≤◌, T}
+use Rattle.std.specs.Prelude.{ℕ, ◌≤◌, T}
 use Rattle.base.specs.Tests.{all_of}
 use Rattle.network.specs.Sizes.{Shape, within, largest_ring, fewest_escape, most_slots}
 

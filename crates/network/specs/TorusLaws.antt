@@ -1,7 +1,6 @@
 -- Laws of the torus (Torus.antt). Order: sizes that make a torus; going along a direction; coordinates; a node moved by a packet's offsets, and
 -- what a hop does to it; neighbours are apart. `i` is a dimension, `d` and `e` are directions, `p` is any number. Assumes nothing.
-use Rattle.std.specs.Prelude.{◌≡◌, [], length}
-use Prim.Native.Nat.{◌-◌}
+use Rattle.std.specs.Prelude.{◌≡◌, length}
 use Rattle.base.specs.Digits.{Positive}
 use Rattle.network.specs.Sizes.{Shape, dimensions}
 

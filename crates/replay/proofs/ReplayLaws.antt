@@ -1,6 +1,6 @@
 -- A D replayed move by move leaves the words that the D leaves: theorem `drain-replayed`, and `command-replayed` for every command. Order: a Drain with no
 -- budget; the next move of a Drain, if there is one; one move and the rest; the theorems. Assumes nothing.
-use Rattle.std.specs.Prelude.{◌≡◌, refl, ◌≢◌, ◌⊎◌, Bool, not, eqb}
+use Rattle.std.specs.Prelude.{◌≡◌, refl, ◌⊎◌, Bool, not, eqb}
 use Rattle.std.proofs.Math.Path.{ap}
 use Rattle.std.proofs.Common.{ap₂, sym, ◌∙◌, subst, inl, inr, true≢false, eq-eqb, ne_eqb}
 use Rattle.std.proofs.Math.Bool.{true, false, cond}

@@ -1,6 +1,6 @@
 -- From step to step the list of fills is the store's, and the first bytes of the page are the step that the words tell (R423): `command-tells`, `move-tells`.
 -- Order: the start; a whole step; what a step leaves of the words before it; a command; a move of a D. Assumes nothing.
-use Rattle.std.specs.Prelude.{◌≡◌, List, [], ℕ, take}
+use Rattle.std.specs.Prelude.{◌≡◌, List, ℕ, take}
 use Rattle.network.specs.Layout.{shape}
 use Rattle.network.specs.Refusals.{network_refusal}
 use Rattle.replay.specs.Replay.{Shown, FillsOf}

@@ -2,7 +2,7 @@
 -- budget; the next move of a Drain, if there is one; one move and the rest; the theorems. Assumes nothing.
 use Rattle.std.specs.Prelude.{◌≡◌}
 use Rattle.std.proofs.Math.Bool.{true, false}
-use mathlib.Core.List.{List, []}
+use mathlib.Core.List.{List}
 use Prim.Native.Nat.{ℕ, suc, ◌-◌}
 use Rattle.std.proofs.Math.ListN.{length}
 use Rattle.network.specs.Sizes.{Shape}

@@ -1,6 +1,6 @@
 -- Kept rows: whole sheets and the bytes of their dumps, worked out by hand from docs/RULES.md and computed from the definitions. A must-fail edit of a
 -- definition names the row that it breaks. Order: what the rows are computed with; a dump; its start; the next dump; single lines. Assumes nothing.
-use Rattle.std.specs.Prelude.{List, [], ℕ}
+use Rattle.std.specs.Prelude.{List, ℕ}
 use Rattle.network.specs.Sizes.{shape_of, sized}
 use Rattle.network.specs.Calls.{offer_words}
 use Rattle.network.specs.ByHand.{empty}

@@ -1,6 +1,6 @@
 -- Laws of a read that is replayed. Order: from its start on; a step on; a move; a command; the end; told by the next step; what is left to
 -- do. Assumes nothing.
-use Rattle.std.specs.Prelude.{◌≡◌, List, [], ◌++◌, ℕ, ◌-◌}
+use Rattle.std.specs.Prelude.{◌≡◌, List, ◌++◌, ℕ}
 use Rattle.session.specs.declared.Cursor.{Cursor}
 use Rattle.replay.specs.declared.ReplayCursor.{ReplayCursor}
 use Rattle.replay.specs.Steps.{finished, unwritten}

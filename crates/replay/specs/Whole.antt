@@ -1,7 +1,7 @@
 -- No step is lost for want of room: where list and page have room for every network that the store can hold, every command that changes something and every move of a D is
 -- shown by its whole step (`command-whole`, `move-whole`); and whatever room there is, a step lies within the page. Order: a step within the page; a whole
 -- step; the words that are shown are a network, and as many as before; the theorems. Assumes nothing.
-use Rattle.std.specs.Prelude.{Bool, List, [], ◌++◌, ℕ, ◌/◌, ◌≤◌, length, drop}
+use Rattle.std.specs.Prelude.{Bool, List, ◌++◌, ℕ, ◌/◌, ◌≤◌, length, drop}
 use Rattle.network.specs.Layout.{shape}
 use Rattle.waveform.specs.Dump.{variables_of}
 use Rattle.waveform.specs.Lengths.{page_room}

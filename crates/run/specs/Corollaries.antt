@@ -1,6 +1,6 @@
 -- What a reader asks of demand 3. Order: First and an empty network; a Drain that may go on to the end; the hops left by direction; the arbiter's order
 -- of moves; the stamps of a dump. Reached.antt has that Make and accepted offers lead to networks. Assumes nothing.
-use Rattle.std.specs.Prelude.{◌≡◌, List, [], ◌∷◌, ℕ, ◌+◌, ◌-◌, length}
+use Rattle.std.specs.Prelude.{◌≡◌, List, [], ◌∷◌, ℕ, ◌+◌, length}
 use Rattle.network.specs.Layout.{moves_made}
 use Rattle.network.specs.Refusals.{network_refusal}
 use Rattle.network.specs.Calls.{offer_words}

@@ -1,6 +1,6 @@
 -- Laws of what a read still brings. Order: told by its next command; a read is what comes from its start on; a byte is passed; no byte is left; the end of the input; a command is
 -- carried out; how many commands come at most. Assumes nothing.
-use Rattle.std.specs.Prelude.{List, [], ◌++◌, map, ℕ, ◌+◌}
+use Rattle.std.specs.Prelude.{List, ◌++◌, map, ℕ}
 use Rattle.sheet.specs.declared.Fed.{Fed}
 use Rattle.sheet.specs.Commands.{kept_command}
 use Rattle.sheet.specs.Cutting.{handed_on, pending_after, Cutting}

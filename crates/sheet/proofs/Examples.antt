@@ -1,7 +1,7 @@
 -- Kept rows of the sheet's text: the lines of R257 and many others, as they are cut, read and printed, worked out by hand from docs/RULES.md and computed
 -- from the definitions. A must-fail edit of a definition names the row that it breaks; so each row is a law of its own, and `examples` has them all.
 -- Order: lines; commands; what is printed; all of them. Assumes nothing.
-use Rattle.std.specs.Prelude.{refl, []}
+use Rattle.std.specs.Prelude.{refl}
 use Rattle.base.specs.Tests.{all_of, elem}
 use Rattle.base.specs.Digits.{product, digit}
 use Rattle.network.specs.Packet.{tag, destination}

@@ -1,6 +1,6 @@
 -- Laws of the bytes before a stop, whichever byte stops, for whoever reads a text field by field. Order: one byte; the front of the bytes, with the stop or
 -- the end behind it; bytes that were joined with a stop; digits are no stop; a field that starts at a place. Assumes nothing.
-use Rattle.std.specs.Prelude.{◌≡◌, refl, ◌≢◌, not, List, [], ◌∷◌, ◌++◌, ℕ, suc, ◌+◌, ◌-◌, ◌<◌, ◌≤◌, T, leb, ltb, eqb, length, get_or, take, drop}
+use Rattle.std.specs.Prelude.{◌≡◌, refl, ◌≢◌, not, List, [], ◌∷◌, ◌++◌, ℕ, suc, ◌+◌, ◌<◌, ◌≤◌, T, leb, ltb, eqb, length, get_or, take, drop}
 use Rattle.std.proofs.Common.{ap, ap₂, sym, ◌∙◌, arith, length-drop, get_or-drop, eq-eqb, ne_eqb, leb-true, ltb-true}
 use Rattle.std.proofs.Math.Decide.{ℕ_discrete}
 use Rattle.std.proofs.Math.Nat.{add-sub_cancel_left}

@@ -1,6 +1,6 @@
 -- How long the lines of an answer are at most, for a caller who lends the buffer. Order: a line of a letter and a number; a packet's; packets'; a
 -- delivery's; a Drain's. Assumes nothing.
-use Rattle.std.specs.Prelude.{List, [], ◌∷◌, ◌++◌, ℕ, suc, ◌+◌, ◌*◌, ◌^◌, ◌<◌, ◌≤◌, length, get_or}
+use Rattle.std.specs.Prelude.{List, [], ◌∷◌, ◌++◌, ℕ, suc, ◌*◌, ◌^◌, ◌<◌, ◌≤◌, length, get_or}
 use Rattle.std.proofs.Common.{arith, length-append}
 use Rattle.network.specs.declared.Stop.{Stop}
 use Rattle.network.specs.Packet.{tag, destination}

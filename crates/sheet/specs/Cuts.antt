@@ -1,6 +1,6 @@
 -- Cutting an input byte by byte gives its lines: theorem `cut_right`. Order: what a byte and the end of the input bring, by cases; the line without
 -- the CR of its end; what the buffer holds of a line; the theorem; the commands of the lines; what is handed on before the input ends. Assumes nothing.
-use Rattle.std.specs.Prelude.{◌≡◌, ◌⊎◌, ℕ, ◌+◌, ◌-◌, ◌<◌, ◌≤◌}
+use Rattle.std.specs.Prelude.{◌≡◌, ◌⊎◌, ℕ, ◌+◌, ◌<◌, ◌≤◌}
 use mathlib.Core.List.{List, [], ◌∷◌, ◌++◌}
 use Rattle.std.proofs.Math.ListN.{length, take}
 use Rattle.sheet.specs.Lines.{without_cr, Kept, kept}

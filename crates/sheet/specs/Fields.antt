@@ -1,6 +1,6 @@
 -- Laws of the bytes before a stop, whichever byte stops, for whoever reads a text field by field. Order: one byte; the front of the bytes, with the stop or
 -- the end behind it; bytes that were joined with a stop; digits are no stop; a field that starts at a place. Assumes nothing.
-use Rattle.std.specs.Prelude.{Bool, not, List, [], ℕ, ◌+◌, ◌-◌, eqb, length, take, drop}
+use Rattle.std.specs.Prelude.{Bool, not, List, ℕ, ◌+◌, ◌-◌, eqb, length, take, drop}
 use Rattle.base.specs.Tests.{all_of}
 use Rattle.sheet.specs.Commands.{up_to}
 

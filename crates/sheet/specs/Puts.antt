@@ -1,6 +1,6 @@
 -- Laws of bytes that are put into a buffer one after another, for the functions that print. Order: lengths; bytes behind bytes; the same of what the
 -- functions ensure; the elements of a list one after another; three runs of bytes. Assumes nothing.
-use Rattle.std.specs.Prelude.{List, [], ℕ, ◌≤◌, length, take}
+use Rattle.std.specs.Prelude.{List, ℕ, ◌≤◌, length, take}
 use Rattle.sheet.specs.Output.{Room, Put}
 
 -- what is put for the elements of a list, one after another: `one` for an element, `every` for a list. The first i elements of l have been put

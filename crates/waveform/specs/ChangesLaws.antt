@@ -2,8 +2,7 @@
 -- library's notion of standing in a list. Order: what is told; what it needs; what it leaves in a list. That variables rise, and so each is told once, is
 -- `changes-rise` (ReadingLaws.antt). Assumes nothing.
 use Rattle.std.specs.Prelude.{◌≡◌, ◌≢◌, ◌⊎◌, Bool, true, ℕ, ◌<◌, get_or}
-use mathlib.Core.List.Memᴰ
-use mathlib.Core.List.{List, [], Memᴰ}
+use mathlib.Core.List.{List, Memᴰ}
 use Rattle.waveform.specs.Dump.{Change}
 
 -- What is told (R407 to R409) -------------------------------------------------------------------------------------------------------------

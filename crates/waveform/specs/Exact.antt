@@ -1,6 +1,6 @@
 -- R417: the reader takes nothing but the subset. Order: the bytes of a step; what holds of its time and its changes; the theorem; then its proof: bytes that
 -- begin with others; a byte and a field; a time stamp; a value line; value lines one after another; the header's names; its values; a step. Assumes nothing.
-use Rattle.std.specs.Prelude.{◌≡◌, Bool, true, false, List, [], ◌∷◌, ◌++◌, ℕ, suc, ◌+◌, ◌-◌, ◌%◌, ◌≤◌, length, drop}
+use Rattle.std.specs.Prelude.{◌≡◌, Bool, true, false, List, [], ◌∷◌, ◌++◌, ℕ, suc, ◌+◌, ◌%◌, ◌≤◌, length, drop}
 use Rattle.network.specs.Sizes.{queues}
 use Rattle.waveform.specs.declared.ValueLine.{ValueLine}
 use Rattle.waveform.specs.declared.TimeStamp.{TimeStamp}

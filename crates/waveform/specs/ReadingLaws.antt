@@ -1,11 +1,11 @@
 -- Laws of what the reader makes of bytes: of a step's bytes it makes that step. Order: a field that holds a number; a time stamp; a value line; value lines
 -- one after another; the changes of a step; what they leave in a list; the header's names; a step. Assumes nothing.
-use Rattle.std.specs.Prelude.{◌≡◌, Bool, true, List, [], ◌∷◌, ◌++◌, ℕ, suc, ◌+◌, ◌-◌, ◌%◌, ◌<◌, ◌≤◌, length, get_or}
+use Rattle.std.specs.Prelude.{◌≡◌, Bool, true, List, [], ◌∷◌, ◌++◌, ℕ, suc, ◌+◌, ◌%◌, ◌<◌, ◌≤◌, length, get_or}
 use Rattle.network.specs.Sizes.{queues}
 use Rattle.sheet.specs.Commands.{up_to, value, is_number}
 use Rattle.sheet.specs.Output.{numeral}
 use Rattle.waveform.specs.declared.ValueLine.{ValueLine}
-use Rattle.waveform.specs.Dump.{most_variables, variables_begin, variables_end, values_begin, values_end, variable_lines, stamp_line, Change, value_line, value_lines, tells, changes}
+use Rattle.waveform.specs.Dump.{most_variables, variables_begin, variables_end, values_begin, values_end, variable_lines, stamp_line, Change, value_line, value_lines}
 use Rattle.waveform.specs.Reading.{is_ended, behind, largest_time, largest_fill, ValueRun, Step}
 
 -- bytes that begin with a field, which the byte `stop` ends and which holds the number n; behind it stands `rest`

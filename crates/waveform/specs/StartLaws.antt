@@ -1,5 +1,5 @@
 -- Laws of bytes that stand at the start of others. Order: too few bytes; what stands behind; byte by byte; the bytes themselves. Assumes nothing.
-use Rattle.std.specs.Prelude.{◌≡◌, List, []}
+use Rattle.std.specs.Prelude.{◌≡◌, List}
 use Prim.Native.Nat.{ℕ, ◌+◌, ◌≤◌}
 use Rattle.std.proofs.Math.ListN.{length, drop}
 use Rattle.waveform.specs.Reading.{starts_with}

@@ -7,5 +7,4 @@ use Rattle.bench_c.proofs.bench_drain.Goals as goal
 pub returns : goal.returns
 returns c =
     let d = c.drain-d.ensures in
-
     record { answer = c.drained.ensures.answer ∙ ap drained_number d.answer; words = d.words; ledger = d.ledger; out = c.drained.ensures.out ∙ ap drained_out d.answer }

@@ -19,7 +19,6 @@ returns-then-unknown-ne0 c =
     let a = c.args in
     let k = is_open c.open-opened.ensures c.in-Network.is in
     let e = c.look_rules-unknown.ensures ∙ look-rules (shape_of c.in-Network.s) a.words.now a.node a.queue k.passed k.sizes in
-
     record { answer = e; out = look-cleared a.words.now a.node a.queue (λ z. c.if-unknown-ne0.true (e ∙ z)) }
 
 -- the look is not refused
@@ -46,7 +45,6 @@ returns-in-Refused c =
     let a = c.args in
     let k = is-shut c.open-opened.ensures c.in-Refused.is in
     let e = look-broken a.words.now a.node a.queue (broken k) in
-
     record { answer = sym k.says ∙ e; out = look-cleared a.words.now a.node a.queue (λ z. broken k (e ∙ z)) }
 
 pub returns-else-unknown-ne0 : goal.returns-else-unknown-ne0
@@ -54,5 +52,4 @@ returns-else-unknown-ne0 c =
     let a = c.args in
     let k = is_open c.open-opened.ensures c.in-Network.is in
     let none = sym (look-rules (shape_of c.in-Network.s) a.words.now a.node a.queue k.passed k.sizes) ∙ sym c.look_rules-unknown.ensures ∙ c.if-unknown-ne0.false in
-
     record { answer = sym none; out = look-told (shape_of c.in-Network.s) a.words.now a.node a.queue c.queue_start-start.result c.held_count-count.result k.sizes none c.queue_start-start.ensures c.held_count-count.ensures }

@@ -7,5 +7,4 @@ use Rattle.bench_c.proofs.bench_move.Goals as goal
 pub returns : goal.returns
 returns c =
     let m = c.move_packet-m.ensures in
-
     record { answer = c.moved.ensures.answer ∙ ap moved_number m.answer; words = m.words; out = c.moved.ensures.out ∙ ap moved_out m.answer }

@@ -7,5 +7,4 @@ use Rattle.bench_c.proofs.bench_write_header.Goals as goal
 pub returns : goal.returns
 returns c =
     let e = c.write_header-w.ensures in
-
     record { answer = c.written.ensures.answer ∙ ap written_number e.answer; fills = e.fills; page = e.page; out = c.written.ensures.out ∙ ap written_out e.answer }

@@ -31,7 +31,6 @@ free_load-requires c =
     let a = c.args in
     let k = is_open c.open-opened.ensures c.in-Network.is in
     let p = credit-place (shape_of c.in-Network.s) a.node a.output (sym c.credit_rules-refusal.ensures ∙ c.if-refusal-ne0.false) in
-
     record { queue_of = record { network = k.network; node = p.0; queue = p.2 }; o_nonzero = p.1 }
 
 pub returns-in-Refused : goal.returns-in-Refused

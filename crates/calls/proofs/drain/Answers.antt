@@ -23,7 +23,6 @@ returns-in-Refused c =
     let k = is-shut c.open-opened.ensures c.in-Refused.is in
     let x = drain-broken a.words.now a.budget a.ledger.now (broken k) in
     let says = ap Drained.Refused (sym k.says) ∙ x.says in
-
     record { answer = says; words = x.leaves; ledger = x.writes; told = told _ _ _ _ says }
 
 pub returns-in-Network : goal.returns-in-Network
@@ -32,5 +31,4 @@ returns-in-Network c =
     let k = is_open c.open-opened.ensures c.in-Network.is in
     let x = drain-done (shape_of c.in-Network.s) a.words.now a.budget a.ledger.now c.drain_network.new.words c.drain_network.new.ledger c.drain_network.ensures.made c.drain_network.ensures.handed c.drain_network.ensures.why
     k.passed k.sizes c.drain_network.ensures.whole c.drain_network.ensures.writes in
-
     record { answer = c.drain_network.ensures.says ∙ x.says; words = x.leaves; ledger = x.writes; told = told _ _ _ _ (c.drain_network.ensures.says ∙ x.says) }

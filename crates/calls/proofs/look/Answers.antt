@@ -22,7 +22,6 @@ returns-then-look_rules-ne0 c =
     let ne : look_refusal a.words.now a.node a.queue ≢ 0 =
     λ z. c.if-look_rules-ne0.true (c.look_rules.ensures ∙ look-rules (shape_of c.in-Network.s) a.words.now a.node a.queue k.passed k.sizes ∙ z) in
     let e = look-refused a.words.now a.node a.queue ne in
-
     record { part = e; place = place-refused _ _ _ _ ne e }
 
 -- the look is not refused
@@ -60,7 +59,6 @@ returns-in-Refused c =
     let k = is-shut c.open-opened.ensures c.in-Refused.is in
     let ne : look_refusal a.words.now a.node a.queue ≢ 0 = λ z. broken k (look-broken a.words.now a.node a.queue (broken k) ∙ z) in
     let e = look-refused a.words.now a.node a.queue ne in
-
     record { part = e; place = place-refused _ _ _ _ ne e }
 
 pub returns-else-look_rules-ne0 : goal.returns-else-look_rules-ne0
@@ -70,5 +68,4 @@ returns-else-look_rules-ne0 c =
     let none = sym (look-rules (shape_of c.in-Network.s) a.words.now a.node a.queue k.passed k.sizes) ∙ sym c.look_rules.ensures ∙ c.if-look_rules-ne0.false in
     let e = look-shown (shape_of c.in-Network.s) a.words.now _ a.node a.queue k.sizes none
     (c.between.ensures.part ∙ held-part (shape_of c.in-Network.s) a.words.now a.node a.queue c.queue_start-start.result c.held_count-count.result (look (goal.at.returns-else-look_rules-ne0 c).Else-look_rules-ne0) c.queue_start-start.ensures c.held_count-count.ensures) in
-
     record { part = e; place = place-shown (shape_of c.in-Network.s) _ _ _ _ c.queue_start-start.result k.sizes c.queue_start-start.ensures c.between.ensures.place e }

@@ -24,7 +24,6 @@ returns-then-refusal-ne0 c =
     let k = is_open c.open-opened.ensures c.in-Network.is in
     let x = move-refused a.words.now a.node a.queue a.output c.move_rules-refusal.result
     (move-rules (shape_of c.in-Network.s) a.words.now a.node a.queue a.output k.passed k.sizes ∙ sym c.move_rules-refusal.ensures) (λ z. c.if-refusal-ne0.true (omega (arith, z))) in
-
     record { answer = x.says; words = x.leaves; told = told _ _ _ _ _ x.says }
 
 pub make_move-p-requires : goal.make_move-p-requires
@@ -41,7 +40,6 @@ returns-then-output-eq-DELIVER c =
     let k = is_open c.open-opened.ensures c.in-Network.is in
     let x = move-delivered (shape_of c.in-Network.s) a.words.now a.node a.queue a.output c.make_move-p.result k.passed k.sizes
     (sym c.move_rules-refusal.ensures ∙ c.if-refusal-ne0.false) c.if-output-eq-DELIVER.true c.make_move-p.ensures.head in
-
     record { answer = x.says; words = c.make_move-p.ensures.words ∙ x.leaves; told = told _ _ _ _ _ x.says }
 
 pub returns-in-Refused : goal.returns-in-Refused
@@ -50,7 +48,6 @@ returns-in-Refused c =
     let k = is-shut c.open-opened.ensures c.in-Refused.is in
     let x = move-refused a.words.now a.node a.queue a.output c.in-Refused.refusal
     (move-broken a.words.now a.node a.queue a.output (broken k) ∙ k.says) k.refused in
-
     record { answer = x.says; words = x.leaves; told = told _ _ _ _ _ x.says }
 
 pub returns-else-output-eq-DELIVER : goal.returns-else-output-eq-DELIVER
@@ -59,5 +56,4 @@ returns-else-output-eq-DELIVER c =
     let k = is_open c.open-opened.ensures c.in-Network.is in
     let x = move-passed (shape_of c.in-Network.s) a.words.now a.node a.queue a.output k.passed k.sizes
     (sym c.move_rules-refusal.ensures ∙ c.if-refusal-ne0.false) c.if-output-eq-DELIVER.false in
-
     record { answer = x.says; words = c.make_move-p.ensures.words ∙ x.leaves; told = told _ _ _ _ _ x.says }

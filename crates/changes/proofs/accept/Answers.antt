@@ -22,7 +22,7 @@ raise-requires c =
     let a = c.args in
     let S = shape_of a.s in
     let may = arrives-may S a.words.now c.push.new.words a.n injection_queue c.offered-p.result accepted_at c.push.ensures
-      (checked-fits S a.words.now a.n injection_queue (injection-checked (goal.at.raise-requires c).Start)) c.requires.injection_queue_len_bound (omega arith) (accepted-may c.requires.network) in
+    (checked-fits S a.words.now a.n injection_queue (injection-checked (goal.at.raise-requires c).Start)) c.requires.injection_queue_len_bound (omega arith) (accepted-may c.requires.network) in
     record { at_in_bounds = may.0; at_bound = may.1 }
 
 pub returns : goal.returns

@@ -15,7 +15,6 @@ pop-p-requires c =
     let a = c.args in
     let P = c.requires.permitted in
     let h = P.holds in
-
     record { checked_queue = checked (shape_of a.s) a.words.now a.n a.q c.requires.network P.node P.queue; nonzero = omega arith }
 
 left : (c : After-pop-p)
@@ -50,14 +49,13 @@ push-requires c =
     let k = left (goal.at.push-requires c).After-pop-p in
     let away = c.if-o-eq-DELIVER.false in
     let there = c.requires.there_value away in
-
     record { checked_queue = target-checked k c.args.there away there; q_len_bound = target_room k c.args.there away there }
 
 pub raise-requires-2 : goal.raise-requires-2
 unfolding target
 raise-requires-2 c =
     let may = moves-arrived (left (goal.at.raise-requires-2 c).After-pop-p) c.args.there c.if-o-eq-DELIVER.false (c.requires.there_value c.if-o-eq-DELIVER.false) c.hop-hopped.result
-      c.push.new.words c.push.ensures in
+    c.push.new.words c.push.ensures in
     record { at_in_bounds = may.0; at_bound = may.1 }
 
 pub returns : goal.returns

@@ -35,7 +35,6 @@ pub drain_with-requires : goal.drain_with-requires
 drain_with-requires c =
     let e = c.nodes.ensures in
     let h = c.if-nodes-le-FEW_NODES.true in
-
     record { network = c.requires; s_in_bounds = (omega arith, omega arith) }
 
 pub drain_with-requires-2 : goal.drain_with-requires-2

@@ -24,5 +24,4 @@ take_turns-requires c =
     let covered =
     covered-filled (shape_of c.args.s) c.args.words.now c.fill-3.new.set
     (subst (λ (x : ℕ). HeadsBelow c.fill-3.new.set x) c.nodes.ensures c.fill-3.ensures) in
-
     record { network = c.requires.network; near = c.fill.ensures; kept = record { covered = covered; loaded = c.fill-2.ensures } }

@@ -1,5 +1,5 @@
 -- `drains::take_turns` meets its contract: the goals that the check does not find by itself. Assumes nothing.
-use Rattle.std.proofs.Common.{refl, ap, sym, ◌∙◌, subst, List, ⊎_elim, ℕ, ◌+◌, ◌-◌, ◌<◌, arith, length, length-set}
+use Rattle.std.proofs.Common.{refl, sym, ◌∙◌, subst, List, ℕ, ◌+◌, ◌-◌, ◌<◌, arith, length}
 use Rattle.network.specs.Sizes.{shape_of}
 use Rattle.turns.specs.Turned.{Kept}
 use Rattle.network.proofs.TorusLaws.{sizes-torus}
@@ -11,11 +11,10 @@ less : (b m : ℕ) → m < b → b - (m + 1) < b - m
 less b m h = omega arith
 
 pub loop-why-init : goal.loop-why-init
-loop-why-init c =
-    (
-      so-far-start (shape_of c.args.s) c.args.words.now c.args.budget c.args.ledger.now c.requires.network,
-      (c.requires.kept, (refl, (refl, refl))),
-    )
+loop-why-init c = (
+  so-far-start (shape_of c.args.s) c.args.words.now c.args.budget c.args.ledger.now c.requires.network,
+  (c.requires.kept, (refl, (refl, refl))),
+)
 
 pub returns-in-Stopped : goal.returns-in-Stopped
 returns-in-Stopped c =
@@ -42,24 +41,24 @@ loop-why-smaller c =
     let tor = sizes-torus c.args.s c.requires.network.in-range in
     less c.args.budget c.loop-why.moves
     (elim c.match-turn.branch [
-      in-Passed w ↦
-        passed-budget (shape_of c.args.s) tor c.args.words.now c.args.budget c.args.ledger.now c.loop-why.words c.loop-why.ledger c.loop-why.moves c.loop-why.delivered c.loop-why.invariant.0
-        (sym c.take_turn-turn.ensures.answer ∙ w.in-Passed.is)
-    | in-Delivered w ↦
-        (delivered-budget (shape_of c.args.s) tor c.args.words.now c.args.budget c.args.ledger.now c.loop-why.words c.loop-why.ledger c.loop-why.moves c.loop-why.delivered
-        w.in-Delivered.p c.loop-why.invariant.0 (sym c.take_turn-turn.ensures.answer ∙ w.in-Delivered.is)).0
+      | in-Passed w ↦
+          passed-budget (shape_of c.args.s) tor c.args.words.now c.args.budget c.args.ledger.now c.loop-why.words c.loop-why.ledger c.loop-why.moves c.loop-why.delivered c.loop-why.invariant.0
+          (sym c.take_turn-turn.ensures.answer ∙ w.in-Passed.is)
+      | in-Delivered w ↦
+          (delivered-budget (shape_of c.args.s) tor c.args.words.now c.args.budget c.args.ledger.now c.loop-why.words c.loop-why.ledger c.loop-why.moves c.loop-why.delivered
+          w.in-Delivered.p c.loop-why.invariant.0 (sym c.take_turn-turn.ensures.answer ∙ w.in-Delivered.is)).0
     ])
 
 pub loop-why-preserved : goal.loop-why-preserved
 loop-why-preserved c =
     let tor = sizes-torus c.args.s c.requires.network.in-range in (
       elim c.match-turn.branch [
-        in-Passed w ↦
-          next-passed (shape_of c.args.s) tor c.args.words.now c.args.budget c.args.ledger.now c.loop-why.words c.loop-why.ledger c.loop-why.moves c.loop-why.delivered c.take_turn-turn.result
-          c.take_turn-turn.new.words c.match-turn.ledger c.match-turn.delivered c.loop-why.invariant.0 c.take_turn-turn.ensures.answer c.take_turn-turn.ensures.words w.in-Passed.is w.ledger-is w.delivered-is
-      | in-Delivered w ↦
-          next-delivered (shape_of c.args.s) tor c.args.words.now c.args.budget c.args.ledger.now c.loop-why.words c.loop-why.ledger c.loop-why.moves c.loop-why.delivered
-          w.in-Delivered.p c.take_turn-turn.result c.take_turn-turn.new.words c.match-turn.ledger c.match-turn.delivered c.loop-why.invariant.0 c.take_turn-turn.ensures.answer c.take_turn-turn.ensures.words w.in-Delivered.is w.ledger-is w.delivered-is
+        | in-Passed w ↦
+            next-passed (shape_of c.args.s) tor c.args.words.now c.args.budget c.args.ledger.now c.loop-why.words c.loop-why.ledger c.loop-why.moves c.loop-why.delivered c.take_turn-turn.result
+            c.take_turn-turn.new.words c.match-turn.ledger c.match-turn.delivered c.loop-why.invariant.0 c.take_turn-turn.ensures.answer c.take_turn-turn.ensures.words w.in-Passed.is w.ledger-is w.delivered-is
+        | in-Delivered w ↦
+            next-delivered (shape_of c.args.s) tor c.args.words.now c.args.budget c.args.ledger.now c.loop-why.words c.loop-why.ledger c.loop-why.moves c.loop-why.delivered
+            w.in-Delivered.p c.take_turn-turn.result c.take_turn-turn.new.words c.match-turn.ledger c.match-turn.delivered c.loop-why.invariant.0 c.take_turn-turn.ensures.answer c.take_turn-turn.ensures.words w.in-Delivered.is w.ledger-is w.delivered-is
       ],
       (
         subst (λ (x : List ℕ). Kept (shape_of c.args.s) x c.take_turn-turn.new.ready c.take_turn-turn.new.loads) (sym c.take_turn-turn.ensures.words) c.take_turn-turn.ensures.kept,

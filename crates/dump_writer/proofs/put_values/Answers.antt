@@ -16,13 +16,13 @@ loop-i-preserved c =
     let a = c.args in
     let h = c.loop-i-test.true in
     elim c.if-tells.branch [
-      then-tells w ↦
-        rw (w.page-is, w.next-is)
-        (put-values-told a.every a.counts.now a.fills.now a.page.now a.at c.requires.room c.loop-i.invariant h (told_is a.every a.counts.now a.fills.now c.loop-i.i c.tells.ensures w.if-tells.true)
-        w.put_value-next.ensures)
-    | else-tells w ↦
-        rw (w.page-is, w.next-is)
-        (put-values-untold a.every a.counts.now a.fills.now a.page.now a.at c.requires.room c.loop-i.invariant h (told_is a.every a.counts.now a.fills.now c.loop-i.i c.tells.ensures w.if-tells.false))
+      | then-tells w ↦
+          rw (w.page-is, w.next-is)
+          (put-values-told a.every a.counts.now a.fills.now a.page.now a.at c.requires.room c.loop-i.invariant h (told_is a.every a.counts.now a.fills.now c.loop-i.i c.tells.ensures w.if-tells.true)
+          w.put_value-next.ensures)
+      | else-tells w ↦
+          rw (w.page-is, w.next-is)
+          (put-values-untold a.every a.counts.now a.fills.now a.page.now a.at c.requires.room c.loop-i.invariant h (told_is a.every a.counts.now a.fills.now c.loop-i.i c.tells.ensures w.if-tells.false))
     ]
 
 pub shape_of-page : goal.shape_of-page

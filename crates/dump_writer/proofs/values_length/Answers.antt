@@ -19,13 +19,13 @@ loop-i-preserved c =
     let a = c.args in
     let h = c.loop-i-test.true in
     elim c.if-tells.branch [
-      then-tells w ↦
-        rw w.length-is
-        (values-told a.every a.counts.now a.fills.now c.loop-i.invariant h w.value_length-length.result
-        (told_is a.every a.counts.now a.fills.now c.loop-i.i c.tells.ensures w.if-tells.true) w.value_length-length.ensures)
-    | else-tells w ↦
-        rw w.length-is
-        (values-untold a.every a.counts.now a.fills.now c.loop-i.invariant h (told_is a.every a.counts.now a.fills.now c.loop-i.i c.tells.ensures w.if-tells.false))
+      | then-tells w ↦
+          rw w.length-is
+          (values-told a.every a.counts.now a.fills.now c.loop-i.invariant h w.value_length-length.result
+          (told_is a.every a.counts.now a.fills.now c.loop-i.i c.tells.ensures w.if-tells.true) w.value_length-length.ensures)
+      | else-tells w ↦
+          rw w.length-is
+          (values-untold a.every a.counts.now a.fills.now c.loop-i.invariant h (told_is a.every a.counts.now a.fills.now c.loop-i.i c.tells.ensures w.if-tells.false))
     ]
 
 pub returns : goal.returns

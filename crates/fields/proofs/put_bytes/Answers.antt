@@ -1,5 +1,5 @@
 -- `fields::put_bytes` meets its contract: the goals that the check does not find by itself. Assumes nothing.
-use Rattle.std.proofs.Common.{◌≡◌, refl, List, [], ◌∷◌, ◌++◌, ℕ, ◌-◌}
+use Rattle.std.proofs.Common.{◌≡◌, refl, List, [], ◌∷◌, ◌++◌, ℕ}
 use Rattle.sheet.proofs.Puts.{putting-none, putting-room, putting-more, putting-all, put-length}
 use Rattle.fields.proofs.put_bytes.Goals as goal
 

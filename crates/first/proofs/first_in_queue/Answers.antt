@@ -58,11 +58,15 @@ loop-k-init c = record { within = omega arith; left = found-from-first (reading 
 
 pub may_flow-requires : goal.may_flow-requires
 may_flow-requires c =
-    let k = reading (goal.at.may_flow-requires c).After-routes-outputs in record { queue_of = record {
+    let k = reading (goal.at.may_flow-requires c).After-routes-outputs in record {
+      queue_of = record {
         network = k.queue.network;
         node = k.queue.node;
         queue = output-lt k c.loop-k.k c.loop-k-test.true (sym c.applies.ensures ∙ c.if-applies.true);
-      }; near = c.requires.near; loads = c.requires.loads }
+      };
+      near = c.requires.near;
+      loads = c.requires.loads;
+    }
 
 pub returns-then-may_flow : goal.returns-then-may_flow
 returns-then-may_flow c =
@@ -77,8 +81,8 @@ loop-k-preserved c =
       within = omega (arith, c.loop-k-test.true);
       left =
           elim c.if-applies.branch [
-            then-applies+else-may_flow w ↦
-              line_refused k c.loop-k.k c.loop-k-test.true (sym c.applies.ensures ∙ w.if-applies.true) (failed _ _ w.may_flow.ensures w.if-may_flow.false) c.loop-k.invariant.left
+            | then-applies+else-may_flow w ↦
+                line_refused k c.loop-k.k c.loop-k-test.true (sym c.applies.ensures ∙ w.if-applies.true) (failed _ _ w.may_flow.ensures w.if-may_flow.false) c.loop-k.invariant.left
             | else-applies w ↦ line-none k c.loop-k.k c.loop-k-test.true (sym c.applies.ensures ∙ w.if-applies.false) c.loop-k.invariant.left
           ];
     }

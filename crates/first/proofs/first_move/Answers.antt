@@ -93,8 +93,8 @@ loop-k-preserved c =
         within = omega (arith, c.loop-k-test.true);
         left =
             elim c.if-applies.branch [
-              then-applies+else-flow_rules-eq0 w ↦
-                line_refused k c.loop-k.k c.loop-k-test.true (sym c.applies.ensures ∙ w.if-applies.true) (λ z. w.if-flow_rules-eq0.false (w.flow_rules.ensures ∙ z)) c.loop-k.invariant.1.left
+              | then-applies+else-flow_rules-eq0 w ↦
+                  line_refused k c.loop-k.k c.loop-k-test.true (sym c.applies.ensures ∙ w.if-applies.true) (λ z. w.if-flow_rules-eq0.false (w.flow_rules.ensures ∙ z)) c.loop-k.invariant.1.left
               | else-applies w ↦ line-none k c.loop-k.k c.loop-k-test.true (sym c.applies.ensures ∙ w.if-applies.false) c.loop-k.invariant.1.left
             ];
       },
@@ -109,10 +109,10 @@ nothing-in-queue c =
     let a = c.args in
     let queue : QueueOf (shape_of a.s) a.words.now c.search.n c.loop-q.q = queue-of _ _ _ _ c.nodes-total.result c.requires c.nodes-total.ensures c.search-test.true c.loop-q-test.true in
     elim c.if-words-start-ne0.branch [
-      then-words-start-ne0+else-loop-k-test w ↦ (
-        let k : Reading c.args.s c.args.words.now c.search.n c.loop-q.q c.loop-q.start w.routes-outputs.result =
-            record { queue = queue; at = c.loop-q.invariant.place; some = w.if-words-start-ne0.true; each = w.routes-outputs.ensures.each; these = w.routes-outputs.ensures.these } in
-        (w.found-is ∙ w.loop-k.invariant.0, lines_none k w.loop-k.k w.loop-k.invariant.1.within w.loop-k-test.false w.loop-k.invariant.1.left))
+      | then-words-start-ne0+else-loop-k-test w ↦ (
+          let k : Reading c.args.s c.args.words.now c.search.n c.loop-q.q c.loop-q.start w.routes-outputs.result =
+          record { queue = queue; at = c.loop-q.invariant.place; some = w.if-words-start-ne0.true; each = w.routes-outputs.ensures.each; these = w.routes-outputs.ensures.these } in
+          (w.found-is ∙ w.loop-k.invariant.0, lines_none k w.loop-k.k w.loop-k.invariant.1.within w.loop-k-test.false w.loop-k.invariant.1.left))
       | else-words-start-ne0 w ↦ (
         w.found-is ∙ c.loop-q.invariant.nothing,
         queue-none a.s a.words.now c.search.n c.loop-q.q c.loop-q.start queue c.loop-q.invariant.place w.if-words-start-ne0.false,
@@ -167,23 +167,23 @@ outcome c =
     let i = c.search.invariant in
     let e = c.nodes-total.ensures in
     elim c.search-test.branch [
-      else-search-test w ↦ inl (w.found-is ∙ i.nothing, nodes-none i (omega (arith, e, w.search-test.false)))
+      | else-search-test w ↦ inl (w.found-is ∙ i.nothing, nodes-none i (omega (arith, e, w.search-test.false)))
       | then-search-test+then-loop-q-test+then-words-start-ne0+then-loop-k-test+then-applies+then-flow_rules-eq0 w ↦ (
-        let k : Reading c.args.s c.args.words.now c.search.n w.loop-q.q w.loop-q.start w.routes-outputs.result =
-            record {
-              queue = queue-of _ _ _ _ c.nodes-total.result c.requires e w.search-test.true w.loop-q-test.true;
-              at = w.loop-q.invariant.place;
-              some = w.if-words-start-ne0.true;
-              each = w.routes-outputs.ensures.each;
-              these = w.routes-outputs.ensures.these;
-            } in
-        inr (
-          w.found-is,
-          node-found i (omega (arith, e, w.search-test.true))
-              (queue-found w.loop-q.invariant w.loop-q-test.true
-              (line-found k w.loop-k.k w.loop-k-test.true (sym w.applies.ensures ∙ w.if-applies.true) (sym w.flow_rules.ensures ∙ w.if-flow_rules-eq0.true) w.loop-k.invariant.1.left))
-              ∙ same (sym w.node-is) (sym w.queue-is) (sym w.output-is),
-        ))
+          let k : Reading c.args.s c.args.words.now c.search.n w.loop-q.q w.loop-q.start w.routes-outputs.result =
+          record {
+            queue = queue-of _ _ _ _ c.nodes-total.result c.requires e w.search-test.true w.loop-q-test.true;
+            at = w.loop-q.invariant.place;
+            some = w.if-words-start-ne0.true;
+            each = w.routes-outputs.ensures.each;
+            these = w.routes-outputs.ensures.these;
+          } in
+          inr (
+            w.found-is,
+            node-found i (omega (arith, e, w.search-test.true))
+                (queue-found w.loop-q.invariant w.loop-q-test.true
+                (line-found k w.loop-k.k w.loop-k-test.true (sym w.applies.ensures ∙ w.if-applies.true) (sym w.flow_rules.ensures ∙ w.if-flow_rules-eq0.true) w.loop-k.invariant.1.left))
+                ∙ same (sym w.node-is) (sym w.queue-is) (sym w.output-is),
+          ))
     ]
   where
     same : {n n' q q' o o' : ℕ} → n ≡ n' → q ≡ q' → o ≡ o' → Found.Move n q o ≡ Found.Move n' q' o'

@@ -83,7 +83,6 @@ look_up-there-requires c =
 pub taken-requires : goal.taken-requires
 taken-requires c =
     let a = c.args in
-
     record { queue_of = at_target a.s a.words.now a.n a.o c.look_up-there.result c.requires.queue_of (is-target (goal.at.taken-requires c).After-look_up-there); loads = c.requires.loads }
 
 pub overflow_add-result : goal.overflow_add-result

@@ -8,5 +8,4 @@ returns c =
     let s = c.args.set.now in
     let k = c.args.k in
     let l = c.requires in
-
     record { answer = ap (λ (x : ℕ). eqb x 0) (sym (get_or-set_same s (k / 64) _ 0 l)); words = bit-cleared s k l }

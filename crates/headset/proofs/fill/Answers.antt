@@ -1,5 +1,5 @@
 -- `headset::fill` meets its contract: the goals that the check does not find by itself. Assumes nothing.
-use Rattle.std.proofs.Common.{◌≡◌, ap, sym, ◌∙◌, ◌-◌, arith, length}
+use Rattle.std.proofs.Common.{◌≡◌, ap, sym, ◌∙◌, arith, length}
 use Rattle.headset.proofs.Sets.{filled_none, filled_more}
 use Rattle.headset.proofs.fill.Goals as goal
 

@@ -21,7 +21,6 @@ pub head-requires : goal.head-requires
 head-requires c =
     let P = c.requires.permitted in
     let some = P.holds in
-
     record { queue_of = record { network = c.requires.network; node = P.node; queue = P.queue }; nonzero = omega (arith, some) }
 
 pub overflow_cast-chunks : goal.overflow_cast-chunks

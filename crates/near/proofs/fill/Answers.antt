@@ -1,5 +1,5 @@
 -- `near::fill` meets its contract: the goals that the check does not find by itself. Assumes nothing.
-use Rattle.std.proofs.Common.{◌≡◌, refl, subst, ◌∙◌, ℕ, ◌*◌, ◌-◌, ◌<◌, arith}
+use Rattle.std.proofs.Common.{◌≡◌, refl, subst, ◌∙◌, ℕ, ◌*◌, ◌<◌, arith}
 use Rattle.network.specs.Sizes.{shape_of, directions, nodes}
 use Rattle.network.specs.Torus.{neighbour}
 use Rattle.network.proofs.TorusLaws.{sizes-nodes}

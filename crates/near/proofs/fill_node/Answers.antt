@@ -1,5 +1,5 @@
 -- `near::fill_node` meets its contract: the goals that the check does not find by itself. Assumes nothing.
-use Rattle.std.proofs.Common.{◌≡◌, refl, ap, subst, ◌∙◌, List, ℕ, ◌-◌, ◌<◌, arith, get_or}
+use Rattle.std.proofs.Common.{◌≡◌, refl, ap, subst, ◌∙◌, List, ℕ, ◌<◌, arith, get_or}
 use Rattle.network.specs.Sizes.{Shape, shape_of, directions, dimension_of, nodes}
 use Rattle.network.proofs.PacketLaws.{dimension-lt}
 use Rattle.network.specs.Torus.{coordinate}
@@ -25,7 +25,6 @@ loop-d-init c = (counted (omega arith) c.requires.2, omega arith, refl)
 pub fill_entry-requires : goal.fill_entry-requires
 fill_entry-requires c =
     let h = c.loop-d-test.true in
-
     record { t = (c.requires.0.sizes, h, is-node (goal.at.fill_entry-requires c).Start, coordinate-at (goal.at.fill_entry-requires c).Start c.loop-d.d h); near_to = c.loop-d.invariant.0 }
 
 pub loop-d-preserved : goal.loop-d-preserved

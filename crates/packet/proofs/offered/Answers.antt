@@ -1,5 +1,5 @@
 -- `packet::offered` meets its contract: the goals that the check does not find by itself. Assumes nothing.
-use Rattle.std.proofs.Common.{◌-◌, arith}
+use Rattle.std.proofs.Common.{arith}
 use Rattle.network.specs.Packet.{packet_word}
 use Rattle.network.proofs.TorusLaws.{sizes-nodes}
 use Rattle.network.specs.Calls.{offered}

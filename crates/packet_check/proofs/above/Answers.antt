@@ -15,5 +15,4 @@ returns c =
     let a = c.args in
     let e = c.offset_field.ensures in
     let l = field_lt a.i a.p c.requires in
-
     record { small = omega arith; offset = above-is a.i a.p _ e (omega arith) }

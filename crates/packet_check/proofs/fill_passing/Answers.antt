@@ -1,6 +1,5 @@
 -- `packet_check::fill_passing` meets its contract: the goals that the check does not find by itself. Assumes nothing.
-use Rattle.std.proofs.Common.{◌-◌, arith}
-use Rattle.packet_check.specs.Tables.{passing}
+use Rattle.std.proofs.Common.{arith}
 use Rattle.packet_check.proofs.TableLaws.{filled_none, filled_more, filled-all}
 use Rattle.packet_check.proofs.fill_passing.Goals as goal
 

@@ -1,5 +1,5 @@
 -- `packet_check::fill_ring` meets its contract: the goals that the check does not find by itself. Assumes nothing.
-use Rattle.std.proofs.Common.{ap, sym, ℕ, ◌*◌, ◌-◌, ◌<◌, ◌≤◌, arith, mul-le-mul}
+use Rattle.std.proofs.Common.{ap, sym, ℕ, ◌*◌, ◌<◌, ◌≤◌, arith, mul-le-mul}
 use native.Mathlib.Nat.{zero-mod}
 use Rattle.network.specs.Sizes.{largest_ring}
 use Rattle.packet_check.proofs.TableLaws.{filled_none, filled_more, filled-all, carried, on-ring}

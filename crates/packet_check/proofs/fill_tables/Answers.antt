@@ -1,5 +1,5 @@
 -- `packet_check::fill_tables` meets its contract: the goals that the check does not find by itself. Assumes nothing.
-use Rattle.std.proofs.Common.{sym, ◌∙◌, ℕ, ◌-◌, ◌<◌, arith}
+use Rattle.std.proofs.Common.{sym, ◌∙◌, ℕ, ◌<◌, arith}
 use Rattle.base.proofs.Numbers.{weight-most}
 use Rattle.network.specs.Sizes.{shape_of, nodes}
 use Rattle.network.proofs.TorusLaws.{sizes-torus, sizes-nodes, in_range-size, size-pos}

@@ -1,7 +1,6 @@
 -- `packet_check::work_if_fits` meets its contract: the goals that the check does not find by itself. Assumes nothing.
-use Rattle.std.proofs.Common.{◌≡◌, sym, ◌∙◌, true, ◌+◌, ◌-◌, arith, get_or}
+use Rattle.std.proofs.Common.{◌≡◌, sym, ◌∙◌, true, ◌+◌, arith, get_or}
 use Rattle.network.specs.Sizes.{shape_of}
-use Rattle.network.specs.Packet.{distance}
 use Rattle.packet_check.specs.PacketLimits.{spares_clear, below_along}
 use Rattle.packet_check.specs.Tables.{first_distance}
 use Rattle.packet_check.proofs.Judged.{judged-none, More, judged-more, passes-is, distance_read, Short, short, spare-set, limit-reached, led-elsewhere, work-is}

@@ -1,5 +1,5 @@
 -- `queue::chunks_of` meets its contract: the goals that the check does not find by itself. Assumes nothing.
-use Rattle.std.proofs.Common.{◌-◌, zero-add, arith}
+use Rattle.std.proofs.Common.{zero-add, arith}
 use Rattle.queue.proofs.ChunkSums.{chunks-more, chunks-small, chunks-end}
 use Rattle.queue.proofs.chunks_of.Goals as goal
 

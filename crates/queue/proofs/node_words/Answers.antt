@@ -8,12 +8,11 @@ use Rattle.queue.proofs.node_words.Goals.{After-capacity-escape}
 -- the three capacities
 small : (c : After-capacity-escape)
     → (c.capacity-injection.result ≤ largest_capacity) × (c.capacity-adaptive.result ≤ largest_capacity) × (c.capacity-escape.result ≤ largest_capacity)
-small c =
-    (
-      capacity-small c.args.s _ _ c.requires c.capacity-injection.ensures,
-      capacity-small c.args.s _ _ c.requires c.capacity-adaptive.ensures,
-      capacity-small c.args.s _ _ c.requires c.capacity-escape.ensures,
-    )
+small c = (
+  capacity-small c.args.s _ _ c.requires c.capacity-injection.ensures,
+  capacity-small c.args.s _ _ c.requires c.capacity-adaptive.ensures,
+  capacity-small c.args.s _ _ c.requires c.capacity-escape.ensures,
+)
 
 pub overflow_add-result : goal.overflow_add-result
 overflow_add-result c = omega (arith, small (goal.at.overflow_add-result c).After-capacity-escape)

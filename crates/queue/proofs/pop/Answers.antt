@@ -14,7 +14,6 @@ pub remove_at-requires : goal.remove_at-requires
 remove_at-requires c =
     let a = c.args in
     let at = placed c.requires.checked_queue c.queue_start-start.ensures c.queue_end-end.ensures in
-
     record { queue_at = queue-at at; nonzero = some_at at c.requires.nonzero }
 
 pub returns : goal.returns
@@ -22,5 +21,4 @@ unfolding head_leaves
 returns c =
     let a = c.args in
     let at = placed c.requires.checked_queue c.queue_start-start.ensures c.queue_end-end.ensures in
-
     record { words = put-at at (drop 1) c.remove_at.ensures.words; head = head_at at c.remove_at.ensures.head }

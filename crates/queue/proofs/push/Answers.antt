@@ -14,7 +14,6 @@ pub append_at-requires : goal.append_at-requires
 append_at-requires c =
     let a = c.args in
     let at = placed c.requires.checked_queue c.queue_start-start.ensures c.queue_end-end.ensures in
-
     record { queue_at = queue-at at; end_bound = room_at at c.requires.q_len_bound }
 
 pub returns : goal.returns

@@ -74,5 +74,8 @@ pub returns : goal.returns
 unfolding count_of
 returns c =
     let part = c.args.q.now in
-    let i = c.loop-i.i in record { words = ap (λ (l : List ℕ). set (set l (get_or part 0 0) 0) 0 (get_or part 0 0 - 1)) c.loop-i.invariant.0
-          ∙ removed part i c.requires.queue (omega arith); head = oldest part c.requires.q_nonzero }
+    let i = c.loop-i.i in record {
+      words = ap (λ (l : List ℕ). set (set l (get_or part 0 0) 0) 0 (get_or part 0 0 - 1)) c.loop-i.invariant.0
+          ∙ removed part i c.requires.queue (omega arith);
+      head = oldest part c.requires.q_nonzero;
+    }

@@ -6,5 +6,4 @@ use Rattle.queue.proofs.remove_at.Goals as goal
 pub returns : goal.returns
 returns c =
     let a = c.args in
-
     record { words = ap (λ (part : List ℕ). splice a.words.now a.start a.end part) c.remove.ensures.words; head = c.remove.ensures.head }

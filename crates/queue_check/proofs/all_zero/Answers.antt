@@ -25,12 +25,11 @@ returns-then-eight-ne0 c =
     ∙ c.loop-i.invariant.0
 
 pub loop-i-preserved : goal.loop-i-preserved
-loop-i-preserved c =
-    (
-      tells-on _ _ _ _ (eight c.args.part.now c.loop-i.i c.loop-i-test.true) c.if-eight-ne0.false
-          ∙ c.loop-i.invariant.0,
-      omega arith,
-    )
+loop-i-preserved c = (
+  tells-on _ _ _ _ (eight c.args.part.now c.loop-i.i c.loop-i-test.true) c.if-eight-ne0.false
+      ∙ c.loop-i.invariant.0,
+  omega arith,
+)
 
 pub pairs_zero-requires : goal.pairs_zero-requires
 pairs_zero-requires c = c.loop-i.invariant.1

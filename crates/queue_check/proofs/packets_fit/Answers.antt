@@ -64,11 +64,10 @@ loop-i-smaller c = omega arith
 
 pub loop-i-preserved : goal.loop-i-preserved
 unfolding count_of
-loop-i-preserved c =
-    (
-      packets-more (test c.args.s c.args.place c.args.q) c.args.part.now c.requires.2 _ _ c.work_if_fits-left.result c.loop-i.invariant.0 c.loop-i-test.true (passed (goal.at.loop-i-preserved c).Else-left-eq0).0 (passed (goal.at.loop-i-preserved c).Else-left-eq0).1,
-      omega arith,
-    )
+loop-i-preserved c = (
+  packets-more (test c.args.s c.args.place c.args.q) c.args.part.now c.requires.2 _ _ c.work_if_fits-left.result c.loop-i.invariant.0 c.loop-i-test.true (passed (goal.at.loop-i-preserved c).Else-left-eq0).0 (passed (goal.at.loop-i-preserved c).Else-left-eq0).1,
+  omega arith,
+)
 
 pub returns : goal.returns
 unfolding count_of

@@ -1,5 +1,5 @@
 -- `reader::field_end` meets its contract: the goals that the check does not find by itself. Assumes nothing.
-use Rattle.std.proofs.Common.{refl, sym, ◌∙◌, ◌-◌, arith}
+use Rattle.std.proofs.Common.{refl, sym, ◌∙◌, arith}
 use Rattle.reader.proofs.Fields.{end-stop, end-other, end_line}
 use Rattle.reader.proofs.field_end.Goals as goal
 

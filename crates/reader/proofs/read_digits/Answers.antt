@@ -1,5 +1,5 @@
 -- `reader::read_digits` meets its contract: the goals that the check does not find by itself. Assumes nothing.
-use Rattle.std.proofs.Common.{◌-◌, arith}
+use Rattle.std.proofs.Common.{arith}
 use Rattle.reader.proofs.ReadDigits.{none, low, high, large-digit, large-value, next, end}
 use Rattle.reader.proofs.read_digits.Goals as goal
 

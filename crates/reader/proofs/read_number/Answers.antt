@@ -1,5 +1,5 @@
 -- `reader::read_number` meets its contract. Assumes nothing.
-use Rattle.std.proofs.Common.{◌∙◌, ⊎_elim}
+use Rattle.std.proofs.Common.{◌∙◌}
 use Rattle.sheet.proofs.Numerals.{not-leading}
 use Rattle.reader.proofs.ReadDigits.{number-of-digits, no_number, empty, leading, single}
 use Rattle.reader.proofs.read_number.Goals as goal

@@ -1,5 +1,5 @@
 -- `reader::read_numbers` meets its contract: the goals that the check does not find by itself. Assumes nothing.
-use Rattle.std.proofs.Common.{sym, ◌∙◌, ⊎_elim, ◌+◌, ◌-◌, arith}
+use Rattle.std.proofs.Common.{sym, ◌∙◌, ◌+◌, arith}
 use Rattle.sheet.specs.Text.{comma}
 use Rattle.sheet.specs.Commands.{ten, largest_number}
 use Rattle.sheet.proofs.Fields.{end-within}
@@ -25,12 +25,12 @@ returns-in-Nothing c =
 pub loop-at-preserved : goal.loop-at-preserved
 loop-at-preserved c =
     elim c.if-count-lt-MOST_NUMBERS.branch [
-      then-count-lt-MOST_NUMBERS w ↦
-        rw w.values-is
-        (more c.loop-at.invariant c.loop-at-test.true c.field_end-end.result c.field_end-end.ensures c.read_number.result c.read_number.ensures _ c.in-Value.is)
-    | else-count-lt-MOST_NUMBERS w ↦
-        rw w.values-is
-        (left_out c.loop-at.invariant c.loop-at-test.true c.field_end-end.result c.field_end-end.ensures c.read_number.result c.read_number.ensures _ w.if-count-lt-MOST_NUMBERS.false c.in-Value.is)
+      | then-count-lt-MOST_NUMBERS w ↦
+          rw w.values-is
+          (more c.loop-at.invariant c.loop-at-test.true c.field_end-end.result c.field_end-end.ensures c.read_number.result c.read_number.ensures _ c.in-Value.is)
+      | else-count-lt-MOST_NUMBERS w ↦
+          rw w.values-is
+          (left_out c.loop-at.invariant c.loop-at-test.true c.field_end-end.result c.field_end-end.ensures c.read_number.result c.read_number.ensures _ w.if-count-lt-MOST_NUMBERS.false c.in-Value.is)
     ]
 
 pub returns : goal.returns

@@ -21,7 +21,6 @@ mark_head-requires c =
     let p = c.requires.t in
     let d = c.direction_of.result in
     let there = neighbour-node (shape_of c.args.s) d c.args.n c.look_up-there.result (sizes-torus c.args.s p.0) p.1 (omega arith) (there-is (goal.at.mark_head-requires c).After-look_up-there) in
-
     record { set = c.requires.set; t = (p.0, there, p.2) }
 
 pub returns : goal.returns

@@ -14,5 +14,4 @@ both c w w' list page changed' first s e t b h =
 pub returns : goal.returns
 returns c =
     let parts = both _ _ _ _ _ _ _ (shown _ _ _) c.apply-changed.ensures.store c.apply-changed.ensures.changed c.begins_dump-first.ensures c.show.ensures in
-
     record { store = c.apply-changed.ensures.store; shown = parts.0; within = parts.1 }

@@ -14,5 +14,4 @@ returns c =
     let call = c.make.ensures in
     let s = c.sized-s.ensures in
     let w = c.args.store.now in
-
     record { store = call.words ∙ ap (λ (k : Sizes). make_words (shape_of k) w) s; changed = ap (λ k. eqb k 0) (call.answer ∙ ap (λ (k : Sizes). make_refusal (shape_of k) w) s) }

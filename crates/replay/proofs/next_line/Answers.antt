@@ -58,5 +58,4 @@ returns-in-UsedUp c =
     let e = next-none _ _ c.next_command-next.ensures c.in-UsedUp.is in
     let ended = read-ended c.args.piece.now c.args.store.now c.args.line.now c.args.cursor c.requires.moves_value _ _ e in
     let rest = ended.1 c.args.fills.now c.args.page.now in
-
     record { sheet = ended.0; shown = rest.0; fills = λ is. is; onward = rest.1 }

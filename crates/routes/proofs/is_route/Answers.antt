@@ -28,7 +28,7 @@ loop-k-preserved c =
     let k = c.loop-k.k in (
       omega arith,
       (elim c.if-output-o.branch [
-        then-output-o+else-applies w ↦ elem-passed o c.routes-outputs.result k h (sym w.applies.ensures ∙ w.if-applies.false)
+        | then-output-o+else-applies w ↦ elem-passed o c.routes-outputs.result k h (sym w.applies.ensures ∙ w.if-applies.false)
         | else-output-o w ↦ elem-other o c.routes-outputs.result k h w.if-output-o.false
       ])
           ∙ c.loop-k.invariant.1,

@@ -1,5 +1,5 @@
 -- `session::answer_read` meets its contract: the goals that the check does not find by itself. Assumes nothing.
-use Rattle.std.proofs.Common.{◌≡◌, refl, ◌∙◌, List, ℕ, ◌+◌, ◌-◌, ◌≤◌, arith, w64, Fits, length, rules}
+use Rattle.std.proofs.Common.{◌≡◌, refl, ◌∙◌, ◌+◌, ◌-◌, ◌≤◌, arith, length, rules}
 use Rattle.base.proofs.Parts.{length-span, length-splice}
 use Rattle.session.specs.Session.{command_room}
 use Rattle.session.specs.Reads.{sheet}

@@ -1,6 +1,6 @@
 -- `session::answer_read` meets its contract. The loop's invariant: what is printed and what still comes make the answer, and there is room for it. The
 -- measure is the commands that come. Assumes nothing.
-use Rattle.std.proofs.Common.{◌≡◌, ◌-◌, length}
+use Rattle.std.proofs.Common.{◌≡◌, length}
 use Rattle.session.specs.Reads.{sheet, answer_read}
 use Rattle.session.specs.Coming.{coming}
 use Rattle.session.specs.Running.{Answering}

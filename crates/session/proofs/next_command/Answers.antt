@@ -1,5 +1,5 @@
 -- `session::next_command` meets its contract: the goals that the check does not find by itself. Assumes nothing.
-use Rattle.std.proofs.Common.{ap, sym, ◌∙◌, ◌-◌, rules}
+use Rattle.std.proofs.Common.{ap, sym, ◌∙◌, rules}
 use Rattle.session.specs.Coming.{coming_by}
 use Rattle.session.proofs.ComingLaws.{byte_more, byte-line, byte-long, bytes-passed, end-coming}
 use Rattle.session.proofs.RunningLaws.{took-within, finished-within}

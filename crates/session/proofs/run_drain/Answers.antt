@@ -11,7 +11,6 @@ put_drained-requires c =
     let within : drained_delivered c.drain-answer.result ≤ 64
     = rw c.drain-answer.ensures.answer (delivered-within c.args.store.now c.args.budget 64) in
     let room : 1314 ≤ length c.args.out.now = c.requires in
-
     record { answer_in_bounds = rw k within; drain_room_in_bounds = rw k (omega arith) }
 
 pub returns : goal.returns
@@ -19,5 +18,4 @@ unfolding perform
 returns c =
     let line = c.put_drained.ensures in
     let call = c.drain-answer.ensures in
-
     record { store = call.words; printed = rw (sym call.answer, sym call.ledger) line }

@@ -15,5 +15,4 @@ returns c =
     let s = c.sized-s.ensures in
     let a = c.args in
     let told = sym {b = make_refusal (shape_of (sized a.x a.y a.z a.e a.a a.j)) a.store.now} (call.answer ∙ ap (λ (k : Sizes). make_refusal (shape_of k) a.store.now) s) in
-
     record { store = call.words ∙ ap (λ (k : Sizes). make_words (shape_of k) a.store.now) s; printed = rw told line }

@@ -8,5 +8,4 @@ unfolding perform
 returns c =
     let line = c.put_moved.ensures in
     let call = c.move_packet-answer.ensures in
-
     record { store = call.words; printed = rw (sym call.answer) line }

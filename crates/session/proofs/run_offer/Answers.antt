@@ -8,5 +8,4 @@ unfolding perform
 returns c =
     let line = c.put_answer.ensures in
     let call = c.offer-refusal.ensures in
-
     record { store = call.words; printed = rw (sym call.answer) line }

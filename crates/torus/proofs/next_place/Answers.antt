@@ -1,5 +1,5 @@
 -- `torus::next_place` meets its contract: the goals that the check does not find by itself. Assumes nothing.
-use Rattle.std.proofs.Common.{refl, ◌-◌, arith}
+use Rattle.std.proofs.Common.{refl, arith}
 use Rattle.network.specs.Sizes.{shape_of}
 use Rattle.network.proofs.TorusLaws.{in_range-size}
 use Rattle.torus.specs.GeometryLaws.{carry-start, carry-end, carry-more, carry-round}

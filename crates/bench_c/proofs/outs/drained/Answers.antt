@@ -9,5 +9,4 @@ returns c =
     let moves = c.drained_moves-moves.ensures in
     let delivered = c.drained_delivered-delivered.ensures in
     let why = c.stop_number-why.ensures in
-
     record { answer = c.drained_number.ensures; out = rw (← moves, ← delivered, ← why) refl }
