@@ -2,16 +2,17 @@
 // the replay does and shows is proved in the crate `replay`; here is read, handed over and written, and nothing else.
 #![tactic(auto)]
 
-ghost use Rattle.std.specs.Prelude.{◌≡◌, true, ◌≤◌, length};
+ghost use Rattle.std.specs.Prelude.{◌≡◌, true, ◌≤◌, length, take};
+ghost use Rattle.std.specs.Io.KnownBytes.{Appends};
 ghost use Rattle.session.specs.Session.{store_words};
 ghost use Rattle.session.specs.Reads.{sheet, sheet_after, KeepsReached};
 ghost use Rattle.replay.specs.Replay.{FillsOf};
 ghost use Rattle.replay.specs.Whole.{Roomy};
 
-use libc::{STDERR_FILENO, STDIN_FILENO, STDOUT_FILENO};
 use lines::HELD_BYTES;
 use replay::NextStep;
 use session::STORE_WORDS;
+use std::io::{Read, Write};
 
 // The bytes of a read at most.
 const PIECE: usize = 1024;
@@ -29,34 +30,31 @@ struct AfterRead {
     more: bool,
 }
 
-// Says on standard error that input or output is lost. A program has no exit status: ./wave makes one of whether anything was said.
-fn tell_unread() {
-    io::write_all(
-        STDERR_FILENO,
-        b"wave: the input could not be read: the sheet may go on\n",
-    );
+// Says on standard error that input or output is lost. The program's own status stays 0: ./wave makes one of whether anything was said.
+fn tell_unread(rt: &impl Eprint) {
+    let _ = rt.eprintln("wave: the input could not be read: the sheet may go on");
 }
 
-fn tell_unwritten() {
-    io::write_all(
-        STDERR_FILENO,
-        b"wave: the output could not be written: steps are lost\n",
-    );
+fn tell_unwritten(rt: &impl Eprint) {
+    let _ = rt.eprintln("wave: the output could not be written: steps are lost");
 }
 
 // Writes the first bytes, and says whether it could.
-fn write_first(page: &[u8], bytes: usize) -> bool
+fn write_first<W: Write>(rt: &impl Eprint, output: &mut W, page: &[u8], bytes: usize) -> bool
     requires { bytes ≤ length page.now }
+    ensures { result ≡ true → Appends (W.contents output.old) (W.contents output.new) (take bytes page.now) }
 {
-    let written = io::write_all(STDOUT_FILENO, &page[..bytes]);
+    let written = output.write_all(&page[..bytes]).is_ok() && output.flush().is_ok();
     if !written {
-        tell_unwritten();
+        tell_unwritten(rt);
     }
     written
 }
 
 // The steps of a read, of some bytes or, at the end of the input, of none, each written before the next is made, as long as that can be done.
-fn write_steps(
+fn write_steps<W: Write>(
+    rt: &impl Eprint,
+    output: &mut W,
     store: &mut [u64; STORE_WORDS],
     line: &mut [u8; HELD_BYTES],
     pending: usize,
@@ -76,7 +74,7 @@ fn write_steps(
                 bytes,
                 cursor: behind,
             } => {
-                if !write_first(page, bytes) {
+                if !write_first(rt, output, page, bytes) {
                     return AfterRead {
                         pending: 0,
                         more: false,
@@ -95,8 +93,11 @@ fn write_steps(
 }
 
 // One read and what it shows. A read of no bytes is handed over too: it is the end of the input. After a read or a write that failed nothing
-// more is done. What was read no contract says, but whatever it was, the sheet is one that the bench's reads lead to.
-fn read_once(
+// more is done. What standard input gives no contract says, but whatever it was, the sheet is one that the bench's reads lead to.
+fn read_once<R: Read, W: Write>(
+    rt: &impl Eprint,
+    input: &mut R,
+    output: &mut W,
     store: &mut [u64; STORE_WORDS],
     line: &mut [u8; HELD_BYTES],
     pending: usize,
@@ -107,24 +108,28 @@ fn read_once(
     ensures fills { FillsOf store.old fills.old → FillsOf store.new fills.new }
 {
     let mut piece = [0u8; PIECE];
-    let got = libc::read(STDIN_FILENO, &mut piece);
-    if got < 0 {
-        tell_unread();
-        return AfterRead {
-            pending: pending,
-            more: false,
-        };
-    }
-    let n = io::count(got, &piece);
-    let after = write_steps(store, line, pending, &piece[..n], fills, page);
-    AfterRead {
-        pending: after.pending,
-        more: after.more && got > 0,
+    match input.read(&mut piece) {
+        Ok(n) => {
+            let after = write_steps(rt, output, store, line, pending, &piece[..n], fills, page);
+            AfterRead {
+                pending: after.pending,
+                more: after.more && n > 0,
+            }
+        }
+        Err(_) => {
+            tell_unread(rt);
+            AfterRead {
+                pending: pending,
+                more: false,
+            }
+        }
     }
 }
 
 // Every read. A proved loop has to end, and nothing says that the input does: it counts its turns down from a number that no run uses up.
-fn main() {
+fn main(rt: HostRuntime) {
+    let mut input = rt.stdin();
+    let mut output = rt.stdout();
     let mut store = [0u64; STORE_WORDS];
     let mut line = [0u8; HELD_BYTES];
     let mut fills = [0u8; STORE_VARIABLES];
@@ -133,7 +138,16 @@ fn main() {
     let mut more = true;
     let mut turns = u64::MAX;
     while turns > 0 && more {
-        let after = read_once(&mut store, &mut line, pending, &mut fills, &mut page);
+        let after = read_once(
+            &rt,
+            &mut input,
+            &mut output,
+            &mut store,
+            &mut line,
+            pending,
+            &mut fills,
+            &mut page,
+        );
         pending = after.pending;
         more = after.more;
         turns -= 1;
