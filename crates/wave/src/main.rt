@@ -8,6 +8,8 @@ ghost use Rattle.session.specs.Session.{store_words};
 ghost use Rattle.session.specs.Reads.{sheet, sheet_after, KeepsReached};
 ghost use Rattle.replay.specs.Replay.{FillsOf};
 ghost use Rattle.replay.specs.Whole.{Roomy};
+ghost use Rattle.replay.specs.Dumps.{read_dump};
+ghost use Rattle.wave.specs.Streams.{ReadReplayed};
 
 use lines::HELD_BYTES;
 use replay::NextStep;
@@ -51,7 +53,8 @@ fn write_first<W: Write>(rt: &impl Eprint, output: &mut W, page: &[u8], bytes: u
     written
 }
 
-// The steps of a read, of some bytes or, at the end of the input, of none, each written before the next is made, as long as that can be done.
+// The steps of a read, of some bytes or, at the end of the input, of none, each written before the next is made, as long as that can be done. Where
+// the bytes of the output are known, what the read is to write has come to them.
 fn write_steps<W: Write>(
     rt: &impl Eprint,
     output: &mut W,
@@ -65,6 +68,8 @@ fn write_steps<W: Write>(
     requires { Roomy store_words fills.old page.old }
     ensures sheet { result.more ≡ true → sheet store.new line.new result.pending ≡ sheet_after (sheet store.old line.old pending) piece.now }
     ensures fills { FillsOf store.old fills.old → FillsOf store.new fills.new }
+    ensures written { result.more ≡ true → FillsOf store.old fills.old
+        → Appends (W.contents output.old) (W.contents output.new) (read_dump (sheet store.old line.old pending) piece.now) }
 {
     let mut cursor = replay::start_read(pending);
     loop {
@@ -93,7 +98,8 @@ fn write_steps<W: Write>(
 }
 
 // One read and what it shows. A read of no bytes is handed over too: it is the end of the input. After a read or a write that failed nothing
-// more is done. What standard input gives no contract says, but whatever it was, the sheet is one that the bench's reads lead to.
+// more is done. What standard input gives no contract says, but whatever it was, the sheet is one that the bench's reads lead to; and
+// where the bytes of the input and the output are known, what was read is gone from the one, and its steps have come to the other.
 fn read_once<R: Read, W: Write>(
     rt: &impl Eprint,
     input: &mut R,
@@ -106,6 +112,9 @@ fn read_once<R: Read, W: Write>(
 ) -> AfterRead
     ensures sheet { result.more ≡ true → KeepsReached (sheet store.old line.old pending) (sheet store.new line.new result.pending) }
     ensures fills { FillsOf store.old fills.old → FillsOf store.new fills.new }
+    ensures replayed { result.more ≡ true → FillsOf store.old fills.old
+        → ReadReplayed (R.remaining input.old) (R.remaining input.new) (W.contents output.old) (W.contents output.new)
+        (sheet store.old line.old pending) (sheet store.new line.new result.pending) }
 {
     let mut piece = [0u8; PIECE];
     match input.read(&mut piece) {

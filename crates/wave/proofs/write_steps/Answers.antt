@@ -1,16 +1,22 @@
 -- `wave::write_steps` meets its contract: each step leaves less to do and leads on, and its bytes lie within the page. Assumes nothing.
-use Rattle.std.proofs.Common.{arith, refl, ap, sym, ◌∙◌}
-use Rattle.replay.specs.Steps.{finished}
+use Rattle.std.proofs.Common.{arith, refl, ap, sym, ◌∙◌, subst, [], ◌++◌, take, append_assoc, append-nil}
+use Rattle.std.specs.Io.KnownBytes.{Appends}
+use Rattle.std.proofs.KnownBytes.{Appends-nil, Appends-trans}
+use Rattle.replay.specs.Steps.{finished, unwritten}
+use Rattle.replay.specs.Dumps.{read_dump}
 use Rattle.replay.proofs.StepsLaws.{start-finished, done-leads, done_on, used-leads}
+use Rattle.wave.proofs.Written.{shown_on, shown_up}
 use Rattle.wave.proofs.write_steps.Goals as goal
 
 pub loop-bytes-init : goal.loop-bytes-init
+unfolding read_dump
 loop-bytes-init g c =
     record {
       fills = refl;
       page = refl;
       leads = ap (finished _ _ _) c.start_read-cursor.ensures ∙ start-finished _ _ _ _;
       kept = λ is. is;
+      written = λ is. ([], Appends-nil _, ap (unwritten _ _ _) (sym c.start_read-cursor.ensures));
     }
 
 pub write_first-requires : goal.write_first-requires
@@ -30,8 +36,22 @@ loop-bytes-preserved g c =
       page = omega arith;
       leads = sym (done-leads _ _ _ _ _ _ _ _ _ step.sheet c.in-Done.is) ∙ inv.leads;
       kept = λ is. step.fills (inv.kept is);
+      written = λ is.
+          let (bytes, added, left) = inv.written is in
+          let told = c.write_first.ensures c.if-not-write_first.false in (
+            bytes ++ take c.in-Done.bytes c.next_step-next.new.page,
+            Appends-trans _ _ _ _ _ added told,
+            left ∙ ap (λ rest. bytes ++ rest) (shown_on _ _ _ _ _ _ _ _ _ _ _ step.shown c.in-Done.is (inv.kept is)) ∙ sym (append_assoc bytes _ _),
+          );
     }
 
 pub returns-in-UsedUp-clause-sheet : goal.returns-in-UsedUp-clause-sheet
 returns-in-UsedUp-clause-sheet g c =
     λ more. sym (used-leads _ _ _ _ _ _ _ _ c.next_step-next.ensures.sheet c.in-UsedUp.is) ∙ c.loop-bytes.invariant.leads
+
+pub returns-in-UsedUp-clause-written : goal.returns-in-UsedUp-clause-written
+returns-in-UsedUp-clause-written g c = λ more is.
+    let inv = c.loop-bytes.invariant in
+    let (bytes, added, left) = inv.written is in
+    let none = shown_up _ _ _ _ _ _ _ _ _ _ c.next_step-next.ensures.shown c.in-UsedUp.is (inv.kept is) in
+    subst (Appends _ _) (sym (left ∙ ap (λ rest. bytes ++ rest) none ∙ append-nil bytes)) added
