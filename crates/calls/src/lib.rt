@@ -132,7 +132,7 @@ pub fn look(words: &[u64], node: u64, queue: u64) -> &[u64]
 // The words from one index up to another, where they stand.
 fn between(words: &[u64], from: usize, to: usize) -> &[u64]
     requires { (from ≤ to) × (to ≤ length words.now) }
-    ensures place { result.ref_ptr ≡ word_at words.entry.ptr from }
+    ensures place { result.ref_ptr ≡ word_at words.entry.ref_ptr from }
     ensures part { result.now ≡ take (to - from) (drop from words.now) }
 {
     &words[from..to]

@@ -10,7 +10,7 @@ use native.Mathlib.Nat.{suc-mul, zero-mul, pos_of_ne-zero}
 use native.Mathlib.Numerals.{add-one}
 use native.Mathlib.Omega.{arith}
 use borrow.Author.Tests.{eq-eqb, ne_eqb}
-use lib.Dec.{T, eqb}
+use lib.Dec.{T}
 use lib.ListN.{length, get_or, drop}
 use Rattle.base.specs.Sums.{sum_below}
 use Rattle.base.specs.Tests.{elem}

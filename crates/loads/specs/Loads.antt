@@ -6,7 +6,7 @@ use Rattle.std.proofs.Common.{sym, ◌∙◌, length-set, get_or-set_same, get_o
 use Prim.Native.Nat.{ℕ, ◌+◌, ◌*◌, ◌-◌, ◌/◌, ◌%◌, ◌^◌, ◌<◌, ◌≤◌}
 use native.Mathlib.Omega.{arith}
 use Rattle.std.proofs.Math.ListN.{length, get_or}
-use Rattle.network.specs.Sizes.{Shape, nodes, queues, directions, dimension_of, direction_of, adaptive_queue, is_adaptive, capacity, largest_capacity}
+use Rattle.network.specs.Sizes.{Shape, nodes, queues, directions, dimension_of, direction_of, adaptive_queue, is_adaptive, largest_capacity}
 use Rattle.network.proofs.SizesLaws.{adaptive-of, adaptive-chunks, range-of, capacity-most}
 use Rattle.network.specs.TorusLaws.{Torus}
 use Rattle.network.specs.Packet.{chunks}

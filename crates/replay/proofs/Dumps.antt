@@ -11,7 +11,7 @@ use Rattle.sheet.specs.Cutting.{held_bytes, Cutting, handed_on, finished_answer,
 use Rattle.sheet.proofs.Cuts.{commands-right}
 use Rattle.session.specs.Session.{perform, perform_all, ledger_words, new_store}
 use Rattle.session.specs.Reads.{Sheet, start_sheet, cutter, carry_out, end_cutting, answer_read, NoneEmpty}
-use Rattle.session.proofs.Reads.{cutter-behind, reads-behind}
+use Rattle.session.proofs.ReadLaws.{cutter-behind, reads-behind}
 use Rattle.session.specs.Coming.{brought, cursor_at, coming}
 use Rattle.replay.specs.Replay.{carried_out, moves_asked, command_bytes, moves_bytes, dump_all, sheet_dump}
 use Rattle.replay.proofs.StepsLaws.{start-unwritten}

@@ -1,5 +1,5 @@
 -- Proofs of the session.
-pub mod Reads
+pub mod ReadLaws
 pub mod Listing
 pub mod ComingLaws
 pub mod RunningLaws

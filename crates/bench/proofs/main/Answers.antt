@@ -1,5 +1,5 @@
 -- `bench::main` is safe and ends: the sheet is at its start, and each read leads on. Assumes nothing.
-use Rattle.session.proofs.Reads.{reached-start}
+use Rattle.session.proofs.ReadLaws.{reached-start}
 use Rattle.bench.proofs.main.Goals as goal
 
 pub loop-turns-init : goal.loop-turns-init

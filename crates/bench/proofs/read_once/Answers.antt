@@ -1,7 +1,7 @@
 -- `bench::read_once` meets its contract: it leaves the sheet as the read did, or as it was; and what a read prints is written. Assumes nothing.
 use borrow.Author.Tests.{ltb-true}
 use Rattle.std.proofs.Common.{arith, ap, length, take}
-use Rattle.session.proofs.Reads.{reached-more}
+use Rattle.session.proofs.ReadLaws.{reached-more}
 use Rattle.bench.proofs.read_once.Goals as goal
 
 pub returns-then-written : goal.returns-then-written

@@ -1,5 +1,5 @@
 -- `loads::fill` meets its contract: the goals that the check does not find by itself. Assumes nothing.
-use Rattle.std.proofs.Common.{◌≡◌, refl, ap, subst, ◌∙◌, ℕ, ◌*◌, ◌-◌, ◌/◌, ◌%◌, ◌<◌, arith, length-set}
+use Rattle.std.proofs.Common.{◌≡◌, refl, ap, subst, ◌∙◌, ℕ, ◌*◌, ◌/◌, ◌%◌, ◌<◌, arith, length-set}
 use Rattle.network.specs.Sizes.{shape_of, directions, nodes, most_nodes, adaptive_queue}
 use Rattle.network.proofs.TorusLaws.{sizes-nodes}
 use Rattle.near.specs.Table.{TableTo, table_none, table_more}
@@ -13,7 +13,7 @@ all-entries c = ap (λ (k : ℕ). directions * k) c.nodes-entries.ensures
 
 -- entry i is of a node
 entry-node : (c : In-loop-i) → c.loop-i.i < directions * nodes (shape_of c.args.s)
-entry-node c = omega (arith, all-entries c.before.before, c.loop-i-test.true)
+entry-node c = omega (arith, ap (λ (k : ℕ). directions * k) c.nodes-entries.ensures, c.loop-i-test.true)
 
 few : (c : In-loop-i) → c.loop-i.i < directions * most_nodes
 few c = let m = sizes-nodes c.args.s c.requires.network.in-range in let h = entry-node c in omega arith

@@ -30,14 +30,13 @@ overflow_cast-chunks c = omega (arith, few (goal.at.overflow_cast-chunks c).Afte
 pub change-requires : goal.change-requires
 change-requires c adaptive =
     let a = c.args in
-    let pre = c.requires.permitted in
     let S = shape_of a.s in
     let w = a.words.now in
-    let h = pre.0.node in
-    let enough = source-enough S w a.loads.now a.n a.q a.o c.chunks-chunks.result a.there (torus (goal.at.change-requires c).After-chunks-chunks) c.requires.network pre.0 pre.1.1 (few (goal.at.change-requires c).After-chunks-chunks) pre.1.0 adaptive in
-    let small = source-small S w a.loads.now a.n a.q a.o c.chunks-chunks.result a.there (torus (goal.at.change-requires c).After-chunks-chunks) c.requires.network pre.0 pre.1.1 (few (goal.at.change-requires c).After-chunks-chunks) pre.1.0 adaptive in (
+    let h = c.requires.permitted.node in
+    let enough = source-enough S w a.loads.now a.n a.q a.o c.chunks-chunks.result a.there (torus (goal.at.change-requires c).After-chunks-chunks) c.requires.network c.requires.permitted c.requires.loads (few (goal.at.change-requires c).After-chunks-chunks) c.requires.there_value adaptive in
+    let small = source-small S w a.loads.now a.n a.q a.o c.chunks-chunks.result a.there (torus (goal.at.change-requires c).After-chunks-chunks) c.requires.network c.requires.permitted c.requires.loads (few (goal.at.change-requires c).After-chunks-chunks) c.requires.there_value adaptive in (
       omega (arith, h, sizes-nodes a.s c.requires.network.in-range),
-      load-within S w a.loads.now a.n a.q pre.1.1 h adaptive,
+      load-within S w a.loads.now a.n a.q c.requires.loads h adaptive,
       enough,
       omega (arith, small),
     )
@@ -54,24 +53,22 @@ lost l = l.change.ensures ∙ ap (λ (x : ℕ). with_load l.args.n l.args.q x l.
 pub change-requires-2 : goal.change-requires-2
 change-requires-2 c adaptive =
     let a = c.args in
-    let pre = c.requires.permitted in
     let S = shape_of a.s in
     let w = a.words.now in
-    let h = there-node S w a.loads.now a.n a.q a.o c.chunks-chunks.result a.there (torus (goal.at.change-requires-2 c).After-chunks-chunks) c.requires.network pre.0 pre.1.1 (few (goal.at.change-requires-2 c).After-chunks-chunks) pre.1.0 adaptive in
-    let within = there-within S w a.loads.now a.n a.q a.o c.chunks-chunks.result a.there (torus (goal.at.change-requires-2 c).After-chunks-chunks) c.requires.network pre.0 pre.1.1 (few (goal.at.change-requires-2 c).After-chunks-chunks) pre.1.0 (mid (goal.at.change-requires-2 c).After-change) (lost (goal.at.change-requires-2 c).After-change) adaptive in
-    let small = there-small S w a.loads.now a.n a.q a.o c.chunks-chunks.result a.there (torus (goal.at.change-requires-2 c).After-chunks-chunks) c.requires.network pre.0 pre.1.1 (few (goal.at.change-requires-2 c).After-chunks-chunks) pre.1.0 (mid (goal.at.change-requires-2 c).After-change) (lost (goal.at.change-requires-2 c).After-change) adaptive in
+    let h = there-node S w a.loads.now a.n a.q a.o c.chunks-chunks.result a.there (torus (goal.at.change-requires-2 c).After-chunks-chunks) c.requires.network c.requires.permitted c.requires.loads (few (goal.at.change-requires-2 c).After-chunks-chunks) c.requires.there_value adaptive in
+    let within = there-within S w a.loads.now a.n a.q a.o c.chunks-chunks.result a.there (torus (goal.at.change-requires-2 c).After-chunks-chunks) c.requires.network c.requires.permitted c.requires.loads (few (goal.at.change-requires-2 c).After-chunks-chunks) c.requires.there_value (mid (goal.at.change-requires-2 c).After-change) (lost (goal.at.change-requires-2 c).After-change) adaptive in
+    let small = there-small S w a.loads.now a.n a.q a.o c.chunks-chunks.result a.there (torus (goal.at.change-requires-2 c).After-chunks-chunks) c.requires.network c.requires.permitted c.requires.loads (few (goal.at.change-requires-2 c).After-chunks-chunks) c.requires.there_value (mid (goal.at.change-requires-2 c).After-change) (lost (goal.at.change-requires-2 c).After-change) adaptive in
     (omega (arith, h, sizes-nodes a.s c.requires.network.in-range), within, omega arith, omega (arith, small))
 
 gained : (r : After-change-2) → r.change-2.new.loads
     ≡ with_load r.args.there r.args.o
-    (get_or (mid r.before.before.before.before) (entry_of r.args.there r.args.o) 0 + r.chunks-chunks.result) (mid r.before.before.before.before)
+    (get_or r.change.new.loads (entry_of r.args.there r.args.o) 0 + r.chunks-chunks.result) r.change.new.loads
 gained r =
     r.change-2.ensures
-    ∙ ap (λ (x : ℕ). with_load r.args.there r.args.o x (mid r.before.before.before.before)) (omega arith)
+    ∙ ap (λ (x : ℕ). with_load r.args.there r.args.o x r.change.new.loads) (omega arith)
 
 pub returns : goal.returns
 returns c =
     let a = c.args in
-    let pre = c.requires.permitted in
-    loads-after (shape_of a.s) a.words.now a.loads.now a.n a.q a.o c.chunks-chunks.result a.there (torus (goal.at.returns c).After-chunks-chunks) c.requires.network pre.0 pre.1.1
-    (few (goal.at.returns c).After-chunks-chunks) pre.1.0 (mid (goal.at.returns c).After-change) (lost (goal.at.returns c).After-change) c.change-2.new.loads (gained (goal.at.returns c).After-change-2)
+    loads-after (shape_of a.s) a.words.now a.loads.now a.n a.q a.o c.chunks-chunks.result a.there (torus (goal.at.returns c).After-chunks-chunks) c.requires.network c.requires.permitted c.requires.loads
+    (few (goal.at.returns c).After-chunks-chunks) c.requires.there_value (mid (goal.at.returns c).After-change) (lost (goal.at.returns c).After-change) c.change-2.new.loads (gained (goal.at.returns c).After-change-2)

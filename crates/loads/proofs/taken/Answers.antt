@@ -25,14 +25,14 @@ entry-at-requires c =
 -- the entry is in the table
 within : (c : After-entry-at) → c.entry-at.result < length c.args.loads.now
 within c =
-    let l = load-within (shape_of c.args.s) c.args.words.now c.args.loads.now c.args.n c.args.q c.requires.loads c.requires.queue_of.node (adaptive c.before) in
+    let l = load-within (shape_of c.args.s) c.args.words.now c.args.loads.now c.args.n c.args.q c.requires.loads c.requires.queue_of.node (sym c.is_adaptive.ensures ∙ c.if-not-is_adaptive.false) in
     omega (arith, c.entry-at.ensures, l)
 
 pub bounds-loads-at : goal.bounds-loads-at
 bounds-loads-at c = within (goal.at.bounds-loads-at c).After-entry-at
 
 pub overflow_cast-result : goal.overflow_cast-result
-overflow_cast-result c = omega (arith, c.shared_slice_known-3-1.given c.entry-at.result)
+overflow_cast-result c = omega (arith, c.type_inv.loads c.entry-at.result)
 
 pub returns : goal.returns
 returns c =

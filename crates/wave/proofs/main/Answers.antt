@@ -1,6 +1,6 @@
 -- `wave::main` is safe and ends: the sheet is at its start, and each read leads on. Assumes nothing.
 use Rattle.std.proofs.Common.{[]}
-use Rattle.session.proofs.Reads.{reached-start}
+use Rattle.session.proofs.ReadLaws.{reached-start}
 use Rattle.replay.proofs.FillsLaws.{fills-start}
 use Rattle.wave.proofs.main.Goals as goal
 

@@ -1,5 +1,5 @@
 -- `wave::read_once` meets its contract: it leaves the sheet as the read did, or does not go on. Assumes nothing.
-use Rattle.session.proofs.Reads.{reached-more}
+use Rattle.session.proofs.ReadLaws.{reached-more}
 use Rattle.wave.proofs.read_once.Goals as goal
 
 pub returns-then-after-clause-sheet : goal.returns-then-after-clause-sheet

@@ -1,0 +1,74 @@
+-- `turns::take_turn` meets its contract. Assumes nothing.
+use Rattle.std.proofs.Common.{◌≡◌, sym, ◌∙◌, arith}
+use Rattle.network.specs.Sizes.{shape_of}
+use Rattle.network.specs.Layout.{accepted, delivered}
+use Rattle.network.specs.declared.Found.{Found}
+use Rattle.network.specs.declared.Stop.{Stop}
+use Rattle.turns.specs.declared.Turn.{Turn}
+use Rattle.turns.specs.Turns.{turn_by, first-permitted}
+use Rattle.network.proofs.LayoutLaws.{header-long}
+use Rattle.turns.specs.Turned.{Turned, turned-emptied, turned-spent, turned-nowhere, turned_by, by-nothing, by-refused}
+use Rattle.turns.proofs.take_turn.Goals as goal
+use Rattle.turns.proofs.take_turn.Goals.{After-next_move-found}
+
+pub bounds-words-6 : goal.bounds-words-6
+bounds-words-6 c =
+    let h = header-long (shape_of c.args.s) c.args.words.now c.requires.network.long in
+    omega arith
+
+pub bounds-words-7 : goal.bounds-words-7
+bounds-words-7 c =
+    let h = header-long (shape_of c.args.s) c.args.words.now c.requires.network.long in
+    omega arith
+
+pub returns-then-words : goal.returns-then-words
+unfolding accepted delivered
+returns-then-words c =
+    let all =
+    turned-emptied (shape_of c.args.s) c.args.words.now c.args.ready.now c.args.loads.now c.requires.network c.requires.kept_2 c.args.budget c.args.room c.if-words.true in
+    record { answer = all.0; words = all.1.0; kept = all.1.1 }
+
+pub returns-then-budget-eq0 : goal.returns-then-budget-eq0
+unfolding accepted delivered
+returns-then-budget-eq0 c =
+    let all =
+    turned-spent (shape_of c.args.s) c.args.words.now c.args.ready.now c.args.loads.now c.requires.network c.requires.kept_2 c.args.budget c.args.room c.if-words.false c.if-budget-eq0.true in
+    record { answer = all.0; words = all.1.0; kept = all.1.1 }
+
+-- the search named no move
+nowhere : (c : After-next_move-found)
+    → turn_by (shape_of c.args.s) c.args.words.now c.args.room c.next_move-found.result ≡ Turn.Stopped Stop.Emptied
+    → Turned (shape_of c.args.s) c.args.words.now c.args.budget c.args.room (Turn.Stopped Stop.Emptied) c.args.words.now
+    c.next_move-found.new.ready c.args.loads.now
+unfolding accepted delivered
+nowhere c e =
+    turned-nowhere (shape_of c.args.s) c.args.words.now c.args.ready.now c.args.loads.now c.requires.network c.requires.kept_2 c.args.budget c.args.room c.next_move-found.result c.next_move-found.new.ready
+    c.if-words.false c.if-budget-eq0.false c.next_move-found.ensures.answer e c.next_move-found.ensures.set
+
+pub turn_by_move-requires : goal.turn_by_move-requires
+turn_by_move-requires c = record { network = c.requires.network; near = c.requires.near; kept_2 = record { covered = c.next_move-found.ensures.set; loaded = c.requires.kept_2.loaded }; permitted = first-permitted (shape_of c.args.s) c.args.words.now c.in-Move.node c.in-Move.queue c.in-Move.output (sym c.in-Move.is ∙ c.next_move-found.ensures.answer) }
+
+pub returns-in-Refused : goal.returns-in-Refused
+returns-in-Refused c =
+    let a = c.args in
+    let all =
+    nowhere (goal.at.returns-in-Refused c).After-next_move-found (by-refused (shape_of a.s) a.words.now a.room _ c.next_move-found.result c.in-Refused.is) in
+    record { answer = all.0; words = all.1.0; kept = all.1.1 }
+
+pub returns-in-Nothing : goal.returns-in-Nothing
+returns-in-Nothing c =
+    let a = c.args in
+    let all =
+    nowhere (goal.at.returns-in-Nothing c).After-next_move-found (by-nothing (shape_of a.s) a.words.now a.room c.next_move-found.result c.in-Nothing.is) in
+    record { answer = all.0; words = all.1.0; kept = all.1.1 }
+
+pub returns-in-Move : goal.returns-in-Move
+unfolding accepted delivered
+returns-in-Move c =
+    let all =
+    turned_by (shape_of c.args.s) c.args.words.now c.args.ready.now c.args.loads.now c.requires.network c.requires.kept_2 c.args.budget c.args.room
+    (Found.Move c.in-Move.node c.in-Move.queue c.in-Move.output) c.turn_by_move.result c.turn_by_move.new.words c.turn_by_move.new.ready
+    c.turn_by_move.new.loads
+    c.if-words.false c.if-budget-eq0.false (sym c.in-Move.is ∙ c.next_move-found.ensures.answer)
+    (c.turn_by_move.ensures.answer, (c.turn_by_move.ensures.words, c.turn_by_move.ensures.kept)) in
+    record { answer = all.0; words = all.1.0; kept = all.1.1 }
