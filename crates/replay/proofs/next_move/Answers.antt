@@ -1,10 +1,5 @@
 -- `replay::next_move` meets its contract, by whether a move was made. Assumes nothing.
-use mathlib.Core.Path.{◌≡◌, refl, sym, ◌∙◌}
-use mathlib.Core.Bool.{Bool, true, false, true≢false, not}
-use mathlib.Core.List.{List}
-use Prim.Native.Nat.{ℕ, ◌<◌, ◌≤◌}
-use native.Mathlib.Omega.{arith}
-use lib.ListN.{length}
+use Rattle.std.proofs.Common.{◌≡◌, refl, sym, ◌∙◌, Bool, true, false, true≢false, not, List, ℕ, ◌<◌, ◌≤◌, arith, length, rules}
 use Rattle.session.specs.Session.{store_words}
 use Rattle.replay.specs.declared.ReplayCursor.{ReplayCursor}
 use Rattle.replay.specs.declared.NextStep.{NextStep}
@@ -14,9 +9,8 @@ use Rattle.replay.proofs.FillsLaws.{move-tells}
 use Rattle.replay.specs.Steps.{finished, finished_by, Shows, GoesOn}
 use Rattle.replay.specs.StepsLaws.{replay_at, Onward}
 use Rattle.replay.proofs.StepsLaws.{move-made, move-ended, onward-leads, onward-shows, move-fewer}
-use borrow.Author.Rules.{rules}
-use Rattle.replay.proofs.next_move.Statement.{statement}
-use Rattle.replay.proofs.next_move.Tie as tie
+use Rattle.replay.proofs.next_move.Goals as goal
+use Rattle.replay.proofs.next_move.Goals.{After-drain_move-step}
 
 -- a move made or none: what it tells, whatever the read brings behind it
 told : (w v list list' page page' : List ℕ) (c : ReplayCursor) (bytes moves room : ℕ)
@@ -43,45 +37,22 @@ one-made : (moved : Bool) → not moved ≡ false → moved ≡ true
 one-made true e = refl
 one-made false e = absurd (true≢false e)
 
-abbrev ran : tie.After-struct-known → tie.After-drain-move
-ran c = c.before.before.before.before.before
+few : (c : After-drain_move-step) → length c.args.store.now ≤ store_words
+few c = search rules
 
-abbrev entry : tie.After-drain-move → tie.Start
-entry c = c.before.before.before.before.before.before.before
+pub returns-then-not-step : goal.returns-then-not-step
+returns-then-not-step c =
+    let move = c.drain_move-step.ensures in
+    let all =
+    told _ _ _ _ _ _ _ _ 0 0 (λ piece line. move-ended piece _ line _ c.requires.moves_nonzero _ move.store (sym move.moved ∙ none_made _ c.if-not-step.true)) c.requires.roomy (few (goal.at.returns-then-not-step c).After-drain_move-step) move.store
+    move.shown c.requires.moves_nonzero move.within in
+    record { sheet = all.0; shown = all.1.0; fills = all.1.1.0; onward = all.1.1.1 }
 
-few : (c : tie.After-drain-move) → length (entry c).args.store.now ≤ store_words
-few c = by c.before.before.before
-  where
-    by : (c : tie.After-drain-move-arg) → length c.before.before.before.before.args.store.now ≤ store_words
-    by c = search rules
-
-returns : tie.Need-returns
+pub returns : goal.returns
 returns c =
-    let run = ran c.before in
-    let move = run.drain-move.ensures in
-    let a = entry run in
-    told _ _ _ _ _ _ _ _ 0 0 (λ piece line. move-ended piece _ line _ a.pre.0 _ move.0 (sym move.1.0 ∙ none_made _ c.if1.true)) a.pre.1 (few run) move.0
-    move.1.1.1.0 a.pre.0 move.1.1.1.1
-
-returns-2 : tie.Need-returns-2
-returns-2 c =
-    let when = c.before in
-    let run = ran when.before in
-    let move = run.drain-move.ensures in
-    let a = entry run in
-    let some = a.pre.0 in
-    told _ _ _ _ _ _ _ _ _ _ (λ piece line. move-made piece _ line _ some _ move.0 _ (sym move.1.0 ∙ one-made _ when.if1.false) move.1.1.0) a.pre.1 (few run) move.0
-    move.1.1.1.0 (omega arith) move.1.1.1.1
-
-pub next-move-spec : {M : Type 1} → statement M
-next-move-spec =
-    tie.close
-    (tie.spec
-    (λ c κs. search rules)
-    (λ c. search rules)
-    (λ c. search rules)
-    returns
-    (λ c. search rules)
-    (λ c. search rules)
-    (λ c. search rules)
-    returns-2)
+    let move = c.drain_move-step.ensures in
+    let some = c.requires.moves_nonzero in
+    let all =
+    told _ _ _ _ _ _ _ _ _ _ (λ piece line. move-made piece _ line _ some _ move.store _ (sym move.moved ∙ one-made _ c.if-not-step.false) move.room) c.requires.roomy (few (goal.at.returns c).After-drain_move-step) move.store
+    move.shown (omega arith) move.within in
+    record { sheet = all.0; shown = all.1.0; fills = all.1.1.0; onward = all.1.1.1 }

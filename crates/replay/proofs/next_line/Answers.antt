@@ -1,8 +1,5 @@
 -- `replay::next_line` meets its contract, by whether a command comes. Assumes nothing.
-use mathlib.Core.Path.{◌≡◌}
-use mathlib.Core.List.{List}
-use Prim.Native.Nat.{ℕ, ◌≤◌}
-use lib.ListN.{length}
+use Rattle.std.proofs.Common.{◌≡◌, List, ℕ, ◌≤◌, length, rules}
 use Rattle.sheet.specs.declared.Command.{Command}
 use Rattle.sheet.specs.Commands.{largest_number}
 use Rattle.session.specs.declared.Cursor.{Cursor}
@@ -17,9 +14,8 @@ use Rattle.replay.proofs.FillsLaws.{command-tells}
 use Rattle.replay.specs.Steps.{finished, finished_by, Shows, GoesOn}
 use Rattle.replay.specs.StepsLaws.{replay_at}
 use Rattle.replay.proofs.StepsLaws.{command-made, read-ended, onward-leads, onward-shows, command-fewer}
-use borrow.Author.Rules.{rules}
-use Rattle.replay.proofs.next_line.Statement.{statement}
-use Rattle.replay.proofs.next_line.Tie as tie
+use Rattle.replay.proofs.next_line.Goals as goal
+use Rattle.replay.proofs.next_line.Goals.{After-carry_out-bytes}
 
 -- a command that is carried out: what it tells
 told : (piece w v line line' list list' page page' : List ℕ) (c : ReplayCursor) (command : Command) (behind : Cursor) (bytes moves : ℕ) → c.moves ≡ 0
@@ -40,59 +36,27 @@ told piece w v line line' list list' page page' c command behind bytes moves non
       ),
     )
 
-abbrev entry : tie.After-next-command → tie.Start
-entry c = c.before.before.before.before.before.before
-
-abbrev next-at : tie.After-carry-out → tie.After-next-command
-next-at c = c.before.before.before.before.before.before.before
-
-abbrev given-at : tie.After-carry-out → tie.After-next
-given-at c = c.before.before.before.before.before
-
-abbrev out_at : tie.After-moves-asked → tie.After-carry-out
-out_at c = c.before.before.before.before.before
-
-few : (c : tie.After-carry-out) → length (entry (next-at c)).args.store.now ≤ store_words
-few c = by c.before.before.before
-  where
-    by : (c : tie.After-carry-out-arg) → length (entry c.before.before.before.before).args.store.now ≤ store_words
-    by c = search rules
+few : (c : After-carry_out-bytes) → length c.args.store.now ≤ store_words
+few c = search rules
 
 -- on the page, by the list of fills
-shows : (c : tie.After-carry-out)
-    → let a = entry (next-at c) in
-    shown c.carry-out.result c.carry-out.new.1.1.0 c.carry-out.new.1.1.1.0
-    ≡ command_shown (given-at c).next.given.0.0 a.args.store.now a.args.fills.now a.args.page.now
-shows c = c.carry-out.ensures.1.0
+shows : (c : After-carry_out-bytes)
+    → shown c.carry_out-bytes.result c.carry_out-bytes.new.fills c.carry_out-bytes.new.page
+    ≡ command_shown c.in-Given.command c.args.store.now c.args.fills.now c.args.page.now
+shows c = c.carry_out-bytes.ensures.shown
 
-returns : tie.Need-returns
-returns c =
-    let out = out_at c in
-    let next = next-at out in
-    let a = entry next in
-    let does = out.carry-out.ensures in
-    told _ _ _ _ _ _ _ _ _ _ _ _ _ _ a.pre.0 a.pre.1 (few out) (next-given _ _ next.next-command.ensures (given-at out).next.given.1) does.0 (shows out)
-    c.moves-asked.ensures (search rules) does.1.1
+pub returns-in-Given : goal.returns-in-Given
+returns-in-Given c =
+    let does = c.carry_out-bytes.ensures in
+    let all =
+    told _ _ _ _ _ _ _ _ _ _ _ _ _ _ c.requires.moves_value c.requires.roomy (few (goal.at.returns-in-Given c).After-carry_out-bytes) (next-given _ _ c.next_command-next.ensures c.in-Given.is) does.store (shows (goal.at.returns-in-Given c).After-carry_out-bytes)
+    c.moves_asked-moves.ensures (search rules) does.within in
+    record { sheet = all.0; shown = all.1.0; fills = all.1.1.0; onward = all.1.1.1 }
 
-returns-2 : tie.Need-returns-2
-returns-2 c =
-    let next = c.before.before.before in
-    let a = entry next in
-    let e = next-none _ _ next.next-command.ensures c.before.next2.given.1 in
-    let ended = read-ended a.args.piece.now a.args.store.now a.args.line.now a.args.cursor a.pre.0 _ _ e in
-    let rest = ended.1 a.args.fills.now a.args.page.now in
-    (ended.0, (rest.0, (λ is. is, rest.1)))
+pub returns-in-UsedUp : goal.returns-in-UsedUp
+returns-in-UsedUp c =
+    let e = next-none _ _ c.next_command-next.ensures c.in-UsedUp.is in
+    let ended = read-ended c.args.piece.now c.args.store.now c.args.line.now c.args.cursor c.requires.moves_value _ _ e in
+    let rest = ended.1 c.args.fills.now c.args.page.now in
 
-pub next-line-spec : {M : Type 1} → statement M
-next-line-spec =
-    tie.close
-    (tie.spec
-    (λ c κs. search rules)
-    (λ c. search rules)
-    (λ c κs. search rules)
-    (λ c κs. search rules)
-    (λ c. search rules)
-    (λ c. search rules)
-    (λ c. search rules)
-    returns
-    returns-2)
+    record { sheet = ended.0; shown = rest.0; fills = λ is. is; onward = rest.1 }

@@ -1,0 +1,26 @@
+-- `replay::apply` meets its contract, by cases on the command. Assumes nothing.
+use Rattle.std.proofs.Common.{refl, ap, ◌∙◌, eqb}
+use Rattle.session.specs.Session.{perform}
+use Rattle.replay.specs.Replay.{carried_out, changed}
+use Rattle.replay.proofs.apply.Goals as goal
+
+pub returns-in-Make : goal.returns-in-Make
+returns-in-Make c = rw c.in-Make.is c.make.ensures
+
+pub returns-in-Offer : goal.returns-in-Offer
+unfolding carried_out changed perform
+returns-in-Offer c = rw c.in-Offer.is (record { store = c.offer.ensures.words; changed = ap (λ k. eqb k 0) c.offer.ensures.answer })
+
+pub returns-in-Move : goal.returns-in-Move
+unfolding carried_out changed perform
+returns-in-Move c =
+    let made = c.move_packet.ensures in
+    rw c.in-Move.is (record { store = made.words; changed = c.was_made.ensures ∙ ap (λ k. eqb k 0) made.told.number })
+
+pub returns-in-Drain : goal.returns-in-Drain
+unfolding carried_out changed
+returns-in-Drain c = rw c.in-Drain.is (record { store = refl; changed = refl })
+
+pub returns-in-Bad : goal.returns-in-Bad
+unfolding carried_out changed perform
+returns-in-Bad c = rw c.in-Bad.is (record { store = refl; changed = refl })
