@@ -2,7 +2,7 @@
 // the replay does and shows is proved in the crate `replay`; here is read, handed over and written, and nothing else.
 #![tactic(auto)]
 
-ghost use Rattle.std.specs.Prelude.{◌≡◌, true, ◌≤◌, length, take};
+ghost use Rattle.std.specs.Prelude.{◌≡◌, true, ◌≤◌, length, take, OnOk};
 ghost use Rattle.std.specs.Io.KnownBytes.{Appends};
 ghost use Rattle.session.specs.Session.{store_words};
 ghost use Rattle.session.specs.Reads.{sheet, sheet_after, KeepsReached};
@@ -14,7 +14,8 @@ ghost use Rattle.wave.specs.Streams.{ReadReplayed};
 use lines::HELD_BYTES;
 use replay::NextStep;
 use session::STORE_WORDS;
-use std::io::{Read, Write};
+use std::io::{ErrorKind, Read, Write};
+use std::process::ExitCode;
 
 // The bytes of a read at most.
 const PIECE: usize = 1024;
@@ -25,14 +26,18 @@ const STORE_VARIABLES: usize = STORE_WORDS / 2;
 
 const PAGE_BYTES: usize = 120 + 48 * STORE_VARIABLES;
 
-// How far the sheet has come: the bytes that are pending of a line, and whether to go on.
+// The status where the reader of the output has gone: a shell's for a program that SIGPIPE ends. The runtime has that signal ignored.
+const READER_GONE: u8 = 128 + 13;
+
+// How far the sheet has come: the bytes that are pending of a line, whether to go on, and whether the reader of the output has gone.
 #[derive(Clone, Copy)]
 struct AfterRead {
     pending: usize,
     more: bool,
+    gone: bool,
 }
 
-// Says on standard error that input or output is lost. The program's own status stays 0: ./wave makes one of whether anything was said.
+// Says on standard error that input or output is lost. The program's own status is 0 all the same: ./wave makes one of whether anything was said.
 fn tell_unread(rt: &impl Eprint) {
     let _ = rt.eprintln("wave: the input could not be read: the sheet may go on");
 }
@@ -41,16 +46,30 @@ fn tell_unwritten(rt: &impl Eprint) {
     let _ = rt.eprintln("wave: the output could not be written: steps are lost");
 }
 
-// Writes the first bytes, and says whether it could.
-fn write_first<W: Write>(rt: &impl Eprint, output: &mut W, page: &[u8], bytes: usize) -> bool
+// Writes the first bytes, and says so if it could not. But a reader that has gone, as in `./wave | head -1`, has seen enough: nothing is said.
+fn write_first<W: Write>(
+    rt: &impl Eprint,
+    output: &mut W,
+    page: &[u8],
+    bytes: usize,
+) -> Result<(), ErrorKind>
     requires { bytes ≤ length page.now }
-    ensures { result ≡ true → Appends (W.contents output.old) (W.contents output.new) (take bytes page.now) }
+    ensures { OnOk result (Appends (W.contents output.old) (W.contents output.new) (take bytes page.now)) }
 {
-    let written = output.write_all(&page[..bytes]).is_ok() && output.flush().is_ok();
-    if !written {
-        tell_unwritten(rt);
+    let written = match output.write_all(&page[..bytes]) {
+        Ok(()) => output.flush(),
+        Err(error) => Err(error),
+    };
+    match written {
+        Ok(()) => Ok(()),
+        Err(error) => {
+            let kind = error.kind();
+            if kind != ErrorKind::BrokenPipe {
+                tell_unwritten(rt);
+            }
+            Err(kind)
+        }
     }
-    written
 }
 
 // The steps of a read, of some bytes or, at the end of the input, of none, each written before the next is made, as long as that can be done. Where
@@ -79,10 +98,11 @@ fn write_steps<W: Write>(
                 bytes,
                 cursor: behind,
             } => {
-                if !write_first(rt, output, page, bytes) {
+                if let Err(kind) = write_first(rt, output, page, bytes) {
                     return AfterRead {
                         pending: 0,
                         more: false,
+                        gone: kind == ErrorKind::BrokenPipe,
                     };
                 }
                 cursor = behind;
@@ -91,6 +111,7 @@ fn write_steps<W: Write>(
                 return AfterRead {
                     pending: count,
                     more: true,
+                    gone: false,
                 };
             }
         }
@@ -123,6 +144,7 @@ fn read_once<R: Read, W: Write>(
             AfterRead {
                 pending: after.pending,
                 more: after.more && n > 0,
+                gone: after.gone,
             }
         }
         Err(_) => {
@@ -130,13 +152,14 @@ fn read_once<R: Read, W: Write>(
             AfterRead {
                 pending: pending,
                 more: false,
+                gone: false,
             }
         }
     }
 }
 
 // Every read. A proved loop has to end, and nothing says that the input does: it counts its turns down from a number that no run uses up.
-fn main(rt: HostRuntime) {
+fn main(rt: HostRuntime) -> ExitCode {
     let mut input = rt.stdin();
     let mut output = rt.stdout();
     let mut store = [0u64; STORE_WORDS];
@@ -145,6 +168,7 @@ fn main(rt: HostRuntime) {
     let mut page = [0u8; PAGE_BYTES];
     let mut pending = session::start(&mut store);
     let mut more = true;
+    let mut gone = false;
     let mut turns = u64::MAX;
     while turns > 0 && more {
         let after = read_once(
@@ -159,6 +183,12 @@ fn main(rt: HostRuntime) {
         );
         pending = after.pending;
         more = after.more;
+        gone = after.gone;
         turns -= 1;
+    }
+    if gone {
+        ExitCode::from(READER_GONE)
+    } else {
+        ExitCode::SUCCESS
     }
 }

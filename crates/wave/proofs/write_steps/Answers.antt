@@ -38,7 +38,7 @@ loop-bytes-preserved g c =
       kept = λ is. step.fills (inv.kept is);
       written = λ is.
           let (bytes, added, left) = inv.written is in
-          let told = c.write_first.ensures c.if-not-write_first.false in (
+          let told = c.in_default.ensures in (
             bytes ++ take c.in-Done.bytes c.next_step-next.new.page,
             Appends-trans _ _ _ _ _ added told,
             left ∙ ap (λ rest. bytes ++ rest) (shown_on _ _ _ _ _ _ _ _ _ _ _ step.shown c.in-Done.is (inv.kept is)) ∙ sym (append_assoc bytes _ _),
