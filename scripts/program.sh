@@ -44,7 +44,7 @@ check_files() { # FILE ..
 sources() {
     (
         export LC_ALL=C
-        cd "$root" && find crates crates.txt -type f ! -path '*/must-fail/*' -print0 | sort -z | xargs -0 sha256sum | sha256sum
+        cd "$root" && find crates crates.txt -regex 'crates/[^/]*/\(out\|must-fail\)' -prune -o -type f -print0 | sort -z | xargs -0 sha256sum | sha256sum
     )
 }
 built() { sha256sum <"$program"; }
@@ -63,33 +63,44 @@ why_not() {
     fi
 }
 
-# How many crates the program is made of, itself one of them: what crates.txt says that it needs.
+# The crates that the program is made of, a line each, itself the last: what crates.txt says that it needs, in the order in which rt takes them.
 crates_needed() {
     LC_ALL=C awk -v "program=$crate" '
         function reach(crate,    list, n, k) {
             if (crate in seen || !(crate in needs)) return
             seen[crate] = 1
-            all++
             n = split(needs[crate], list, " ")
             for (k = 1; k <= n; k++) reach(list[k])
+            print crate
         }
         { sub(/#.*/, ""); at = index($0, ":") }
-        at { crate = substr($0, 1, at - 1); gsub(/[ \t]/, "", crate); needs[crate] = substr($0, at + 1) }
-        END { reach(program); print all + 0 }' "$root/crates.txt"
+        at { split(substr($0, 1, at - 1), word, " "); needs[word[1]] = substr($0, at + 1) }
+        END { reach(program) }' "$root/crates.txt"
+}
+# How many of these crates are proved, as the log has it: rt says when it comes to a crate and when it is done with it, and nothing of one that it has
+# proved before, so those that come before the last that it names are proved.
+proved_by_now() { # CRATES
+    LC_ALL=C awk '
+        FILENAME == "-" { place[$1] = ++all; next }
+        /^rt: chose --jobs [0-9]+ for / { now = $NF; at = place[now] - 1 }
+        /^crate [a-z0-9_]*: modules / && $2 == now ":" { at = place[now] }
+        at > most { most = at }
+        END { print most + 0 }' - "$log" <<<"$1"
 }
 # Says how far the check is: where it has come further a line, one in a second at most, and on a terminal one line that changes.
 tell_how_far() { # CRATES SECONDS
-    local proved
-    proved=$(grep -c '^rt: [a-z0-9_]* proved' "$log")
+    local proved number
+    proved=$(proved_by_now "$1")
+    number=$(wc -l <<<"$1")
     if [ -t 2 ]; then
-        printf '\r%s: %s of %s crates proved, %s s' "$name" "$proved" "$1" "$2" >&2
+        printf '\r%s: %s of %s crates proved, %s s' "$name" "$proved" "$number" "$2" >&2
     elif [ "$proved" != "$told_proved" ] && [ "$2" != "$told_at" ]; then
-        echo "$name: $proved of $1 crates proved, $2 s" >&2
+        echo "$name: $proved of $number crates proved, $2 s" >&2
         told_proved=$proved told_at=$2
     fi
 }
-# The first thing that the prover does not accept, with the lines that belong to it, and the crate that it is in. Where the prover says
-# nothing of that kind, the end of what rt says, without the crates that are proved and those that only wait for another.
+# The first thing that the prover does not accept, with the lines that belong to it, and the library that it is in. Where the prover says
+# nothing of that kind, the end of what rt says, without what is proved and what it is proved with.
 first_error() {
     LC_ALL=C awk '
         function cut(s) {
@@ -98,9 +109,9 @@ first_error() {
             sub(/[\300-\377][\200-\277]*$/, "", s)
             return s " .."
         }
-        /^rt: [a-z0-9_]* proved/ || /^rt: .* NOT PROVED: its dependency / { next }
+        /^(fn|struct|enum|trait|impl|const) [^ ]*: proved/ || /^(statements|library|crate|axioms|logic|logic=proved|linked|checked) / || /^rt: (chose|[a-z0-9_]*: begins with|rt) / { next }
         { line[++n] = cut($0) }
-        !from && /(^|: )error[:[]|^note: [^ ]*: it is not proved|^fn .*: no proof/ { from = n }
+        !from && /(^|: )error[:[]|^note: [^ ]*: it is not proved|^fn .*: (no proof|not proved)/ { from = n }
         END {
             to = n
             if (from) {
@@ -110,7 +121,7 @@ first_error() {
                 from = n > 20 ? n - 19 : 1
             }
             for (k = from; k <= to; k++) print line[k]
-            while (k <= n && line[k] !~ /^rt: .* NOT PROVED/) k++
+            while (k <= n && line[k] !~ /^rt: the library .* did not build/) k++
             if (k <= n) print line[k]
         }' "$log" >&2
 }
@@ -127,12 +138,13 @@ end_check() { # SIGNAL
         done
     fi
     [ ! -t 2 ] || echo >&2
-    echo "$name: signal $1 has ended the check, so nothing is run; what was proved by then is kept" >&2
+    echo "$name: signal $1 has ended the check, so nothing is run; the crates that were proved by then are kept" >&2
     kill -s "$1" "$$"
     exit 1
 }
-# rt check NAME, its output to the log. rt starts the prover in the background, where Ctrl-C does not reach it: so the check has a process
-# group of its own, and a signal that ends this script ends that group.
+# rt run, on an empty sheet, its output to the log: it proves the crate and those below it, builds the program, out/NAME, and runs it; no other command
+# of rt builds one. rt starts the prover in the background, where Ctrl-C does not reach it: so the check has a process group of its own, and a signal that
+# ends this script ends that group; the prover ends with rt.
 check() {
     local began=$SECONDS crates pause=0.1 told_proved=0 told_at=none
     crates=$(crates_needed)
@@ -140,7 +152,7 @@ check() {
     trap 'end_check INT' INT
     trap 'end_check TERM' TERM
     set -m
-    (cd "$root" && exec rt check "$crate") >"$log" 2>&1 </dev/null &
+    (cd "$root/crates/$crate" && exec rt run) >"$log" 2>&1 </dev/null &
     set +m
     while kill -0 "$!" 2>/dev/null; do
         sleep "$pause"
@@ -157,18 +169,24 @@ build() { # WHY
             "The answers to a sheet can still be had from the independent simulator, of which nothing is proved:" \
             "cd compare && cargo run -q --release --offline --bin sheet < FILE"
     fi
-    echo "$name: $1; building it: rt check $crate (from nothing that takes some minutes)" >&2
+    echo "$name: $1; building it: rt run in crates/$crate (from nothing that takes some minutes)" >&2
     local began=$SECONDS from kit
     kit=$(rt version 2>/dev/null | head -n 1)
     from=$(sources) && mkdir -p "$root/target" && rm -f "$stamp" && : >"$log" || fail "cannot write to $root/target"
     if ! check; then
         first_error
-        fail "the check failed, so nothing is run: rt check $crate, its output is in target/$crate.log"
+        fail "the check failed, so nothing is run: rt run in crates/$crate, its output is in target/$crate.log"
     fi
-    [ -x "$program" ] || fail "rt check $crate left no program at $program"
-    [ "$from" = "$(sources)" ] || fail "the sources were changed while they were checked: run it again"
-    { echo "$from" && echo "kit $kit" && built; } >"$stamp" || fail "cannot write $stamp"
+    take_built "$from" "$kit"
     echo "$name: built in $((SECONDS - began)) s" >&2
+}
+# Takes the program that rt has built, out/NAME, where the sources are still those that it began with, and stamps it.
+take_built() { # SOURCES KIT
+    local made=$root/crates/$crate/out/$crate
+    [ -x "$made" ] || fail "rt left no program at $made"
+    [ "$1" = "$(sources)" ] || fail "the sources were changed while they were checked: run it again"
+    mkdir -p "${program%/*}" && cp "$made" "$program.new" && mv -f "$program.new" "$program" || fail "cannot write $program"
+    { echo "$1" && echo "kit $2" && built; } >"$stamp" || fail "cannot write $stamp"
 }
 build_if_needed() { # PROGRAM ..
     local needed why
