@@ -1,1 +1,2 @@
 -- Proofs of the program wave.
+pub mod Written

@@ -1,0 +1,2 @@
+-- Specifications of the bench program.
+pub mod Streams

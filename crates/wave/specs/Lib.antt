@@ -1,0 +1,2 @@
+-- Specifications of the program wave.
+pub mod Streams
