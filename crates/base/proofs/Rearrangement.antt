@@ -81,12 +81,12 @@ module _ {A : Type 0} (same? : Discrete A) where
       let f = count-append a before behind in
       omega arith
 
-  pub count-found : (a : A) (ys : List A) → count same? a ys ≢ 0 → (Within same?) a ys
+  pub count-found : (a : A) (ys : List A) → count same? a ys ≢ 0 → Within same? a ys
   unfolding count one_if
   count-found a [] ne = absurd (ne refl)
   count-found a (y ∷ ys) ne = go (same? a y) (λ k. count-found a ys k) ne
     where
-      go : (d : Dec (a ≡ y)) → (count same? a ys ≢ 0 → (Within same?) a ys) → one_if d + count same? a ys ≢ 0 → (Within same?) a (y ∷ ys)
+      go : (d : Dec (a ≡ y)) → (count same? a ys ≢ 0 → Within same? a ys) → one_if d + count same? a ys ≢ 0 → Within same? a (y ∷ ys)
       go (yes e) later some = record { before = []; behind = ys; here = ap {B = List A} (λ (z : A). z ∷ ys) (sym e) }
       go (no apart) later some =
           let w = later (λ z. some (omega (arith, z))) in
@@ -98,7 +98,7 @@ module _ {A : Type 0} (same? : Discrete A) where
   nothing_left [] r = refl
   nothing_left (y ∷ ys) r = absurd (let e = r y in let o = same-one y (same? y y) in omega arith)
 
-  some_left : (x : A) (xs ys : List A) → Rearranged same? (x ∷ xs) ys → (Within same?) x ys
+  some_left : (x : A) (xs ys : List A) → Rearranged same? (x ∷ xs) ys → Within same? x ys
   unfolding Rearranged count
   some_left x xs ys r = count-found x ys (λ z. let e = r x in let o = same-one x (same? x x) in omega arith)
 

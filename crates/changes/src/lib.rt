@@ -2,8 +2,7 @@
 // asks is what the tests before it have shown. Every function leaves exactly the words of the definition that it names.
 #![tactic(auto)]
 
-ghost use Rattle.std.specs.Prelude.{◌≡◌, ◌++◌, ◌≢◌, ◌-◌, ◌^◌, ◌<◌, ◌≤◌, T};
-ghost use lib.ListN.{length, get_or, drop};
+ghost use Rattle.std.specs.Prelude.{◌≡◌, ◌++◌, ◌≢◌, ◌-◌, ◌^◌, ◌<◌, ◌≤◌, T, length, get_or, drop, replicate};
 ghost use Rattle.network.specs.Sizes.{shape_of, sizes_in_range, nodes, capacity, injection_queue, most_chunks};
 ghost use Rattle.network.specs.Routes.{deliver, target};
 ghost use Rattle.network.specs.Layout.{need, held, raised};
@@ -17,7 +16,7 @@ use network::{ACCEPTED_AT, DELIVER, DELIVERED_AT, INJECTION_QUEUE, MOVES_AT, Siz
 // Writes zeros to the first n words.
 fn clear(words: &mut [u64], n: usize)
     requires { n ≤ length words.old }
-    ensures { words.new ≡ lib.ListN.replicate n 0 ++ drop n words.old }
+    ensures { words.new ≡ replicate n 0 ++ drop n words.old }
 {
     let mut i = 0;
     while i < n {

@@ -17,7 +17,7 @@ use Rattle.network.specs.Sizes.{dimensions, directions, most_chunks, dimension_o
 use Rattle.base.specs.Digits.{product, digit, put_digit, weight, Positive}
 use Rattle.base.proofs.Digits.{positive-by, digit-weight, digit_lt, digit-multiple, digit-put-same, digit-put-other, put-put, put-comm, put-digit, above-put}
 use Rattle.network.specs.Packet.{offset_values, destination_values, chunk_values, fields, offset_field, spare_field, destination_field, chunk_field, upper_spare_field, with_offsets, signed, unsigned, packet_word, tag, destination, chunks, spare, upper_spare, offset, with_offset, distance, forward, backward, hops, heading, hops_left, work, shrunk, hop, label, steps_ahead, goes_plus, shorter_way}
-use Rattle.network.specs.PacketLaws.{half_offsets, OffsetRange, OffsetsInRange, chunked, addressed, landing}
+use Rattle.network.specs.PacketLaws.{half_offsets, OffsetRange, OffsetsInRange, landing}
 
 -- a choice whose test is known
 chosen : {A : Type 0} (b : Bool) (x y : A) → b ≡ true → cond b x y ≡ x
@@ -462,14 +462,21 @@ tag-label p = tag-withs (λ j. pos 0) dimensions p (omega arith) (λ i h. zero-r
 -- The word that fields make -----------------------------------------------------------------------------------------------------------
 
 module _ (t c dest : ℕ) (offs : ℕ → ℤ) (few : c ≤ most_chunks) (h : dest < destination_values) (r : OffsetsInRange dimensions offs) where
+  -- the word before its offsets are set
+  abbrev chunked : ℕ
+  chunked = put_digit fields chunk_field (c - 1) (t * product fields)
+
+  abbrev addressed : ℕ
+  addressed = put_digit fields destination_field dest chunked
+
   small-chunks : c - 1 < chunk_values
   small-chunks = omega arith
 
   pub tag-packet : tag (packet_word t c dest offs) ≡ t
   unfolding packet_word tag product
   tag-packet =
-      tag-withs offs dimensions (addressed t c dest offs few h r) (omega arith) r
-      ∙ above-put fields destination_field dest (chunked t c dest offs few h r) fields-positive h
+      tag-withs offs dimensions addressed (omega arith) r
+      ∙ above-put fields destination_field dest chunked fields-positive h
       ∙ above-put fields chunk_field (c - 1) (t * product fields) fields-positive small-chunks
       ∙ omega arith
 
@@ -478,15 +485,15 @@ module _ (t c dest : ℕ) (offs : ℕ → ℤ) (few : c ≤ most_chunks) (h : de
       → digit fields k (packet_word t c dest offs) ≡ cond (eqb k destination_field) dest (cond (eqb k chunk_field) (c - 1) 0)
   unfolding packet_word
   field-packet k l =
-      field-withs offs k dimensions (addressed t c dest offs few h r) l (omega arith) r
-      ∙ put-field k destination_field dest (chunked t c dest offs few h r) (omega arith) h
+      field-withs offs k dimensions addressed l (omega arith) r
+      ∙ put-field k destination_field dest chunked (omega arith) h
       ∙ ap (cond (eqb k destination_field) dest)
       (put-field k chunk_field (c - 1) (t * product fields) (omega arith) small-chunks
       ∙ ap (cond (eqb k chunk_field) (c - 1)) (digit-multiple fields k t fields-positive))
 
   pub offset-packet : (i : ℕ) → i < dimensions → offset i (packet_word t c dest offs) ≡ offs i
   unfolding packet_word
-  offset-packet i k = offset-withs offs dimensions i (addressed t c dest offs few h r) (omega arith) k r
+  offset-packet i k = offset-withs offs dimensions i addressed (omega arith) k r
 
 -- The shorter way round ---------------------------------------------------------------------------------------------------------------
 

@@ -15,7 +15,6 @@ use Rattle.network.specs.Calls.{NamedMove, after_move, move_words, Delivery, dra
 use Rattle.network.proofs.DrainLaws.{drain-within, drain-matched}
 use Rattle.network.specs.Choices.{Permits}
 use Rattle.network.specs.Run.{Leads, Call, move, drain, outcome, run, Ledger, at_nodes, ledger_of, words_written, LedgerKept, AllKept}
-use Rattle.network.specs.RunLaws.{given, packets}
 
 -- the nodes and the words of deliveries, put beside each other again
 at_nodes-own : (ds : List Delivery) → at_nodes (map (λ d. d.node) ds) (map (λ d. d.packet) ds) ≡ ds
@@ -25,10 +24,16 @@ at_nodes-own (d ∷ ds) = ap (λ (es : List Delivery). d ∷ es) (at_nodes-own d
 
 -- what a Drain that is not refused leaves in its ledger, and how many words it says that it wrote
 module _ (w : List ℕ) (budget : ℕ) (ledger : List ℕ) where
-  count : length (packets w budget ledger) ≡ length (given w budget ledger)
-  count = length-map (given w budget ledger) (λ (d : Delivery). d.packet)
+  abbrev given : List Delivery
+  given = (drained w budget (length ledger)).deliveries
 
-  writes : network_refusal w ≡ 0 → ledger_of w budget ledger ≡ record { lent = ledger; left = (packets w budget ledger) ++ drop (length (given w budget ledger)) ledger; written = length (given w budget ledger) }
+  abbrev packets : List ℕ
+  packets = map (λ (d : Delivery). d.packet) given
+
+  count : length packets ≡ length given
+  count = length-map given (λ (d : Delivery). d.packet)
+
+  writes : network_refusal w ≡ 0 → ledger_of w budget ledger ≡ record { lent = ledger; left = packets ++ drop (length given) ledger; written = length given }
   unfolding ledger_of drain_ledger drain_answer drained_delivered
   writes e = rw (eq-eqb (network_refusal w) 0 e)
 
@@ -37,23 +42,23 @@ module _ (w : List ℕ) (budget : ℕ) (ledger : List ℕ) where
   writes_nothing ne = rw (ne_eqb (network_refusal w) 0 ne)
 
   -- handed out is what the definition's moves delivered, in their order
-  pub drain-handed : network_refusal w ≡ 0 → (outcome (drain budget ledger) w).handed_out ≡ (given w budget ledger)
+  pub drain-handed : network_refusal w ≡ 0 → (outcome (drain budget ledger) w).handed_out ≡ given
   unfolding outcome words_written drained
   drain-handed e =
       ap₂ (λ (ns : List ℕ) (L : Ledger). at_nodes ns (take L.written L.left)) (drain-matched (shape w) budget (length ledger) w) (writes e)
-      ∙ ap (at_nodes (map (λ d. d.node) (given w budget ledger))) (take_at (packets w budget ledger) (drop (length (given w budget ledger)) ledger) (length (given w budget ledger)) count)
-      ∙ at_nodes-own (given w budget ledger)
+      ∙ ap (at_nodes (map (λ d. d.node) given)) (take_at packets (drop (length given) ledger) (length given) count)
+      ∙ at_nodes-own given
 
-  kept-written : LedgerKept (record { lent = ledger; left = (packets w budget ledger) ++ drop (length (given w budget ledger)) ledger; written = length (given w budget ledger) })
+  kept-written : LedgerKept (record { lent = ledger; left = packets ++ drop (length given) ledger; written = length given })
   unfolding drained
   kept-written =
-      let few : length (given w budget ledger) ≤ length ledger = (drain-within (shape w) budget (length ledger) w).few-deliveries in
+      let few : length given ≤ length ledger = (drain-within (shape w) budget (length ledger) w).few-deliveries in
       let c = count in
-      let d : length (drop (length (given w budget ledger)) ledger) ≡ length ledger - length (given w budget ledger) = length-drop (length (given w budget ledger)) ledger in
-      let a : length ((packets w budget ledger) ++ drop (length (given w budget ledger)) ledger) ≡ length (packets w budget ledger) + length (drop (length (given w budget ledger)) ledger) = length-append (packets w budget ledger) (drop (length (given w budget ledger)) ledger) in
+      let d : length (drop (length given) ledger) ≡ length ledger - length given = length-drop (length given) ledger in
+      let a : length (packets ++ drop (length given) ledger) ≡ length packets + length (drop (length given) ledger) = length-append packets (drop (length given) ledger) in
       record {
         fits = few;
-        later-untouched = drop_at (packets w budget ledger) (drop (length (given w budget ledger)) ledger) (length (given w budget ledger)) count;
+        later-untouched = drop_at packets (drop (length given) ledger) (length given) count;
         same_length = omega arith;
       }
 

@@ -33,7 +33,7 @@ use Rattle.network.specs.Calls.{NamedMove}
 use Rattle.network.specs.AfterLaws.{hopped, deliveries, NotTarget, MoveMade, Role, is-source, is-target, is-neither}
 use Rattle.network.proofs.AfterLaws.{kept_then, ahead, role}
 use Rattle.network.specs.Together.{Place, queue_at, same_place?, source, targets, sources, all_targets, queues_differ, sources_differ, targets_differ, Apart, output_named, outputs_differ, same_move?, brought, newcomers, held_after, deliveries_among, HeaderAfter}
-use Rattle.network.specs.TogetherLaws.{AfterAll, n, q, o, same_pair?}
+use Rattle.network.specs.TogetherLaws.{AfterAll, same_pair?}
 
 -- How often a queue is a source or a target -----------------------------------------------------------------------------------------------
 
@@ -179,57 +179,66 @@ header-one-more S w v u done m A M =
 module _ (S : Shape) (w v : List ℕ) (done : List NamedMove) (m : NamedMove) (tor : Torus S) (N : Network S w) (A : AfterAll S w done v)
     (P : Permitted S w m.node m.queue m.output) (fresh : count same_place? (source m) (sources done) ≡ 0)
     (free : (p : Place) → count same_place? p (targets S m) + count same_place? p (all_targets S done) ≤ 1) where
+  abbrev n : ℕ
+  n = m.node
+
+  abbrev q : ℕ
+  q = m.queue
+
+  abbrev o : ℕ
+  o = m.output
+
   -- its queue has only grown, so the head is the same
-  no_source : count same_place? (queue_at (n S w v done m tor N A P fresh free) (q S w v done m tor N A P fresh free)) (sources done) ≡ 0
+  no_source : count same_place? (queue_at n q) (sources done) ≡ 0
   unfolding source
   no_source = fresh
 
-  source-held : held S v (n S w v done m tor N A P fresh free) (q S w v done m tor N A P fresh free) ≡ held S w (n S w v done m tor N A P fresh free) (q S w v done m tor N A P fresh free) ++ newcomers S w done (queue_at (n S w v done m tor N A P fresh free) (q S w v done m tor N A P fresh free))
+  source-held : held S v n q ≡ held S w n q ++ newcomers S w done (queue_at n q)
   unfolding held_after
-  source-held = A.queue (n S w v done m tor N A P fresh free) (q S w v done m tor N A P fresh free) P.node P.queue ∙ ap (λ (k : ℕ). drop k (held S w (n S w v done m tor N A P fresh free) (q S w v done m tor N A P fresh free)) ++ newcomers S w done (queue_at (n S w v done m tor N A P fresh free) (q S w v done m tor N A P fresh free))) no_source
+  source-held = A.queue n q P.node P.queue ∙ ap (λ (k : ℕ). drop k (held S w n q) ++ newcomers S w done (queue_at n q)) no_source
 
-  pub same_head : head (held S v (n S w v done m tor N A P fresh free) (q S w v done m tor N A P fresh free)) ≡ head (held S w (n S w v done m tor N A P fresh free) (q S w v done m tor N A P fresh free))
-  same_head = ap head source-held ∙ same_first (held S w (n S w v done m tor N A P fresh free) (q S w v done m tor N A P fresh free)) (newcomers S w done (queue_at (n S w v done m tor N A P fresh free) (q S w v done m tor N A P fresh free))) P.holds
+  pub same_head : head (held S v n q) ≡ head (held S w n q)
+  same_head = ap head source-held ∙ same_first (held S w n q) (newcomers S w done (queue_at n q)) P.holds
 
   -- its target has only shrunk
-  target-less : (o S w v done m tor N A P fresh free) ≢ deliver → taken S v (target S (n S w v done m tor N A P fresh free) (o S w v done m tor N A P fresh free)) (o S w v done m tor N A P fresh free) ≤ taken S w (target S (n S w v done m tor N A P fresh free) (o S w v done m tor N A P fresh free)) (o S w v done m tor N A P fresh free)
+  target-less : o ≢ deliver → taken S v (target S n o) o ≤ taken S w (target S n o) o
   unfolding taken held_after
   target-less away =
-      let t : ℕ = target S (n S w v done m tor N A P fresh free) (o S w v done m tor N A P fresh free) in
+      let t : ℕ = target S n o in
       let one = target-here S m away in
-      let most = free (queue_at t (o S w v done m tor N A P fresh free)) in
-      let none : newcomers S w done (queue_at t (o S w v done m tor N A P fresh free)) ≡ [] = no-newcomers S w done (queue_at t (o S w v done m tor N A P fresh free)) (omega arith) in
-      let k : ℕ = count same_place? (queue_at t (o S w v done m tor N A P fresh free)) (sources done) in
-      let e : held S v t (o S w v done m tor N A P fresh free) ≡ drop k (held S w t (o S w v done m tor N A P fresh free)) =
-      A.queue t (o S w v done m tor N A P fresh free) (ahead S w (n S w v done m tor N A P fresh free) (q S w v done m tor N A P fresh free) (o S w v done m tor N A P fresh free) tor N P away).node P.output
-      ∙ ap (λ (l : List ℕ). drop k (held S w t (o S w v done m tor N A P fresh free)) ++ l) none
-      ∙ append-nil (drop k (held S w t (o S w v done m tor N A P fresh free))) in
-      rw e (sum_of-drop (load (o S w v done m tor N A P fresh free)) k (held S w t (o S w v done m tor N A P fresh free)))
+      let most = free (queue_at t o) in
+      let none : newcomers S w done (queue_at t o) ≡ [] = no-newcomers S w done (queue_at t o) (omega arith) in
+      let k : ℕ = count same_place? (queue_at t o) (sources done) in
+      let e : held S v t o ≡ drop k (held S w t o) =
+      A.queue t o (ahead S w n q o tor N P away).node P.output
+      ∙ ap (λ (l : List ℕ). drop k (held S w t o) ++ l) none
+      ∙ append-nil (drop k (held S w t o)) in
+      rw e (sum_of-drop (load o) k (held S w t o))
 
   -- so the move is permitted
-  pub still-permitted : Permitted S v (n S w v done m tor N A P fresh free) (q S w v done m tor N A P fresh free) (o S w v done m tor N A P fresh free)
+  pub still-permitted : Permitted S v n q o
   still-permitted =
       record {
         node = P.node;
         queue = P.queue;
         output = P.output;
-        holds = λ z. P.holds (let l = ap length source-held in let a = length-append (held S w (n S w v done m tor N A P fresh free) (q S w v done m tor N A P fresh free)) (newcomers S w done (queue_at (n S w v done m tor N A P fresh free) (q S w v done m tor N A P fresh free))) in omega arith);
+        holds = λ z. P.holds (let l = ap length source-held in let a = length-append (held S w n q) (newcomers S w done (queue_at n q)) in omega arith);
         route = rw same_head P.route;
-        room = λ away. rw same_head (native.Mathlib.Nat.le_trans (P.room away) (free-load-fewer S v w (n S w v done m tor N A P fresh free) (o S w v done m tor N A P fresh free) (target-less away)));
+        room = λ away. rw same_head (native.Mathlib.Nat.le_trans (P.room away) (free-load-fewer S v w n o (target-less away)));
       }
 
   -- and once it is made
-  pub after-one-more : (u : List ℕ) → MoveMade S v u (n S w v done m tor N A P fresh free) (q S w v done m tor N A P fresh free) (o S w v done m tor N A P fresh free) → AfterAll S w (done ++ (m ∷ [])) u
+  pub after-one-more : (u : List ℕ) → MoveMade S v u n q o → AfterAll S w (done ++ (m ∷ [])) u
   unfolding held_after
   after-one-more u M =
       record {
-        queue = λ a r ha hr. by a r ha hr (role S (n S w v done m tor N A P fresh free) (q S w v done m tor N A P fresh free) (o S w v done m tor N A P fresh free) a r) ∙ sym (held-one-more S w done m a r);
+        queue = λ a r ha hr. by a r ha hr (role S n q o a r) ∙ sym (held-one-more S w done m a r);
         header = header-one-more S w v u done m A.header M;
         kept = kept_then A.kept M.kept;
       }
     where
       h : ℕ
-      h = hopped S w (n S w v done m tor N A P fresh free) (q S w v done m tor N A P fresh free) (o S w v done m tor N A P fresh free)
+      h = hopped S w n q o
 
       rest : (a r : ℕ) → List ℕ
       rest a r = newcomers S w done (queue_at a r)
@@ -243,23 +252,23 @@ module _ (S : Shape) (w v : List ℕ) (done : List NamedMove) (m : NamedMove) (t
       comes : (a r : ℕ) → ℕ
       comes a r = count same_place? (queue_at a r) (targets S m)
 
-      by : (a r : ℕ) → a < nodes S → r < queues → Role S (n S w v done m tor N A P fresh free) (q S w v done m tor N A P fresh free) (o S w v done m tor N A P fresh free) a r
+      by : (a r : ℕ) → a < nodes S → r < queues → Role S n q o a r
           → held S u a r ≡ drop (left a r + leaves a r) (held S w a r) ++ (rest a r ++ replicate (comes a r) h)
       by a r ha hr (is-source e) =
           rw (← e.0, ← e.1)
           (M.source
-          ∙ ap (drop 1) (A.queue (n S w v done m tor N A P fresh free) (q S w v done m tor N A P fresh free) P.node P.queue)
-          ∙ at_source (held S w (n S w v done m tor N A P fresh free) (q S w v done m tor N A P fresh free)) (rest (n S w v done m tor N A P fresh free) (q S w v done m tor N A P fresh free)) (left (n S w v done m tor N A P fresh free) (q S w v done m tor N A P fresh free)) (leaves (n S w v done m tor N A P fresh free) (q S w v done m tor N A P fresh free)) (comes (n S w v done m tor N A P fresh free) (q S w v done m tor N A P fresh free)) h no_source (source-here m)
-          (target-elsewhere S m (n S w v done m tor N A P fresh free) (q S w v done m tor N A P fresh free) (λ away e'. M.apart away e'.0)) P.holds)
+          ∙ ap (drop 1) (A.queue n q P.node P.queue)
+          ∙ at_source (held S w n q) (rest n q) (left n q) (leaves n q) (comes n q) h no_source (source-here m)
+          (target-elsewhere S m n q (λ away e'. M.apart away e'.0)) P.holds)
       by a r ha hr (is-target away e) =
-          let t : ℕ = target S (n S w v done m tor N A P fresh free) (o S w v done m tor N A P fresh free) in
+          let t : ℕ = target S n o in
           rw (← e.0, ← e.1)
           (M.arrival away
-          ∙ ap₂ (λ (l : List ℕ) (p : ℕ). l ++ (hop (dimension_of (direction_of (o S w v done m tor N A P fresh free))) p ∷ []))
-          (A.queue t (o S w v done m tor N A P fresh free) (ahead S w (n S w v done m tor N A P fresh free) (q S w v done m tor N A P fresh free) (o S w v done m tor N A P fresh free) tor N P away).node P.output)
+          ∙ ap₂ (λ (l : List ℕ) (p : ℕ). l ++ (hop (dimension_of (direction_of o)) p ∷ []))
+          (A.queue t o (ahead S w n q o tor N P away).node P.output)
           same_head
-          ∙ at_target (held S w t (o S w v done m tor N A P fresh free)) (rest t (o S w v done m tor N A P fresh free)) (left t (o S w v done m tor N A P fresh free)) (leaves t (o S w v done m tor N A P fresh free)) (comes t (o S w v done m tor N A P fresh free)) h
-          (source-elsewhere m t (o S w v done m tor N A P fresh free) (λ e'. M.apart away (sym e'.0))) (target-here S m away))
+          ∙ at_target (held S w t o) (rest t o) (left t o) (leaves t o) (comes t o) h
+          (source-elsewhere m t o (λ e'. M.apart away (sym e'.0))) (target-here S m away))
       by a r ha hr (is-neither ne ne') =
           M.others a r ha hr ne ne'
           ∙ A.queue a r ha hr

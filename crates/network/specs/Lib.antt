@@ -1,4 +1,4 @@
--- The rules of docs/RULES.md as definitions, in its order; the laws of each stand in the file beside it. R30 in a comment is that clause.
+-- The rules of docs/RULES.md as definitions, in its order; the laws of each stand in proofs/. R30 in a comment is that clause.
 pub mod Sizes
 pub mod SizesLaws
 pub mod Packet
@@ -28,7 +28,6 @@ pub mod FirstRule
 pub mod OfferLaws
 pub mod Run
 pub mod DrainLaws
-pub mod RunLaws
 pub mod FirstMoves
 pub mod FirstMovesLaws
 pub mod InLists

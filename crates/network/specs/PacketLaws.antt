@@ -2,9 +2,7 @@
 -- label; the word that fields make; the shorter way round. `i` and `j` are dimensions, `d` a direction, `p` any number. Assumes nothing.
 use Rattle.std.specs.Prelude.{ℤ}
 use Prim.Native.Nat.{ℕ, ◌+◌, ◌*◌, ◌-◌, ◌/◌, ◌%◌, ◌<◌, ◌≤◌}
-use Rattle.network.specs.Sizes.{dimensions, most_chunks}
-use Rattle.base.specs.Digits.{product, put_digit}
-use Rattle.network.specs.Packet.{offset_values, destination_values, fields, destination_field, chunk_field, forward, backward}
+use Rattle.network.specs.Packet.{offset_values, forward, backward}
 
 -- Signed offsets ----------------------------------------------------------------------------------------------------------------------
 
@@ -19,16 +17,6 @@ pub record OffsetRange (z : ℤ) : Type 0 where
 -- the offsets of the first so many dimensions replaced
 abbrev pub OffsetsInRange : ℕ → (ℕ → ℤ) → Type 0
 OffsetsInRange m offs = (i : ℕ) → i < m → OffsetRange (offs i)
-
--- The word that fields make -----------------------------------------------------------------------------------------------------------
-
-module _ (t c dest : ℕ) (offs : ℕ → ℤ) (few : c ≤ most_chunks) (h : dest < destination_values) (r : OffsetsInRange dimensions offs) where
-  -- the word before its offsets are set
-  abbrev pub chunked : ℕ
-  chunked = put_digit fields chunk_field (c - 1) (t * product fields)
-
-  abbrev pub addressed : ℕ
-  addressed = put_digit fields destination_field dest chunked
 
 -- the coordinate to which an offset leads: so many steps forward and so many back, each of these being all steps round but one
 abbrev pub landing : ℕ → ℕ → ℤ → ℕ
