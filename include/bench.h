@@ -48,7 +48,7 @@
  * Two threads may use the library at once if they lend different memory.
  *
  * The archive, libbench_c.a, is for x86-64 Linux (ELF, the System V calling
- * convention). `rt staticlib bench_c` builds it in target/staticlib; link it
+ * convention). `scripts/library` builds it in target/staticlib; link it
  * behind your own objects, as tests/c-example does. It calls nothing but memcpy,
  * memmove and memset of the C library.
  *
