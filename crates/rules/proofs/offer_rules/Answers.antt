@@ -30,54 +30,64 @@ pub returns-then-count-n : goal.returns-then-count-n
 returns-then-count-n c =
     let a = c.args in
     tested (shape_of a.s) a.words.now a.n a.destination a.chunks c.nodes-count.result _ _ true _ _ _ _ _ c.nodes-count.ensures refl refl
-    (le-leb c.nodes-count.result a.n c.if-count-n.true) refl refl refl refl refl
+    (le-leb c.nodes-count.result a.n (omega arith)) refl refl refl refl refl
 
 pub returns-then-count-destination : goal.returns-then-count-destination
 returns-then-count-destination c =
     let a = c.args in
     tested (shape_of a.s) a.words.now a.n a.destination a.chunks c.nodes-count.result _ _ false true _ _ _ _ c.nodes-count.ensures refl refl
-    (lt-leb c.nodes-count.result a.n c.if-count-n.false) (le-leb c.nodes-count.result a.destination c.if-count-destination.true) refl refl refl refl
+    (lt-leb c.nodes-count.result a.n (omega arith)) (le-leb c.nodes-count.result a.destination (omega arith)) refl refl refl refl
 
 pub returns-then-wrong : goal.returns-then-wrong
 returns-then-wrong c =
     let a = c.args in
     tested (shape_of a.s) a.words.now a.n a.destination a.chunks c.nodes-count.result _ _ false false true _ _ _ c.nodes-count.ensures refl refl
-    (lt-leb c.nodes-count.result a.n c.if-count-n.false) (lt-leb c.nodes-count.result a.destination c.if-count-destination.false)
-    (sym c.wrong_chunks-wrong.ensures ∙ c.if-wrong.true) refl refl refl
+    (lt-leb c.nodes-count.result a.n (omega arith)) (lt-leb c.nodes-count.result a.destination (omega arith))
+    (cc) refl refl refl
 
 pub returns-then-n-destination : goal.returns-then-n-destination
 returns-then-n-destination c =
     let a = c.args in
     tested (shape_of a.s) a.words.now a.n a.destination a.chunks c.nodes-count.result _ _ false false false true _ _ c.nodes-count.ensures refl refl
-    (lt-leb c.nodes-count.result a.n c.if-count-n.false) (lt-leb c.nodes-count.result a.destination c.if-count-destination.false)
-    (sym c.wrong_chunks-wrong.ensures ∙ c.if-wrong.false) (eq-eqb a.n a.destination c.if-n-destination.true) refl refl
-
-by_last : (c : After-held_count-held) (d e : Bool)
-    → eqb (accepted c.args.words.now) most_accepted ≡ d
-    → eqb c.held_count-held.result c.capacity-slots.result ≡ e
-    → refuse d count_spent (refuse e injection_full 0)
-    ≡ offer_rules (shape_of c.args.s) c.args.words.now c.args.n c.args.destination c.args.chunks
-by_last c d e ed ee =
-    let a = c.args in
-    tested (shape_of a.s) a.words.now a.n a.destination a.chunks c.nodes-count.result c.held_count-held.result c.capacity-slots.result false false false false d e
-    c.nodes-count.ensures (c.held_count-held.ensures ∙ sym (taken-length (shape_of a.s) a.words.now a.n injection_queue refl)) c.capacity-slots.ensures
-    (lt-leb c.nodes-count.result a.n c.if-count-n.false) (lt-leb c.nodes-count.result a.destination c.if-count-destination.false)
-    (sym c.wrong_chunks-wrong.ensures ∙ c.if-wrong.false) (ne_eqb a.n a.destination c.if-n-destination.false) ed ee
+    (lt-leb c.nodes-count.result a.n (omega arith)) (lt-leb c.nodes-count.result a.destination (omega arith))
+    (cc) (eq-eqb a.n a.destination (omega arith)) refl refl
 
 pub returns-then-accepted-eq-MOST_ACCEPTED : goal.returns-then-accepted-eq-MOST_ACCEPTED
 unfolding accepted
 returns-then-accepted-eq-MOST_ACCEPTED c =
-    let w = c.args.words.now in
-    by_last (goal.at.returns-then-accepted-eq-MOST_ACCEPTED c).After-held_count-held true (eqb c.held_count-held.result c.capacity-slots.result) (eq-eqb (accepted w) most_accepted c.if-accepted-eq-MOST_ACCEPTED.true) refl
+    let a = c.args in
+    let w = a.words.now in
+    tested (shape_of a.s) w a.n a.destination a.chunks c.nodes-count.result _ _ false false false false true _ c.nodes-count.ensures refl refl
+    (lt-leb c.nodes-count.result a.n (omega arith)) (lt-leb c.nodes-count.result a.destination (omega arith))
+    (cc) (ne_eqb a.n a.destination (omega arith)) (eq-eqb (accepted w) most_accepted (omega arith)) refl
+
+by_last : (c : After-held_count-held) (d e : Bool)
+    → leb c.nodes-count.result c.args.n ≡ false → leb c.nodes-count.result c.args.destination ≡ false
+    → wrong_chunks c.args.chunks ≡ false → eqb c.args.n c.args.destination ≡ false
+    → eqb (accepted c.args.words.now) most_accepted ≡ d
+    → eqb c.held_count-held.result c.capacity-slots.result ≡ e
+    → refuse d count_spent (refuse e injection_full 0)
+    ≡ offer_rules (shape_of c.args.s) c.args.words.now c.args.n c.args.destination c.args.chunks
+by_last c d e ea eb ek eo ed ee =
+    let a = c.args in
+    tested (shape_of a.s) a.words.now a.n a.destination a.chunks c.nodes-count.result c.held_count-held.result c.capacity-slots.result false false false false d e
+    c.nodes-count.ensures (c.held_count-held.ensures ∙ sym (taken-length (shape_of a.s) a.words.now a.n injection_queue refl)) c.capacity-slots.ensures
+    ea eb ek eo ed ee
 
 pub returns-then-held-slots : goal.returns-then-held-slots
 unfolding accepted
 returns-then-held-slots c =
-    let w = c.args.words.now in
-    by_last (goal.at.returns-then-held-slots c).After-held_count-held false true (ne_eqb (accepted w) most_accepted c.if-accepted-eq-MOST_ACCEPTED.false) (eq-eqb c.held_count-held.result c.capacity-slots.result c.if-held-slots.true)
+    let a = c.args in
+    let w = a.words.now in
+    by_last (goal.at.returns-then-held-slots c).After-held_count-held false true
+    (lt-leb c.nodes-count.result a.n (omega arith)) (lt-leb c.nodes-count.result a.destination (omega arith)) (cc) (ne_eqb a.n a.destination (omega arith))
+    (ne_eqb (accepted w) most_accepted (omega arith)) (eq-eqb c.held_count-held.result c.capacity-slots.result (omega arith))
 
 pub returns : goal.returns
 unfolding accepted
 returns c =
-    let w = c.args.words.now in
-    by_last (goal.at.returns c).After-held_count-held false false (ne_eqb (accepted w) most_accepted c.if-accepted-eq-MOST_ACCEPTED.false) (ne_eqb c.held_count-held.result c.capacity-slots.result c.if-held-slots.false)
+    let a = c.args in
+    let w = a.words.now in
+    by_last (goal.at.returns c).After-held_count-held false false
+    (lt-leb c.nodes-count.result a.n (omega arith)) (lt-leb c.nodes-count.result a.destination (omega arith)) (cc) (ne_eqb a.n a.destination (omega arith))
+    (ne_eqb (accepted w) most_accepted (omega arith)) (ne_eqb c.held_count-held.result c.capacity-slots.result (omega arith))
