@@ -151,7 +151,7 @@ own_places() { # CRATE LOG
                 owner = substr(path, 1, RSTART - 1)
                 gsub(/\//, "::", owner)
             }
-            if (says ~ /was not admitted|was not checked|is rejected because/ || says ~ at_limit) next
+            if (says ~ /was not admitted|(was|were) not checked|is rejected because/ || says ~ at_limit) next
             if (says ~ /has no `|has no field|is not in scope|is no name/) {
                 gsub(/\//, ".", path)
                 tell($1 ~ /^(\.\/)?specs\// ? "?" path : "!" (owner == "" ? path : owner))
