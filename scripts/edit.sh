@@ -133,13 +133,16 @@ try_edit() { # CRATE LABEL
 #   that is open there, whose answer may stand under another name; nor an error where the parts of a proof by hand are put together (`NAME-spec`).
 #   A function or module with such a line is printed too, behind a `!`, and a file of specs/ that cannot be read behind a `?`.
 own_places() { # CRATE LOG
-    LC_ALL=C awk -v "crate=$1" -v "at_limit=$at_limit" '
+    # A message may go on in lines that begin with blanks: they are read with its first line, behind a tab.
+    LC_ALL=C awk '{ if (/^  /) it = it "\t" $0; else { if (NR > 1) print it; it = $0 } } END { print it }' "$2" |
+        LC_ALL=C awk -v "crate=$1" -v "at_limit=$at_limit" '
         function tell(place) { if (!(place in told)) { told[place] = 1; print place } }
         /^(\.\/)?(proofs|specs)\/[^ ]*\.antt:[0-9]+:[0-9]+: error: / {
             path = $1
             sub(/^(\.\/)?(proofs|specs)\//, "", path)
             sub(/\.antt:.*/, "", path)
-            says = $0
+            whole = says = $0
+            sub(/\t.*/, "", says)
             sub(/^[^ ]* error: /, "", says)
             name = ""
             if (match(says, /^`[^`]*`: /)) {
@@ -152,7 +155,7 @@ own_places() { # CRATE LOG
                 gsub(/\//, "::", owner)
             }
             if (says ~ /was not admitted|(was|were) not checked|is rejected because/ || says ~ at_limit) next
-            if (says ~ /has no `|has no field|is not in scope|is no name/) {
+            if (whole ~ /has no `|has no field|is not in scope|is no name/) {
                 gsub(/\//, ".", path)
                 tell($1 ~ /^(\.\/)?specs\// ? "?" path : "!" (owner == "" ? path : owner))
                 misfit[owner] = 1
@@ -182,5 +185,5 @@ own_places() { # CRATE LOG
             }
             if ($0 ~ /: no proof: / && $0 !~ /: no proof: it calls .* not proved/) tell(owner)
             opened = 0
-        }' "$2"
+        }'
 }
