@@ -126,7 +126,7 @@ try_edit() { # CRATE LABEL
 }
 
 # The places at which the log has a refusal of their own, in the words of an edit's first line: functions (make, outs::moved), parts of their proofs
-# (remove/loop-again) and laws (Cases.kept_cases). No refusal of its own is
+# (remove/loop-i-preserved) and laws (Cases.kept_cases). No refusal of its own is
 # - what only follows from another ('was not admitted', 'was not checked', 'is rejected because', 'it calls .., which is not proved'), or is no verdict
 #   but a limit of the prover;
 # - what says that a proof names what is no longer there ('has no `..`', 'has no field', 'is not in scope'), nor, in a function with such a line, a goal
