@@ -1,17 +1,14 @@
 -- What the answer of each call tells whose answer is an enum: its number, the refusal or 0, and each of its values, where the call is refused
 -- and where it is not. All of it is read by the definitions at the end of Calls.antt. A record for each call, with the law that the call's answer
 -- keeps it. Order: an answer by its refusal; Move; Credit; First; Drain. Assumes nothing.
-use Rattle.std.specs.Prelude.{◌≡◌, refl, Bool, true, false, cond, List, [], ◌∷◌, ℕ, zero, suc, eqb}
+use Rattle.std.specs.Prelude.{◌≡◌, refl, Bool, true, false, cond, List, [], ◌∷◌, ℕ, zero, suc, eqb, Option, None, Some, Ok}
 use Rattle.std.proofs.Common.{suc-ne-zero, ne_eqb}
-use Rattle.network.specs.declared.Moved.{Moved}
-use Rattle.network.specs.declared.Found.{Found}
+use Rattle.network.specs.declared.NamedMove.{NamedMove}
 use Rattle.network.specs.Layout.{shape}
 use Rattle.network.specs.Routes.{deliver}
 use Rattle.network.specs.Refusals.{network_refusal, move_refusal, credit_refusal}
 use Rattle.network.specs.Calls.{unless_refused, move_answer, credit_answer, first_move, first_answer, drain_answer}
 use Rattle.network.specs.Calls.{moved_number, moved_packets, credit_number, credit_free, found_number, found_move, drained_number, drained_moves, drained_delivered, drained_stop}
-use Rattle.network.specs.FirstLaws.{Finds, nothing, named}
-use Rattle.network.proofs.FirstLaws.{first_finds}
 use Rattle.network.specs.Answers.{MoveTells, CreditTells, FirstTells, DrainTells}
 
 -- what is read of an answer, where the call is refused and where it is not
@@ -29,15 +26,11 @@ pub move-tells : (w : List ℕ) (n q o : ℕ) → MoveTells w n q o (move_answer
 unfolding move_answer moved_number moved_packets
 move-tells w n q o =
     record {
-      number = number_of moved_number (move_refusal w n q o) (no_number (eqb o deliver) _) refl;
+      number = number_of moved_number (move_refusal w n q o) refl refl;
       packets = by-refusal moved_packets (move_refusal w n q o) (if-delivered (eqb o deliver) _) refl;
     }
   where
-    no_number : (b : Bool) (p : ℕ) → moved_number (cond b (Moved.Delivered p) Moved.Passed) ≡ 0
-    no_number true p = refl
-    no_number false p = refl
-
-    if-delivered : (b : Bool) (p : ℕ) → moved_packets (cond b (Moved.Delivered p) Moved.Passed) ≡ cond b (p ∷ []) []
+    if-delivered : (b : Bool) (p : ℕ) → moved_packets (Ok (cond b (Some p) None)) ≡ cond b (p ∷ []) []
     if-delivered true p = refl
     if-delivered false p = refl
 
@@ -53,13 +46,9 @@ pub first-tells : (w : List ℕ) → FirstTells w (first_answer w)
 unfolding first_answer found_number found_move
 first-tells w =
     record {
-      number = number_of found_number (network_refusal w) (no_number (first_move (shape w) w) (first_finds (shape w) w)) refl;
+      number = number_of found_number (network_refusal w) refl refl;
       move = by-refusal found_move (network_refusal w) refl refl;
     }
-  where
-    no_number : {P : ℕ → ℕ → ℕ → Type 0} (f : Found) → Finds P f → found_number f ≡ 0
-    no_number f nothing = refl
-    no_number f (named p) = refl
 
 pub drain-tells : (w : List ℕ) (budget room : ℕ) → DrainTells w budget room (drain_answer w budget room)
 unfolding drain_answer drained_number drained_moves drained_delivered drained_stop

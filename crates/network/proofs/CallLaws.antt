@@ -1,13 +1,12 @@
 -- What Make, Offer and Move leave in the words, said of the calls themselves and of whatever words they are lent. Order: the torus of a network; what an
 -- offer needs; what Move and Offer do where they are not refused; a queue's order; the words behind the last node; what Credit tells; what fixes the words.
 -- Assumes nothing.
-use Rattle.std.specs.Prelude.{◌≡◌, refl, ◌≢◌, List, [], ◌∷◌, ◌++◌, ℕ, ◌+◌, ◌*◌, ◌<◌, ◌≤◌, T, leb, eqb, length, take, drop, replicate}
+use Rattle.std.specs.Prelude.{◌≡◌, refl, ◌≢◌, List, [], ◌∷◌, ◌++◌, ℕ, ◌+◌, ◌*◌, ◌<◌, ◌≤◌, T, leb, eqb, length, take, drop, replicate, Ok}
 use Rattle.std.proofs.Common.{ap, sym, ◌∙◌, arith, eq-eqb, ne_eqb, leb-false, length-append, drop_at}
 use mathlib.Core.Bool.{Bool, true, false, not, ◌||◌}
 use Rattle.std.proofs.Math.Decide.{ℕ_discrete}
 use Rattle.std.proofs.lemmas.Bool.{eqb-false}
 use Rattle.std.proofs.lemmas.List.{length-replicate}
-use Rattle.network.specs.declared.Credit.{Credit}
 use Rattle.network.specs.Sizes.{Shape, within, nodes, queues, dimensions, direction_of, injection_queue, most_chunks, capacity}
 use Rattle.network.proofs.SizesLaws.{between-of}
 use Rattle.network.specs.TorusLaws.{Torus}
@@ -137,7 +136,7 @@ offer-rest w n dest tag chunks = go (ℕ_discrete (offer_refusal w n dest chunks
 -- What Credit tells -----------------------------------------------------------------------------------------------------------------------
 
 -- R89, R116: what Credit tells to be free and what is taken of the target make up its capacity. No load is above it, so nothing is cut off
-pub credit-exactly : (w : List ℕ) (n o free : ℕ) → credit_answer w n o ≡ Credit.Free free
+pub credit-exactly : (w : List ℕ) (n o free : ℕ) → credit_answer w n o ≡ Ok free
     → free + taken (shape w) w (target (shape w) n o) o ≡ capacity (shape w) o
 unfolding credit_number credit_free credit_refusal credit_rules target
 credit-exactly w n o free e =

@@ -3,7 +3,7 @@
 -- network, a row like `k5-every` beside it says so of each one (K2 and K8 say it at once).
 -- Order: how the rows' networks are written down (and in ByHand.antt); what the rows about every network speak of; the rows; what proves them; the theorem.
 -- Assumes nothing.
-use Rattle.std.specs.Prelude.{◌≡◌, ◌⊎◌, ◌≢◌, ◌↔◌, Bool, true, not, cond, ◌&&◌, ◌||◌, ltb, eqb, pos, negsuc, length, get_or, take, drop, set, replicate}
+use Rattle.std.specs.Prelude.{◌≡◌, ◌⊎◌, ◌≢◌, ◌↔◌, Bool, true, not, cond, ◌&&◌, ◌||◌, ltb, eqb, pos, negsuc, length, get_or, take, drop, set, replicate, Some, Ok}
 use Rattle.std.proofs.Math.Path.{refl}
 use Rattle.std.proofs.Common.{ap, ap₂, sym, ◌∙◌, inl, inr, le_trans, mod-eq_of_lt, div-lt_iff_lt-mul, mul_comm, mul-one, add_comm, ltb→lt, lt→ltb, le→leb, eqb→eq, length-take}
 use Rattle.std.proofs.Math.Bool.{false}
@@ -18,7 +18,6 @@ use Rattle.base.specs.Tests.{all_below, some_below, all_of, elem, EachBelow, all
 use Rattle.base.proofs.Tests.{each_at, T_true, T_false, passed?, and_l, and_r, clauses-by, or_l, or_r, or-e, all-by}
 use Rattle.base.specs.Sums.{sum_below}
 use Rattle.base.specs.Digits.{product, digit}
-use Rattle.network.specs.declared.Moved.{Moved}
 use Rattle.network.specs.declared.Stop.{Stop}
 use Rattle.network.specs.declared.Drained.{Drained}
 use Rattle.network.specs.declared.Sizes.{Sizes}
@@ -32,7 +31,7 @@ use Rattle.network.specs.Check.{packet_fits, queues_fit, ring_has_room, rings_ha
 use Rattle.network.specs.Routes.{deliver, in_order, routes, free_load}
 use Rattle.network.proofs.SelectionLaws.{selection-routes}
 use Rattle.network.specs.Refusals.{refuse, no_route, no_slot, no_bubble, network_refusal, make_refusal, offer_rules, offer_refusal, flow_rules, move_rules, move_refusal}
-use Rattle.network.specs.Calls.{Progress, move_of, after_offer, offer_words, move_words, move_answer, stopped, drain_from, drained, drain_ledger, drain_answer}
+use Rattle.network.specs.Calls.{Progress, move_of, after_offer, offer_words, move_words, move_answer, stopped, drain_from, drained, drain_ledger, drain_answer, drain_of, Answer}
 use Rattle.network.proofs.PacketLaws.{hops-hop-le, arrived-distance, spare-is, upper_spare-is}
 use Rattle.network.specs.TorusLaws.{Torus}
 use Rattle.network.proofs.TorusLaws.{size-pos, along-lt, in_range-torus, in_range-size, in_range-nodes, sizes-torus}
@@ -193,7 +192,7 @@ not-onward q p o done ne t = go (route-of q p o t)
 
 -- K10
 without-budget : (w : List ℕ) (room : ℕ) → network_refusal w ≡ 0
-    → drain_answer w 0 room ≡ Drained.Stopped 0 0 (cond (eqb (packets_held (shape w) w) 0) Stop.Emptied Stop.Spent)
+    → drain_answer w 0 room ≡ Ok (drain_of 0 0 (cond (eqb (packets_held (shape w) w) 0) Stop.Emptied Stop.Spent))
 unfolding drain_answer drained drain_from stopped
 without-budget w room e = rw (eq-eqb (network_refusal w) 0 e) (go (eqb (packets_held (shape w) w) 0))
   where
@@ -201,7 +200,7 @@ without-budget w room e = rw (eq-eqb (network_refusal w) 0 e) (go (eqb (packets_
     at_once none = cond none (stopped w Stop.Emptied) (stopped w Stop.Spent)
 
     go : (none : Bool)
-        → Drained.Stopped (length (at_once none).moves) (length (at_once none).deliveries) (at_once none).stop ≡ Drained.Stopped 0 0 (cond none Stop.Emptied Stop.Spent)
+        → ◌≡◌ {A = Answer Drained} (Ok (drain_of (length (at_once none).moves) (length (at_once none).deliveries) (at_once none).stop)) (Ok (drain_of 0 0 (cond none Stop.Emptied Stop.Spent)))
     go true = refl
     go false = refl
 
@@ -342,7 +341,7 @@ own-node-only : (w : List ℕ) (n destination chunks : ℕ) → network_refusal 
     → (offer_refusal w n destination chunks ≡ 14) ↔ ((n < nodes (shape w)) × (n ≡ destination) × T (within 1 8 chunks))
 own-node-only w n destination chunks e = rw (offer-by-rules w n destination chunks e) (own-node-exactly (shape w) w n destination chunks)
 
-delivered-here : (w : List ℕ) (n q : ℕ) → Standing w n q → hops_left (head_of w n q) ≡ 0 → move_answer w n q deliver ≡ Moved.Delivered (head_of w n q)
+delivered-here : (w : List ℕ) (n q : ℕ) → Standing w n q → hops_left (head_of w n q) ≡ 0 → move_answer w n q deliver ≡ Ok (Some (head_of w n q))
 unfolding move_answer
 delivered-here w n q s z =
     let permitted : move_refusal w n q deliver ≡ 0 =
@@ -419,7 +418,7 @@ unfolding computed
 on-its-way = refl
 
 -- K12, held: whatever budget is left after it; and in every queue
-one-move : (budget room : ℕ) → drain_answer alone (suc budget) (suc room) ≡ Drained.Stopped 1 1 Stop.Emptied
+one-move : (budget room : ℕ) → drain_answer alone (suc budget) (suc room) ≡ Ok (drain_of 1 1 Stop.Emptied)
 unfolding computed
 one-move zero room = refl
 one-move (suc budget) room = refl
@@ -439,7 +438,7 @@ in-every-passes : network_refusal in-every-queue ≡ 0
 unfolding computed
 in-every-passes = refl
 
-thirteen-told : (drain_answer in-every-queue 13 13 ≡ Drained.Stopped 13 13 Stop.Emptied)
+thirteen-told : (drain_answer in-every-queue 13 13 ≡ Ok (drain_of 13 13 Stop.Emptied))
     × (drain_ledger in-every-queue 13 (replicate 13 0) ≡ replicate 13 (here 0))
 unfolding drain_answer drain_ledger in_order
 thirteen-told = (rw (in-every-passes, thirteen-moves) refl, rw (in-every-passes, thirteen-moves) refl)

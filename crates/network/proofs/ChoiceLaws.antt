@@ -1,35 +1,36 @@
 -- First names the earliest permitted move, and none exactly where no move is permitted: theorem `first-right`, for all words.
 -- Order: where a search took its move from; the outputs before the one that is named; what stands before it in the whole search; two permitted moves
 -- compared; the theorem. Assumes nothing.
-use Rattle.std.specs.Prelude.{◌≡◌, ◌⊎◌, ◌≢◌, ℕ, zero, suc, ◌+◌, ◌<◌, ◌≤◌, T, eqb}
+use Rattle.std.specs.Prelude.{◌≡◌, ◌⊎◌, ◌≢◌, ℕ, zero, suc, ◌+◌, ◌<◌, ◌≤◌, T, eqb, Option, None, Some, Err, Ok}
 use Rattle.std.proofs.Math.Path.{refl, sym}
 use Rattle.std.proofs.Common.{ap, ap₂, ◌∙◌, subst, inl, inr, arith, eq-eqb, ne_eqb, eqb→eq}
+use Rattle.std.specs.Option.{option_map_or}
 use mathlib.Core.List.{List, [], ◌∷◌}
 use Rattle.std.proofs.Math.Nat.{suc-ne-zero, suc_inj}
 use Rattle.std.proofs.Math.Decide.{ℕ_discrete, dec_lt}
 use Rattle.std.proofs.Math.ListN.{length}
 use Rattle.base.specs.Tests.{elem}
 use Rattle.base.proofs.Tests.{or-e}
-use Rattle.network.specs.declared.Found.{Found}
+use Rattle.network.specs.declared.NamedMove.{NamedMove}
 use Rattle.network.specs.Sizes.{Shape, nodes, queues}
 use Rattle.network.specs.Layout.{shape, held}
 use Rattle.network.specs.Routes.{routes}
 use Rattle.network.specs.Refusals.{network_refusal, move_rules, move_refusal, head}
 use Rattle.network.specs.RefusalLaws.{Permitted}
 use Rattle.network.proofs.RefusalLaws.{permitted-of, permitted-by, neither, else_by-zero}
-use Rattle.network.specs.Calls.{move_of, first_output, first_in_queue, or_else, search, first_in_node, first_move, first_answer, NamedMove, found_move}
+use Rattle.network.specs.Calls.{move_of, first_output, first_in_queue, or_else, search, first_in_node, first_move, first_answer, found_move}
 use Rattle.network.specs.Choices.{Permits, place_among, route_place, Earlier, by-node, by-queue, by-route, FirstRight}
 use Rattle.network.specs.FirstLaws.{Finds, nothing, named, Its}
 use Rattle.network.proofs.FirstLaws.{search-finds, finds-map, queue-finds, queue-nothing, node-nothing, first_finds, first-nothing}
 use Rattle.network.specs.ChoiceLaws.{At, Foremost, Allowed}
 
-at_once : (f : ℕ → Found) (i count : ℕ) (r : Found) → f i ≡ r → At f i (suc count) r
+at_once : (f : ℕ → Option NamedMove) (i count : ℕ) (r : Option NamedMove) → f i ≡ r → At f i (suc count) r
 at_once f i count r h = record { place = i; from = omega arith; to = omega arith; here = h; before = λ j a b. absurd (outside j a b) }
   where
     outside : (j : ℕ) → i ≤ j → j < i → ⊥
     outside j a b = omega arith
 
-at-later : (f : ℕ → Found) (i count : ℕ) (r : Found) → f i ≡ Found.Nothing → At f (suc i) count r → At f i (suc count) r
+at-later : (f : ℕ → Option NamedMove) (i count : ℕ) (r : Option NamedMove) → f i ≡ None → At f (suc i) count r → At f i (suc count) r
 at-later f i count r h a =
     let to : a.place < suc i + count = a.to in
     let from : suc i ≤ a.place = a.from in
@@ -41,44 +42,43 @@ at-later f i count r h a =
       before = λ j x z. none j x z (ℕ_discrete i j);
     }
   where
-    none : (j : ℕ) → i ≤ j → j < a.place → Dec (i ≡ j) → f j ≡ Found.Nothing
+    none : (j : ℕ) → i ≤ j → j < a.place → Dec (i ≡ j) → f j ≡ None
     none j x z (yes same) = rw (← same) h
     none j x z (no apart) = a.before j (omega arith) z
 
-search-found : (f : ℕ → Found) (i count : ℕ) (r : Found) → search f i count ≡ r → r ≢ Found.Nothing → At f i count r
+search-found : (f : ℕ → Option NamedMove) (i count : ℕ) (r : Option NamedMove) → search f i count ≡ r → r ≢ None → At f i count r
 unfolding search or_else
 search-found f i zero r e ne = absurd (ne (sym e))
 search-found f i (suc count) r e ne = go (f i) refl e (λ x. search-found f (suc i) count r x ne)
   where
-    go : (x : Found) → f i ≡ x → or_else x (search f (suc i) count) ≡ r → (search f (suc i) count ≡ r → At f (suc i) count r) → At f i (suc count) r
-    go Found.Nothing h y later = at-later f i count r h (later y)
-    go (Found.Refused x) h y later = at_once f i count r (h ∙ y)
-    go (Found.Move n q o) h y later = at_once f i count r (h ∙ y)
+    go : (x : Option NamedMove) → f i ≡ x → or_else x (search f (suc i) count) ≡ r → (search f (suc i) count ≡ r → At f (suc i) count r) → At f i (suc count) r
+    go None h y later = at-later f i count r h (later y)
+    go (Some m) h y later = at_once f i count r (h ∙ y)
 
-move-something : {n q o : ℕ} → Found.Move n q o ≢ Found.Nothing
+move-something : {n q o : ℕ} → Some (move_of n q o) ≢ None
 move-something {n} {q} {o} e = let z : ◌≡◌ {A = ℕ} 0 1 = cc in suc-ne-zero 0 (sym z)
 
 -- a move that a queue, or a node, is asked for is one of its own
-its_own : (P : ℕ → ℕ → ℕ → Type 0) (f : Found) (m r p : ℕ) → Finds P f → f ≡ Found.Move m r p → P m r p
+its_own : (P : ℕ → ℕ → ℕ → Type 0) (f : Option NamedMove) (m r p : ℕ) → Finds P f → f ≡ Some (move_of m r p) → P m r p
 its_own P f m r p nothing e = absurd (move-something (sym e))
 its_own P f m r p (named {n} {q} {o} h) e =
-    let a : n ≡ m = cc in
-    let b : q ≡ r = cc in
-    let c : o ≡ p = cc in
+    let a : n ≡ m = ap (λ (x : Option NamedMove). option_map_or (λ k. k.node) x 0) e in
+    let b : q ≡ r = ap (λ (x : Option NamedMove). option_map_or (λ k. k.queue) x 0) e in
+    let c : o ≡ p = ap (λ (x : Option NamedMove). option_map_or (λ k. k.output) x 0) e in
     subst (λ (x : ℕ). P x r p) a (subst (λ (x : ℕ). P n x p) b (subst (λ (x : ℕ). P n q x) c h))
 
 -- the outputs before the one that is named are refused
-output-first : (S : Shape) (w : List ℕ) (n q o : ℕ) (os : List ℕ) → first_output S w n q os ≡ Found.Move n q o
+output-first : (S : Shape) (w : List ℕ) (n q o : ℕ) (os : List ℕ) → first_output S w n q os ≡ Some (move_of n q o)
     → (p : ℕ) → place_among p os < place_among o os → move_rules S w n q p ≢ 0
 unfolding first_output place_among
 output-first S w n q o [] e p l = absurd (move-something (sym e))
 output-first S w n q o (x ∷ os) e p l = go (ℕ_discrete (move_rules S w n q x) 0) (ℕ_discrete o x) (ℕ_discrete p x) (λ e' l'. output-first S w n q o os e' p l')
   where
     named_here : move_rules S w n q x ≡ 0 → x ≡ o
-    named_here z = let h : Found.Move n q x ≡ Found.Move n q o = (rw (eq-eqb (move_rules S w n q x) 0 z) at e) in cc
+    named_here z = let h : Some (move_of n q x) ≡ Some (move_of n q o) = (rw (eq-eqb (move_rules S w n q x) 0 z) at e) in ap (λ (y : Option NamedMove). option_map_or (λ k. k.output) y 0) h
 
     go : Dec (move_rules S w n q x ≡ 0) → Dec (o ≡ x) → Dec (p ≡ x)
-        → (first_output S w n q os ≡ Found.Move n q o → place_among p os < place_among o os → move_rules S w n q p ≢ 0) → move_rules S w n q p ≢ 0
+        → (first_output S w n q os ≡ Some (move_of n q o) → place_among p os < place_among o os → move_rules S w n q p ≢ 0) → move_rules S w n q p ≢ 0
     go r (yes same) s later = absurd (none (rw (eq-eqb o x same) at l))
       where
         none : {k : ℕ} → k < 0 → ⊥
@@ -92,14 +92,14 @@ output-first S w n q o (x ∷ os) e p l = go (ℕ_discrete (move_rules S w n q x
         less h = omega arith
 
 -- a search through places, each of which finds moves of its own: nothing is found before the place of the move that is named
-search-first : (f : ℕ → Found) (count : ℕ) (own : ℕ → ℕ → ℕ → ℕ) (n q o : ℕ) → search f 0 count ≡ Found.Move n q o
-    → ((i : ℕ) → Finds (λ m r p. own m r p ≡ i) (f i)) → (f (own n q o) ≡ Found.Move n q o) × ((j : ℕ) → j < own n q o → f j ≡ Found.Nothing)
+search-first : (f : ℕ → Option NamedMove) (count : ℕ) (own : ℕ → ℕ → ℕ → ℕ) (n q o : ℕ) → search f 0 count ≡ Some (move_of n q o)
+    → ((i : ℕ) → Finds (λ m r p. own m r p ≡ i) (f i)) → (f (own n q o) ≡ Some (move_of n q o)) × ((j : ℕ) → j < own n q o → f j ≡ None)
 search-first f count own n q o e finds =
-    let a : At f 0 count (Found.Move n q o) = search-found f 0 count (Found.Move n q o) e move-something in
+    let a : At f 0 count (Some (move_of n q o)) = search-found f 0 count (Some (move_of n q o)) e move-something in
     let same : own n q o ≡ a.place = its_own (λ m r p. own m r p ≡ a.place) (f a.place) n q o (finds a.place) a.here in
     (ap f same ∙ a.here, λ j l. a.before j (omega arith) (omega arith))
 
-first-foremost : (S : Shape) (w : List ℕ) (n q o : ℕ) → first_move S w ≡ Found.Move n q o → Foremost S w n q o
+first-foremost : (S : Shape) (w : List ℕ) (n q o : ℕ) → first_move S w ≡ Some (move_of n q o) → Foremost S w n q o
 unfolding first_move first_in_node
 first-foremost S w n q o e =
     let (node, nodes-before) = search-first (λ m. first_in_node S w m) (nodes S) (λ m r p. m) n q o e (λ m. node-own m) in
@@ -170,13 +170,10 @@ none-earlier w m F e (by-route x y l) P =
     (subst (λ (n : ℕ). move_rules (shape w) w n e.queue e.output ≡ 0) x (permitted-by (shape w) w e.node e.queue e.output P)))
 
 -- an answer that names a move
-pub names : (f : Found) (m : NamedMove) → found_move f ≡ m ∷ [] → f ≡ Found.Move m.node m.queue m.output
+pub names : (f : Option NamedMove) (m : NamedMove) → found_move (Ok f) ≡ m ∷ [] → f ≡ Some (move_of m.node m.queue m.output)
 unfolding found_move
-names (Found.Refused r) m e = absurd (suc-ne-zero 0 (sym (ap length e)))
-names Found.Nothing m e = absurd (suc-ne-zero 0 (sym (ap length e)))
-names (Found.Move n q o) m e =
-    let same : ◌≡◌ {A = NamedMove} (move_of n q o) m = cc in
-    λ i. Found.Move (same i).node (same i).queue (same i).output
+names None m e = absurd (suc-ne-zero 0 (sym (ap length e)))
+names (Some k) m e = let same : k ≡ m = cc in ap (λ (x : NamedMove). Some x) same
 
 module _ (w : List ℕ) where
   allowed : (m : NamedMove) → Permits w m → (network_refusal w ≡ 0) × Allowed w m
@@ -191,7 +188,7 @@ module _ (w : List ℕ) where
       else_by-zero (network_refusal w) (move_rules (shape w) w m.node m.queue m.output) z
       ∙ permitted-by (shape w) w m.node m.queue m.output P
 
-  searched : network_refusal w ≡ 0 → found_move (first_answer w) ≡ found_move (first_move (shape w) w)
+  searched : network_refusal w ≡ 0 → found_move (first_answer w) ≡ found_move (Ok (first_move (shape w) w))
   unfolding first_answer
   searched z = rw (eq-eqb (network_refusal w) 0 z)
 
@@ -206,7 +203,7 @@ module _ (w : List ℕ) where
       go : Dec (network_refusal w ≡ 0) → Permits w m × ((e : NamedMove) → Earlier w e m → Permits w e → ⊥)
       go (no ne) = absurd (suc-ne-zero 0 (ap length (sym h ∙ refused ne)))
       go (yes z) =
-          let f : first_move (shape w) w ≡ Found.Move m.node m.queue m.output = names (first_move (shape w) w) m (sym (searched z) ∙ h) in (
+          let f : first_move (shape w) w ≡ Some (move_of m.node m.queue m.output) = names (first_move (shape w) w) m (sym (searched z) ∙ h) in (
             permits m z (its_own (Permitted (shape w) w) (first_move (shape w) w) m.node m.queue m.output (first_finds (shape w) w) f),
             λ e l p. none-earlier w m (first-foremost (shape w) w m.node m.queue m.output f) e l (allowed e p).1,
           )
@@ -219,11 +216,11 @@ module _ (w : List ℕ) where
       z : network_refusal w ≡ 0
       z = (allowed m p).0
 
-      go : (f : Found) → first_move (shape w) w ≡ f → Finds (Permitted (shape w) w) f → found_move (first_answer w) ≡ m ∷ []
+      go : (f : Option NamedMove) → first_move (shape w) w ≡ f → Finds (Permitted (shape w) w) f → found_move (first_answer w) ≡ m ∷ []
       go f e nothing = absurd (first-nothing (shape w) w e m.node m.queue m.output (allowed m p).1)
       go f e (named {n} {q} {o} P) =
           let k : NamedMove = move_of n q o in
-          let found : found_move (first_answer w) ≡ k ∷ [] = searched z ∙ ap found_move e in
+          let found : found_move (first_answer w) ≡ k ∷ [] = searched z ∙ ap (λ (x : Option NamedMove). found_move (Ok x)) e in
           by k found (in_order w k m P (allowed m p).1) (permits k z P)
         where
           by : (k : NamedMove) → found_move (first_answer w) ≡ k ∷ [] → Earlier w k m ⊎ (Earlier w m k ⊎ (k ≡ m)) → Permits w k → found_move (first_answer w) ≡ m ∷ []
@@ -235,16 +232,16 @@ module _ (w : List ℕ) where
   unfolding found_move
   none_right h m p = go (first_move (shape w) w) refl (first_finds (shape w) w)
     where
-      go : (f : Found) → first_move (shape w) w ≡ f → Finds (Permitted (shape w) w) f → ⊥
+      go : (f : Option NamedMove) → first_move (shape w) w ≡ f → Finds (Permitted (shape w) w) f → ⊥
       go f e nothing = first-nothing (shape w) w e m.node m.queue m.output (allowed m p).1
       go f e (named {n} {q} {o} P) =
-          suc-ne-zero 0 (ap length (sym (ap found_move e) ∙ sym (searched (allowed m p).0) ∙ h))
+          suc-ne-zero 0 (ap length (sym (ap (λ (x : Option NamedMove). found_move (Ok x)) e) ∙ sym (searched (allowed m p).0) ∙ h))
 
   right-none : ((m : NamedMove) → Permits w m → ⊥) → found_move (first_answer w) ≡ []
   unfolding found_move
   right-none no_move = go (ℕ_discrete (network_refusal w) 0)
     where
-      by : network_refusal w ≡ 0 → (f : Found) → Finds (Permitted (shape w) w) f → found_move f ≡ []
+      by : network_refusal w ≡ 0 → (f : Option NamedMove) → Finds (Permitted (shape w) w) f → found_move (Ok f) ≡ []
       by z f nothing = refl
       by z f (named {n} {q} {o} P) = absurd (no_move (move_of n q o) (permits (move_of n q o) z P))
 

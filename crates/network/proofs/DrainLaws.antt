@@ -1,13 +1,13 @@
 -- What a Drain cannot go beyond, whatever the words are: its moves are at most the budget, its deliveries at most the room in the ledger.
 -- Order: one move more; the next move; a whole Drain; the nodes of its deliveries; its answer. Assumes nothing.
-use Rattle.std.specs.Prelude.{◌≡◌, Bool, cond, length}
+use Rattle.std.specs.Prelude.{◌≡◌, Bool, cond, length, Option, None, Some, Ok, Err}
 use Rattle.std.proofs.Math.Path.{refl, ap}
 use Rattle.std.proofs.Math.Bool.{true, false}
 use mathlib.Core.List.{List, [], ◌∷◌, ◌++◌}
 use Prim.Native.Nat.{ℕ, zero, suc, ◌+◌, ◌≤◌}
 use Rattle.std.proofs.Common.{arith, length-append}
 use Rattle.std.proofs.Math.Dec.{eqb}
-use Rattle.network.specs.declared.Found.{Found}
+use Rattle.network.specs.declared.NamedMove.{NamedMove}
 use Rattle.network.specs.declared.Stop.{Stop}
 use Rattle.network.specs.declared.Drained.{Drained}
 use Rattle.network.specs.Sizes.{Shape}
@@ -16,7 +16,7 @@ use Rattle.network.specs.Check.{packets_held}
 use Rattle.network.specs.Routes.{deliver}
 use Rattle.network.specs.Refusals.{network_refusal, head}
 use Rattle.network.specs.Run.{delivery_nodes}
-use Rattle.network.specs.Calls.{NamedMove, move_of, Delivery, Progress, after_move, first_move, stopped, one_more, deliver_next, move_next, drain_from, drained, drain_answer, drained_delivered}
+use Rattle.network.specs.Calls.{move_of, Delivery, Progress, after_move, first_move, stopped, one_more, deliver_next, move_next, drain_from, drained, drain_answer, drained_delivered, drain_of}
 use Rattle.network.specs.DrainLaws.{Within, Matched}
 
 within-stopped : (budget room : ℕ) (w : List ℕ) (why : Stop) → Within budget room (stopped w why)
@@ -39,15 +39,16 @@ module _ (S : Shape) (w : List ℕ) (budget : ℕ) (on : ℕ → List ℕ → Pr
       within_more budget room (suc room) (move_of n q deliver) (record { node = n; packet = head (held S w n q) } ∷ []) (on room (after_move S w n q deliver)) (omega arith)
       (rec room (after_move S w n q deliver))
 
-  within-next : (room : ℕ) (f : Found) → Within (suc budget) room (move_next S w room f on)
+  within-next : (room : ℕ) (f : Option NamedMove) → Within (suc budget) room (move_next S w room f on)
   unfolding move_next
-  within-next room (Found.Refused r) = within-stopped (suc budget) room w Stop.Emptied
-  within-next room Found.Nothing = within-stopped (suc budget) room w Stop.Emptied
-  within-next room (Found.Move n q o) = go (eqb o deliver)
+  within-next room None = within-stopped (suc budget) room w Stop.Emptied
+  within-next room (Some m) = go (eqb m.output deliver)
     where
-      go : (t : Bool) → Within (suc budget) room (cond t (deliver_next S w n q room on) (one_more (move_of n q o) [] (on room (after_move S w n q o))))
-      go true = within-delivery n q room
-      go false = within_more budget room room (move_of n q o) [] (on room (after_move S w n q o)) (omega arith) (rec room (after_move S w n q o))
+      go : (t : Bool) → Within (suc budget) room (cond t (deliver_next S w m.node m.queue room on) (one_more m [] (on room (after_move S w m.node m.queue m.output))))
+      go true = within-delivery m.node m.queue room
+      go false =
+          within_more budget room room m [] (on room (after_move S w m.node m.queue m.output)) (omega arith)
+          (rec room (after_move S w m.node m.queue m.output))
 
 pub drain-within : (S : Shape) (budget room : ℕ) (w : List ℕ) → Within budget room (drain_from S budget room w)
 unfolding drain_from
@@ -70,15 +71,15 @@ module _ (S : Shape) (w : List ℕ) (on : ℕ → List ℕ → Progress) (rec : 
   matched-delivery n q zero = refl
   matched-delivery n q (suc room) = ap (λ (ns : List ℕ). n ∷ ns) (rec room (after_move S w n q deliver))
 
-  matched-next : (room : ℕ) (f : Found) → Matched (move_next S w room f on)
+  matched-next : (room : ℕ) (f : Option NamedMove) → Matched (move_next S w room f on)
   unfolding move_next stopped one_more delivery_nodes
-  matched-next room (Found.Refused r) = refl
-  matched-next room Found.Nothing = refl
-  matched-next room (Found.Move n q o) = go (eqb o deliver) refl
+  matched-next room None = refl
+  matched-next room (Some m) = go (eqb m.output deliver) refl
     where
-      go : (t : Bool) → eqb o deliver ≡ t → Matched (cond t (deliver_next S w n q room on) (one_more (move_of n q o) [] (on room (after_move S w n q o))))
-      go true e = matched-delivery n q room
-      go false e = rw e (rec room (after_move S w n q o))
+      go : (t : Bool) → eqb m.output deliver ≡ t
+          → Matched (cond t (deliver_next S w m.node m.queue room on) (one_more m [] (on room (after_move S w m.node m.queue m.output))))
+      go true e = matched-delivery m.node m.queue room
+      go false e = rw e (rec room (after_move S w m.node m.queue m.output))
 
 pub drain-matched : (S : Shape) (budget room : ℕ) (w : List ℕ) → Matched (drain_from S budget room w)
 unfolding drain_from stopped delivery_nodes
@@ -106,6 +107,6 @@ delivered-within w budget room = go (eqb (network_refusal w) 0)
     r = drain_from (shape w) budget room w
 
     go : (b : Bool)
-        → drained_delivered (cond b (Drained.Stopped (length r.moves) (length r.deliveries) r.stop) (Drained.Refused (network_refusal w))) ≤ room
+        → drained_delivered (cond b (Ok (drain_of (length r.moves) (length r.deliveries) r.stop)) (Err (network_refusal w))) ≤ room
     go true = (drain-within (shape w) budget room w).few-deliveries
     go false = omega arith

@@ -1,9 +1,9 @@
 -- Moves that First names one after the other (FirstMoves.antt). Order: they are permitted moves; one of them, and more behind others; how a Drain begins and goes
 -- on. Assumes nothing.
-use Rattle.std.specs.Prelude.{◌≡◌, ◌≢◌, cond, List, [], ◌∷◌, ◌++◌, ℕ, suc, eqb, length}
+use Rattle.std.specs.Prelude.{◌≡◌, ◌≢◌, cond, List, [], ◌∷◌, ◌++◌, ℕ, suc, eqb, length, Option, Some, Ok}
 use Rattle.std.proofs.Common.{ap, sym, ◌∙◌, eq-eqb, ne_eqb}
 use Rattle.std.proofs.Math.Decide.{ℕ_discrete}
-use Rattle.network.specs.declared.Found.{Found}
+use Rattle.network.specs.declared.NamedMove.{NamedMove}
 use Rattle.network.specs.Sizes.{Shape}
 use Rattle.network.specs.Layout.{shape}
 use Rattle.network.proofs.LayoutLaws.{total-zero}
@@ -12,7 +12,7 @@ use Rattle.network.specs.Routes.{deliver}
 use Rattle.network.specs.Refusals.{network_refusal, move_rules, move_refusal}
 use Rattle.network.specs.RefusalLaws.{Permitted}
 use Rattle.network.proofs.RefusalLaws.{neither, permitted-of}
-use Rattle.network.specs.Calls.{NamedMove, move_of, Progress, after_move, move_words, found_move, first_move, first_answer, one_more, deliver_next, move_next, drain_from, drained}
+use Rattle.network.specs.Calls.{move_of, Progress, after_move, move_words, found_move, first_move, first_answer, one_more, deliver_next, move_next, drain_from, drained}
 use Rattle.network.specs.Choices.{Permits}
 use Rattle.network.proofs.ChoiceLaws.{names, first-right}
 use Rattle.network.specs.Run.{Leads}
@@ -33,13 +33,13 @@ named-after : (w : List ℕ) (m : NamedMove) → found_move (first_answer w) ≡
 unfolding move_words
 named-after w m h = rw (eq-eqb (move_refusal w m.node m.queue m.output) 0 (named-permits w m h))
 
-pub search-named : (w : List ℕ) (m : NamedMove) → network_refusal w ≡ 0 → first_move (shape w) w ≡ Found.Move m.node m.queue m.output
+pub search-named : (w : List ℕ) (m : NamedMove) → network_refusal w ≡ 0 → first_move (shape w) w ≡ Some (move_of m.node m.queue m.output)
     → found_move (first_answer w) ≡ m ∷ []
 unfolding first_answer found_move
-search-named w m z f = rw (eq-eqb (network_refusal w) 0 z) (ap found_move f)
+search-named w m z f = rw (eq-eqb (network_refusal w) 0 z) (ap (λ (x : Option NamedMove). found_move (Ok x)) f)
 
 named-search : (w : List ℕ) (m : NamedMove) → network_refusal w ≡ 0 → found_move (first_answer w) ≡ m ∷ []
-    → first_move (shape w) w ≡ Found.Move m.node m.queue m.output
+    → first_move (shape w) w ≡ Some (move_of m.node m.queue m.output)
 unfolding first_answer
 named-search w m z h = names (first_move (shape w) w) m (rw (eq-eqb (network_refusal w) 0 z) at h)
 
@@ -83,10 +83,10 @@ drain-begins w m budget room h = go (ℕ_discrete o deliver)
     on : ℕ → List ℕ → Progress
     on room' w' = drain_from S budget room' w'
 
-    next : (room' : ℕ) → drain_from S (suc budget) room' w ≡ move_next S w room' (Found.Move n q o) on
+    next : (room' : ℕ) → drain_from S (suc budget) room' w ≡ move_next S w room' (Some (move_of n q o)) on
     next room' =
         rw (ne_eqb (packets_held S w) 0 (held-some S w n q o (permitted-of S w n q o both.1)))
-        (ap (λ (x : Found). move_next S w room' x on) (named-search w m both.0 h))
+        (ap (λ (x : Option NamedMove). move_next S w room' x on) (named-search w m both.0 h))
 
     go : Dec (o ≡ deliver) → (drain_from S (suc budget) (cond (eqb o deliver) (suc room) room) w).moves ≡ m ∷ (drain_from S budget room (move_words w n q o)).moves
     go (yes e) =

@@ -1,6 +1,6 @@
 -- What each helper of Run.antt states, said without it, in the lists of InLists.antt. Order: a label counted; all that is held; what was handed out; a packet at
 -- at-destination; moves that lead from words to words; some move; ledgers. Assumes nothing.
-use Rattle.std.specs.Prelude.{◌≡◌, refl, ◌↔◌, Bool, cond, ◌&&◌, List, [], ◌∷◌, map, ℕ, suc, ◌+◌, ◌≤◌, min, T, eqb, length, get_or, take, drop}
+use Rattle.std.specs.Prelude.{◌≡◌, refl, ◌↔◌, Bool, cond, ◌&&◌, List, [], ◌∷◌, map, ℕ, suc, ◌+◌, ◌≤◌, min, T, eqb, length, get_or, take, drop, Some}
 use Rattle.std.proofs.Common.{ap, sym, ◌∙◌, add-zero, arith, eq-eqb, ne_eqb, eqb→eq, length-take, length-take-le}
 use Rattle.std.proofs.Math.Path.{fun_ext}
 use Rattle.std.proofs.Math.Decide.{ℕ_discrete}
@@ -13,12 +13,13 @@ use Rattle.base.specs.Joins.{join_below}
 use Rattle.base.proofs.Joins.{sum_of-join, length-join, sum_of-map}
 use Rattle.base.specs.Rearrangement.{one_if, count}
 use Rattle.base.proofs.Rearrangement.{count-sum}
+use Rattle.network.specs.declared.NamedMove.{NamedMove}
 use Rattle.network.specs.Sizes.{Shape, nodes, queues}
 use Rattle.network.specs.Packet.{label, destination}
 use Rattle.network.specs.Layout.{held, total}
 use Rattle.network.specs.Check.{packets_held}
 use Rattle.network.specs.Refusals.{move_refusal}
-use Rattle.network.specs.Calls.{NamedMove, Delivery, move_words, move_answer, moved_number}
+use Rattle.network.specs.Calls.{Delivery, move_words, move_answer, moved_number}
 use Rattle.network.proofs.Answers.{move-tells}
 use Rattle.network.specs.Choices.{Permits}
 use Rattle.network.specs.Run.{move, Ledger, outcome, run, Leads, is_labelled, held_with, handed_with, at_destination, SomeMove, LedgerKept, AllKept}

@@ -1,7 +1,7 @@
 -- Refusals as facts: a chain of tests gives 0 exactly when none of them applies. Order: one test and two chains; words that are a network;
 -- Offer's chunk number, and an offer to oneself; a permitted move. Assumes nothing.
-use Rattle.std.specs.Prelude.{◌≡◌, refl, ◌≢◌, ◌↔◌, List, ℕ, suc, ◌+◌, ◌<◌, ◌≤◌, T, leb, ltb, eqb, length}
-use Rattle.std.proofs.Common.{ap, ◌∙◌, arith, eq-eqb, ne_eqb, le-leb, le-ltb, ltb-false, leb-false, eqb→eq}
+use Rattle.std.specs.Prelude.{◌≡◌, refl, ◌≢◌, ◌↔◌, List, [], ◌∷◌, ℕ, suc, slice_index_or, ◌+◌, ◌<◌, ◌≤◌, T, leb, ltb, eqb, length}
+use Rattle.std.proofs.Common.{ap, sym, ◌∙◌, arith, eq-eqb, ne_eqb, le-leb, le-ltb, ltb-false, leb-false, eqb→eq}
 use mathlib.Core.Bool.{Bool, true, false, cond, not, ◌||◌}
 use native.Mathlib.Nat.{le_trans}
 use Rattle.std.proofs.Math.Decide.{ℕ_discrete}
@@ -16,7 +16,8 @@ use Rattle.network.specs.CheckLaws.{Network}
 use Rattle.network.proofs.CheckLaws.{network-of, network-by}
 use Rattle.network.specs.Routes.{routes, deliver, target, free_load, load_needed}
 use Rattle.network.proofs.RoutesLaws.{free-load-is, load-needed}
-use Rattle.network.specs.Refusals.{refuse, else_by, network_refusal, wrong_chunks, is_own_node, count_is_spent, injection_is_full, offer_rules, head, flow_rules, move_rules, short_store, wrong_size, no_network, no_such_node, no_such_queue, no_such_output, injection_full, count_spent, queue_empty, no_route, no_slot, no_bubble, own_node}
+use Rattle.network.specs.declared.Refusal.{Refusal}
+use Rattle.network.specs.Refusals.{refusal_number, refuse, else_by, network_refusal, wrong_chunks, is_own_node, count_is_spent, injection_is_full, offer_rules, head, flow_rules, move_rules, short_store, wrong_size, no_network, no_such_node, no_such_queue, no_such_output, injection_full, count_spent, queue_empty, no_route, no_slot, no_bubble, own_node}
 use Rattle.network.specs.RefusalLaws.{Permitted}
 
 -- a test that would refuse by k + 1 did not apply, and the later ones say 0
@@ -176,3 +177,61 @@ permitted-by S w n q o p =
     (passes (eqb (length (held S w n q)) 0) queue_empty _ (ne_eqb (length (held S w n q)) 0 p.holds)
     (passes (not (elem o (routes q (head (held S w n q))))) no_route _ (ap not (T_true (elem o (routes q (head (held S w n q)))) p.route))
     (flow-by S w n q o (head (held S w n q)) p.room)))))
+
+-- R160: no refusal has the number 0, and the numbers tell the refusals apart, so that an answer is known by what `numbered` says of it
+abbrev by_number : List Refusal
+by_number =
+    Refusal.ShortStore
+    ∷ Refusal.ShortStore
+    ∷ Refusal.WrongSize
+    ∷ Refusal.NoNetwork
+    ∷ Refusal.NoSuchNode
+    ∷ Refusal.NoSuchQueue
+    ∷ Refusal.NoSuchOutput
+    ∷ Refusal.InjectionFull
+    ∷ Refusal.CountSpent
+    ∷ Refusal.QueueEmpty
+    ∷ Refusal.NoRoute
+    ∷ Refusal.NoSlot
+    ∷ Refusal.NoBubble
+    ∷ Refusal.BadLine
+    ∷ Refusal.OwnNode
+    ∷ Refusal.ShortPage
+    ∷ []
+
+at-its-number : (r : Refusal) → slice_index_or by_number (refusal_number r) Refusal.ShortStore ≡ r
+at-its-number Refusal.ShortStore = refl
+at-its-number Refusal.WrongSize = refl
+at-its-number Refusal.NoNetwork = refl
+at-its-number Refusal.NoSuchNode = refl
+at-its-number Refusal.NoSuchQueue = refl
+at-its-number Refusal.NoSuchOutput = refl
+at-its-number Refusal.InjectionFull = refl
+at-its-number Refusal.CountSpent = refl
+at-its-number Refusal.QueueEmpty = refl
+at-its-number Refusal.NoRoute = refl
+at-its-number Refusal.NoSlot = refl
+at-its-number Refusal.NoBubble = refl
+at-its-number Refusal.BadLine = refl
+at-its-number Refusal.OwnNode = refl
+at-its-number Refusal.ShortPage = refl
+
+pub numbers-apart : (a b : Refusal) → refusal_number a ≡ refusal_number b → a ≡ b
+numbers-apart a b e = sym (at-its-number a) ∙ ap (λ (n : ℕ). slice_index_or by_number n Refusal.ShortStore) e ∙ at-its-number b
+
+pub number-positive : (r : Refusal) → 0 < refusal_number r
+number-positive Refusal.ShortStore = omega arith
+number-positive Refusal.WrongSize = omega arith
+number-positive Refusal.NoNetwork = omega arith
+number-positive Refusal.NoSuchNode = omega arith
+number-positive Refusal.NoSuchQueue = omega arith
+number-positive Refusal.NoSuchOutput = omega arith
+number-positive Refusal.InjectionFull = omega arith
+number-positive Refusal.CountSpent = omega arith
+number-positive Refusal.QueueEmpty = omega arith
+number-positive Refusal.NoRoute = omega arith
+number-positive Refusal.NoSlot = omega arith
+number-positive Refusal.NoBubble = omega arith
+number-positive Refusal.BadLine = omega arith
+number-positive Refusal.OwnNode = omega arith
+number-positive Refusal.ShortPage = omega arith

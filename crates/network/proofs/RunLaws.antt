@@ -9,9 +9,10 @@ use Rattle.std.proofs.Math.Decide.{ℕ_discrete}
 use Rattle.std.proofs.Math.ListN.{length, drop, length-append, length-drop}
 use Rattle.std.proofs.lemmas.List.{length-map}
 use Rattle.std.proofs.Math.Seq.{drop_at}
+use Rattle.network.specs.declared.NamedMove.{NamedMove}
 use Rattle.network.specs.Layout.{shape}
 use Rattle.network.specs.Refusals.{move_refusal, network_refusal, head}
-use Rattle.network.specs.Calls.{NamedMove, after_move, move_words, Delivery, drained, drain_ledger, drain_answer, drained_delivered}
+use Rattle.network.specs.Calls.{after_move, move_words, Delivery, drained, drain_ledger, drain_answer, drained_delivered}
 use Rattle.network.proofs.DrainLaws.{drain-within, drain-matched}
 use Rattle.network.specs.Choices.{Permits}
 use Rattle.network.specs.Run.{Leads, Call, move, drain, outcome, run, Ledger, at_nodes, ledger_of, words_written, LedgerKept, AllKept}

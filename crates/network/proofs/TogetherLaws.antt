@@ -16,6 +16,7 @@ use Rattle.base.specs.Rearrangement.{one_if, count, Rearranged}
 use Rattle.base.proofs.Rearrangement.{count_same, count-other, count_map, count-flat, rearranged-few, rearranged-sum, rearranged-length, rearranged-map, rearranged-flat}
 use Rattle.base.specs.Different.{all_different}
 use Rattle.base.proofs.Different.{different-exactly, different-front, different-behind, different-rearranged}
+use Rattle.network.specs.declared.NamedMove.{NamedMove}
 use Rattle.network.specs.Sizes.{Shape, size, nodes, queues, directions, direction_of, dimension_of}
 use Rattle.network.specs.Packet.{hop}
 use Rattle.network.specs.Torus.{along, neighbour}
@@ -29,7 +30,6 @@ use Rattle.network.specs.Routes.{deliver, target}
 use Rattle.network.proofs.RoutesLaws.{free-load-fewer}
 use Rattle.network.specs.Refusals.{head}
 use Rattle.network.specs.RefusalLaws.{Permitted}
-use Rattle.network.specs.Calls.{NamedMove}
 use Rattle.network.specs.AfterLaws.{hopped, deliveries, NotTarget, MoveMade, Role, is-source, is-target, is-neither}
 use Rattle.network.proofs.AfterLaws.{kept_then, ahead, role}
 use Rattle.network.specs.Together.{Place, queue_at, same_place?, source, targets, sources, all_targets, queues_differ, sources_differ, targets_differ, Apart, output_named, outputs_differ, same_move?, brought, newcomers, held_after, deliveries_among, HeaderAfter}

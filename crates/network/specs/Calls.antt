@@ -1,9 +1,7 @@
 -- The calls (RULES R90 to R134): what each answers and what it leaves in the lent words, refused or not. `w` is the words at the call.
 -- Order: Make, Check, Offer, Move, Credit, Look, First, Drain; then the number and the values of each case of an answer. Assumes nothing.
-use Rattle.std.specs.Prelude.{cond, List, [], ◌∷◌, ◌++◌, map, ℕ, zero, suc, ◌+◌, ◌*◌, eqb, ℤ, length, drop, replicate}
-use Rattle.network.specs.declared.Moved.{Moved}
-use Rattle.network.specs.declared.Credit.{Credit}
-use Rattle.network.specs.declared.Found.{Found}
+use Rattle.std.specs.Prelude.{cond, List, [], ◌∷◌, ◌++◌, map, ℕ, zero, suc, ◌+◌, ◌*◌, eqb, ℤ, length, drop, replicate, Option, None, Some, Result, Ok, Err}
+use Rattle.network.specs.declared.NamedMove.{NamedMove}
 use Rattle.network.specs.declared.Stop.{Stop}
 use Rattle.network.specs.declared.Drained.{Drained}
 use Rattle.network.specs.Sizes.{Shape, size, nodes, queues, injection_queue, direction_of, dimension_of}
@@ -17,6 +15,10 @@ use Rattle.network.specs.Refusals.{network_refusal, make_refusal, offer_refusal,
 -- R190 to R194, what a call leaves or tells, by its refusal: `before` where it is refused, words as they were or no value, else `after`
 abbrev pub unless_refused : {A : Type 0} → ℕ → A → A → A
 unless_refused refusal after before = cond (eqb refusal 0) after before
+
+-- what a call answers: a value, or the number of the rule that refuses it
+abbrev pub Answer : Type 0 → Type 0
+Answer A = Result A ℕ
 
 -- Make --------------------------------------------------------------------------------------------------------------------------------
 
@@ -78,16 +80,16 @@ after_move S w n q o =
 unfoldable pub move_words : List ℕ → ℕ → ℕ → ℕ → List ℕ
 move_words w n q o = unless_refused (move_refusal w n q o) (after_move (shape w) w n q o) w
 
-unfoldable pub move_answer : List ℕ → ℕ → ℕ → ℕ → Moved
+unfoldable pub move_answer : List ℕ → ℕ → ℕ → ℕ → Answer (Option ℕ)
 move_answer w n q o =
     unless_refused (move_refusal w n q o)
-    (cond (eqb o deliver) (Moved.Delivered (head (held (shape w) w n q))) Moved.Passed)
-    (Moved.Refused (move_refusal w n q o))
+    (Ok (cond (eqb o deliver) (Some (head (held (shape w) w n q))) None))
+    (Err (move_refusal w n q o))
 
 -- Credit (R116) -----------------------------------------------------------------------------------------------------------------------
 
-unfoldable pub credit_answer : List ℕ → ℕ → ℕ → Credit
-credit_answer w n o = unless_refused (credit_refusal w n o) (Credit.Free (free_load (shape w) w n o)) (Credit.Refused (credit_refusal w n o))
+unfoldable pub credit_answer : List ℕ → ℕ → ℕ → Answer ℕ
+credit_answer w n o = unless_refused (credit_refusal w n o) (Ok (free_load (shape w) w n o)) (Err (credit_refusal w n o))
 
 -- Look (R119 to R121): what the part holds that it gives back, and where in the lent words it begins; its companion answers look_refusal ------
 
@@ -100,43 +102,37 @@ look_at w n q = queue_start (shape w) n q + 1
 
 -- First (R123, R124): node by node, queue by queue, and a head's routes in their order; Choices.antt says what comes of it ---------------
 
--- the first of the outputs by which the head of queue q of node n may move
-unfoldable pub first_output : Shape → List ℕ → ℕ → ℕ → List ℕ → Found
-first_output S w n q [] = Found.Nothing
-first_output S w n q (o ∷ os) = cond (eqb (move_rules S w n q o) 0) (Found.Move n q o) (first_output S w n q os)
-
-unfoldable pub first_in_queue : Shape → List ℕ → ℕ → ℕ → Found
-first_in_queue S w n q = first_output S w n q (routes q (head (held S w n q)))
-
-unfoldable pub or_else : Found → Found → Found
-or_else (Found.Refused r) later = Found.Refused r
-or_else Found.Nothing later = later
-or_else (Found.Move n q o) later = Found.Move n q o
-
--- the first found at i, i + 1, .., so many of them
-unfoldable pub search : (ℕ → Found) → ℕ → ℕ → Found
-search f i zero = Found.Nothing
-search f i (suc count) = or_else (f i) (search f (suc i) count)
-
-unfoldable pub first_in_node : Shape → List ℕ → ℕ → Found
-first_in_node S w n = search (λ q. first_in_queue S w n q) 0 queues
-
-unfoldable pub first_move : Shape → List ℕ → Found
-first_move S w = search (λ n. first_in_node S w n) 0 (nodes S)
-
-unfoldable pub first_answer : List ℕ → Found
-first_answer w = unless_refused (network_refusal w) (first_move (shape w) w) (Found.Refused (network_refusal w))
-
--- Drain -------------------------------------------------------------------------------------------------------------------------------
-
--- node, queue and output of a move
-pub record NamedMove : Type 0 where
-  pub node : ℕ
-  pub queue : ℕ
-  pub output : ℕ
-
+-- the move of the head of queue q of node n by output o
 abbrev pub move_of : ℕ → ℕ → ℕ → NamedMove
 move_of n q o = record { node = n; queue = q; output = o }
+
+-- the first of the outputs by which the head of queue q of node n may move
+unfoldable pub first_output : Shape → List ℕ → ℕ → ℕ → List ℕ → Option NamedMove
+first_output S w n q [] = None
+first_output S w n q (o ∷ os) = cond (eqb (move_rules S w n q o) 0) (Some (move_of n q o)) (first_output S w n q os)
+
+unfoldable pub first_in_queue : Shape → List ℕ → ℕ → ℕ → Option NamedMove
+first_in_queue S w n q = first_output S w n q (routes q (head (held S w n q)))
+
+unfoldable pub or_else : Option NamedMove → Option NamedMove → Option NamedMove
+or_else None later = later
+or_else (Some m) later = Some m
+
+-- the first found at i, i + 1, .., so many of them
+unfoldable pub search : (ℕ → Option NamedMove) → ℕ → ℕ → Option NamedMove
+search f i zero = None
+search f i (suc count) = or_else (f i) (search f (suc i) count)
+
+unfoldable pub first_in_node : Shape → List ℕ → ℕ → Option NamedMove
+first_in_node S w n = search (λ q. first_in_queue S w n q) 0 queues
+
+unfoldable pub first_move : Shape → List ℕ → Option NamedMove
+first_move S w = search (λ n. first_in_node S w n) 0 (nodes S)
+
+unfoldable pub first_answer : List ℕ → Answer (Option NamedMove)
+first_answer w = unless_refused (network_refusal w) (Ok (first_move (shape w) w)) (Err (network_refusal w))
+
+-- Drain -------------------------------------------------------------------------------------------------------------------------------
 
 -- a packet word handed out, and the node of its move
 pub record Delivery : Type 0 where
@@ -164,18 +160,21 @@ deliver_next S w n q (suc room) on =
     one_more (move_of n q deliver) (record { node = n; packet = head (held S w n q) } ∷ [])
     (on room (after_move S w n q deliver))
 
--- R127: the move that First names, and on. While anything is held it names one, so the first two cases do not come up (run/specs/Stops.antt)
-unfoldable pub move_next : Shape → List ℕ → ℕ → Found → (ℕ → List ℕ → Progress) → Progress
-move_next S w room (Found.Refused r) on = stopped w Stop.Emptied
-move_next S w room Found.Nothing on = stopped w Stop.Emptied
-move_next S w room (Found.Move n q o) on =
-    cond (eqb o deliver) (deliver_next S w n q room on) (one_more (move_of n q o) [] (on room (after_move S w n q o)))
+-- R127: the move that First names, and on. While anything is held it names one, so the first case does not come up (run/specs/Stops.antt)
+unfoldable pub move_next : Shape → List ℕ → ℕ → Option NamedMove → (ℕ → List ℕ → Progress) → Progress
+move_next S w room None on = stopped w Stop.Emptied
+move_next S w room (Some m) on =
+    cond (eqb m.output deliver) (deliver_next S w m.node m.queue room on) (one_more m [] (on room (after_move S w m.node m.queue m.output)))
 
 -- R130 to R133: the stops, tested in this order before every move: emptied, spent, full
 unfoldable pub drain_from : Shape → ℕ → ℕ → List ℕ → Progress
 drain_from S zero room w = cond (eqb (packets_held S w) 0) (stopped w Stop.Emptied) (stopped w Stop.Spent)
 drain_from S (suc budget) room w =
     cond (eqb (packets_held S w) 0) (stopped w Stop.Emptied) (move_next S w room (first_move S w) (λ room' w'. drain_from S budget room' w'))
+
+-- what it tells
+abbrev pub drain_of : ℕ → ℕ → Stop → Drained
+drain_of moves delivered stop = record { moves = moves; delivered = delivered; stop = stop }
 
 -- a Drain that is not refused, with a ledger of so many words
 unfoldable pub drained : List ℕ → ℕ → ℕ → Progress
@@ -192,58 +191,56 @@ drain_ledger w budget ledger = unless_refused (network_refusal w) (written (drai
     written ds ledger = map (λ d. d.packet) ds ++ drop (length ds) ledger
 
 -- R129
-unfoldable pub drain_answer : List ℕ → ℕ → ℕ → Drained
+unfoldable pub drain_answer : List ℕ → ℕ → ℕ → Answer Drained
 drain_answer w budget room =
     unless_refused (network_refusal w)
-    (Drained.Stopped (length (drained w budget room).moves) (length (drained w budget room).deliveries) (drained w budget room).stop)
-    (Drained.Refused (network_refusal w))
+    (Ok (drain_of (length (drained w budget room).moves) (length (drained w budget room).deliveries) (drained w budget room).stop))
+    (Err (network_refusal w))
 
--- R321, the number and the values of each answer that is an enum, case by case: the refusal, or 0; and on a refusal no packet, no move, no stop and
+-- R321, the number and the values of each answer that has any, case by case: the refusal, or 0; and on a refusal no packet, no move, no stop and
 -- zero for a count. Answers.antt says what each call tells through these ---------------------------------------------------------------
 
-unfoldable pub moved_number : Moved → ℕ
-moved_number (Moved.Refused r) = r
-moved_number Moved.Passed = 0
-moved_number (Moved.Delivered p) = 0
+unfoldable pub moved_number : Answer (Option ℕ) → ℕ
+moved_number (Err r) = r
+moved_number (Ok handed_out) = 0
 
 -- the packet words handed out
-unfoldable pub moved_packets : Moved → List ℕ
-moved_packets (Moved.Refused r) = []
-moved_packets Moved.Passed = []
-moved_packets (Moved.Delivered p) = p ∷ []
+unfoldable pub moved_packets : Answer (Option ℕ) → List ℕ
+moved_packets (Err r) = []
+moved_packets (Ok None) = []
+moved_packets (Ok (Some p)) = p ∷ []
 
-unfoldable pub credit_number : Credit → ℕ
-credit_number (Credit.Refused r) = r
-credit_number (Credit.Free n) = 0
+unfoldable pub credit_number : Answer ℕ → ℕ
+credit_number (Err r) = r
+credit_number (Ok n) = 0
 
-unfoldable pub credit_free : Credit → ℕ
-credit_free (Credit.Refused r) = 0
-credit_free (Credit.Free n) = n
+unfoldable pub credit_free : Answer ℕ → ℕ
+credit_free (Err r) = 0
+credit_free (Ok n) = n
 
-unfoldable pub found_number : Found → ℕ
-found_number (Found.Refused r) = r
-found_number Found.Nothing = 0
-found_number (Found.Move n q o) = 0
+unfoldable pub found_number : Answer (Option NamedMove) → ℕ
+found_number (Err r) = r
+found_number (Ok m) = 0
 
 -- the move that is named, if one is
-unfoldable pub found_move : Found → List NamedMove
-found_move (Found.Refused r) = []
-found_move Found.Nothing = []
-found_move (Found.Move n q o) = move_of n q o ∷ []
+unfoldable pub found_move : Answer (Option NamedMove) → List NamedMove
+found_move (Err r) = []
+found_move (Ok None) = []
+found_move (Ok (Some m)) = m ∷ []
 
-unfoldable pub drained_number : Drained → ℕ
-drained_number (Drained.Refused r) = r
-drained_number (Drained.Stopped m d s) = 0
+unfoldable pub drained_number : Answer Drained → ℕ
+drained_number (Err r) = r
+drained_number (Ok d) = 0
 
-unfoldable pub drained_moves : Drained → ℕ
-drained_moves (Drained.Refused r) = 0
-drained_moves (Drained.Stopped m d s) = m
+unfoldable pub drained_moves : Answer Drained → ℕ
+drained_moves (Err r) = 0
+drained_moves (Ok d) = d.moves
 
-unfoldable pub drained_delivered : Drained → ℕ
-drained_delivered (Drained.Refused r) = 0
-drained_delivered (Drained.Stopped m d s) = d
+unfoldable pub drained_delivered : Answer Drained → ℕ
+drained_delivered (Err r) = 0
+drained_delivered (Ok d) = d.delivered
 
 -- the stop that is named, if one is
-unfoldable pub drained_stop : Drained → List Stop
-drained_stop (Drained.Refused r) = []
-drained_stop (Drained.Stopped m d s) = s ∷ []
+unfoldable pub drained_stop : Answer Drained → List Stop
+drained_stop (Err r) = []
+drained_stop (Ok d) = d.stop ∷ []

@@ -3,15 +3,13 @@
 -- network, a row like `k5-every` beside it says so of each one (K2 and K8 say it at once).
 -- Order: how the rows' networks are written down (and in ByHand.antt); what the rows about every network speak of; the rows; what proves them; the theorem.
 -- Assumes nothing.
-use Rattle.std.specs.Prelude.{◌≡◌, ◌⊎◌, ◌≢◌, ◌↔◌, not, cond, ◌&&◌, ◌||◌, leb, ltb, eqb, ℤ, pos, negsuc, length, get_or, take, set, replicate}
+use Rattle.std.specs.Prelude.{◌≡◌, ◌⊎◌, ◌≢◌, ◌↔◌, not, cond, ◌&&◌, ◌||◌, leb, ltb, eqb, ℤ, pos, negsuc, length, get_or, take, set, replicate, Some, Ok}
 use Rattle.std.proofs.Math.Bool.{false}
 use mathlib.Core.List.{List, [], ◌∷◌, ◌++◌, map}
 use Prim.Native.Nat.{ℕ, zero, suc, ◌+◌, ◌*◌, ◌-◌, ◌/◌, ◌%◌, ◌^◌, ◌<◌, ◌≤◌}
 use Rattle.std.proofs.Math.Dec.{T}
 use Rattle.base.specs.Tests.{elem}
 use Rattle.base.specs.Sums.{sum_below}
-use Rattle.network.specs.declared.Moved.{Moved}
-use Rattle.network.specs.declared.Found.{Found}
 use Rattle.network.specs.declared.Stop.{Stop}
 use Rattle.network.specs.declared.Drained.{Drained}
 use Rattle.network.specs.declared.Sizes.{Sizes}
@@ -23,7 +21,7 @@ use Rattle.network.specs.Check.{packet_fits, queues_fit, ring_has_room, packets_
 use Rattle.network.specs.Routes.{deliver, in_order, routes, target}
 use Rattle.network.specs.Selection.{selected}
 use Rattle.network.specs.Refusals.{network_refusal, make_refusal, offer_refusal, head, move_refusal, credit_refusal, look_refusal}
-use Rattle.network.specs.Calls.{offered_steps, offered, offer_words, move_words, move_answer, first_answer, drain_ledger, drain_answer}
+use Rattle.network.specs.Calls.{offered_steps, offered, offer_words, move_words, move_answer, first_answer, drain_ledger, drain_answer, drain_of, move_of}
 use Rattle.network.specs.CheckLaws.{Loaded}
 use Rattle.network.specs.ByHand.{packet, here, straight, of_chunks, empty, holding, only, chosen}
 use Rattle.network.specs.Rows.{KeptRows}
@@ -147,10 +145,10 @@ blocked (o ∷ os) = holding (blocked os) (target (long_along 4 2 2) 0 o) o (of_
 -- First names these outputs of that packet, each where those before it are full
 abbrev TriedInTurn : ℕ → ℕ → ℕ → ℕ → Type 0
 TriedInTurn first second third last =
-    (first_answer (blocked []) ≡ Found.Move 0 5 first)
-    × (first_answer (blocked (first ∷ [])) ≡ Found.Move 0 5 second)
-    × (first_answer (blocked (second ∷ first ∷ [])) ≡ Found.Move 0 5 third)
-    × (first_answer (blocked (third ∷ second ∷ first ∷ [])) ≡ Found.Move 0 5 last)
+    (first_answer (blocked []) ≡ Ok (Some (move_of 0 5 first)))
+    × (first_answer (blocked (first ∷ [])) ≡ Ok (Some (move_of 0 5 second)))
+    × (first_answer (blocked (second ∷ first ∷ [])) ≡ Ok (Some (move_of 0 5 third)))
+    × (first_answer (blocked (third ∷ second ∷ first ∷ [])) ≡ Ok (Some (move_of 0 5 last)))
 
 -- of this packet in the injection queue of node 0 of 2 by 2 by 2: the refusals by each output
 abbrev pub leaving : ℕ → List ℕ
@@ -383,10 +381,10 @@ pub record KeptCases : Type 0 where
       × (((i : ℕ) → i < dimensions → distance i (head_of w n q) ≡ 0) → (d : ℕ) → d < directions → move_refusal w n q (escape_queue d) ≡ 10)
   -- no move is made without a budget, and nothing held goes before nothing left to spend
   pub k10 : (room : ℕ)
-      → (drain_answer (empty four-by-three) 0 room ≡ Drained.Stopped 0 0 Stop.Emptied)
-      × (drain_answer before-and-after 0 room ≡ Drained.Stopped 0 0 Stop.Spent)
+      → (drain_answer (empty four-by-three) 0 room ≡ Ok (drain_of 0 0 Stop.Emptied))
+      × (drain_answer before-and-after 0 room ≡ Ok (drain_of 0 0 Stop.Spent))
   pub k10-every : (w : List ℕ) (room : ℕ) → network_refusal w ≡ 0
-      → drain_answer w 0 room ≡ Drained.Stopped 0 0 (cond (eqb (packets_held (shape w) w) 0) Stop.Emptied Stop.Spent)
+      → drain_answer w 0 room ≡ Ok (drain_of 0 0 (cond (eqb (packets_held (shape w) w) 0) Stop.Emptied Stop.Spent))
   -- in each direction, a ring of four slots: full it is refused, with one slot free it passes; a hop left in a queue of a ring of two nodes is refused
   pub k11 : (d : ℕ) → d < directions
       → (network_refusal (pair d (here 0 ∷ here 0 ∷ []) (here 1 ∷ here 1 ∷ [])) ≡ 3)
@@ -418,18 +416,18 @@ pub record KeptCases : Type 0 where
   -- R86, a packet for its own node that is held already passes: First names its delivery, no other output is permitted, a Drain needs that move alone
   -- and puts its word into the ledger
   pub k12-held : (network_refusal alone ≡ 0)
-      × (first_answer alone ≡ Found.Move 0 0 0)
+      × (first_answer alone ≡ Ok (Some (move_of 0 0 0)))
       × (map (λ o. move_refusal alone 0 0 o) (in_order 0 queues) ≡ 0 ∷ replicate 12 10)
-      × ((budget room : ℕ) → drain_answer alone (suc budget) (suc room) ≡ Drained.Stopped 1 1 Stop.Emptied)
+      × ((budget room : ℕ) → drain_answer alone (suc budget) (suc room) ≡ Ok (drain_of 1 1 Stop.Emptied))
       × ((budget l : ℕ) (ledger : List ℕ) → drain_ledger alone (suc budget) (l ∷ ledger) ≡ here 0 ∷ ledger)
   -- in each of the thirteen queues: all pass, and a Drain hands out all thirteen, in thirteen moves
   pub k12-in-every-queue : (network_refusal in-every-queue ≡ 0)
-      × (drain_answer in-every-queue 13 13 ≡ Drained.Stopped 13 13 Stop.Emptied)
+      × (drain_answer in-every-queue 13 13 ≡ Ok (drain_of 13 13 Stop.Emptied))
       × (drain_ledger in-every-queue 13 (replicate 13 0) ≡ replicate 13 (here 0))
   -- any network: a head without hops left is delivered by output 0 and goes nowhere else; and the check lets such a packet stand in the injection
   -- queue of its destination and in the queues of a dimension of two nodes or more, if the bits 15 and 31 are clear
   pub k12-held-every : (w : List ℕ) (n q : ℕ) → Standing w n q → hops_left (head_of w n q) ≡ 0
-      → (move_answer w n q deliver ≡ Moved.Delivered (head_of w n q)) × ((o : ℕ) → o < queues → o ≢ deliver → move_refusal w n q o ≡ 10)
+      → (move_answer w n q deliver ≡ Ok (Some (head_of w n q))) × ((o : ℕ) → o < queues → o ≢ deliver → move_refusal w n q o ≡ 10)
   pub k12-fits-every : (w : List ℕ) (n q p : ℕ) → T (sizes_in_range (shape w)) → n < nodes (shape w) → spare p ≡ 0 → upper_spare p ≡ 0 → hops_left p ≡ 0
       → destination p ≡ n
       → packet_fits (shape w) n q p ≡ (eqb q injection_queue || leb 2 (size (shape w) (dimension_of (direction_of q))))

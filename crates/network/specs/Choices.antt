@@ -2,13 +2,14 @@
 -- condition (RULES R123, R124, R130 to R133). Calls.antt computes both by searching and by going on; these say what comes of it, without either.
 -- ChoiceLaws.antt proves `FirstRight`, the crate `run` proves `DrainStops`. Assumes nothing.
 use Rattle.std.specs.Prelude.{◌≡◌, ◌↔◌, ◌≢◌, cond, List, [], ◌∷◌, ℕ, suc, ◌<◌, ◌≤◌, eqb}
+use Rattle.network.specs.declared.NamedMove.{NamedMove}
 use Rattle.network.specs.declared.Stop.{Stop}
 use Rattle.network.specs.declared.Drained.{Drained}
 use Rattle.network.specs.Layout.{shape, held}
 use Rattle.network.specs.Check.{packets_held}
 use Rattle.network.specs.Routes.{routes, deliver}
 use Rattle.network.specs.Refusals.{move_refusal, head}
-use Rattle.network.specs.Calls.{NamedMove, found_move, first_answer, drained_moves, drained_delivered, drained_stop}
+use Rattle.network.specs.Calls.{found_move, first_answer, drained_moves, drained_delivered, drained_stop, Answer}
 
 -- R223: a move is permitted exactly where Move gives 0
 abbrev pub Permits : List ℕ → NamedMove → Type 0
@@ -40,7 +41,7 @@ pub record NextDelivers (w : List ℕ) : Type 0 where
   pub delivers : next.output ≡ deliver
 
 -- R130 to R133: what a Drain on a network answers, by its budget and the number of its ledger words, and the words `after` that it leaves
-pub record DrainStops (budget room : ℕ) (answer : Drained) (after : List ℕ) : Type 0 where
+pub record DrainStops (budget room : ℕ) (answer : Answer Drained) (after : List ℕ) : Type 0 where
   -- R314
   pub within-budget : drained_moves answer ≤ budget
   pub within-ledger : drained_delivered answer ≤ room

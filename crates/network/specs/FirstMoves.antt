@@ -2,7 +2,8 @@
 -- (Calls.antt); this says what comes of it. FirstMovesLaws.antt has that a Drain begins so and goes on so, the crate `run` that all of its moves are such, in every
 -- run. Order: such moves; a run whose Drains make them. Assumes nothing.
 use Rattle.std.specs.Prelude.{◌≡◌, List, [], ◌∷◌, ℕ}
-use Rattle.network.specs.Calls.{NamedMove, move_words, found_move, first_answer}
+use Rattle.network.specs.declared.NamedMove.{NamedMove}
+use Rattle.network.specs.Calls.{move_words, found_move, first_answer}
 use Rattle.network.specs.Run.{Call, move, drain, outcome}
 
 -- each move is the one that First names in the words by then, and what Move does leads on

@@ -1,8 +1,8 @@
 -- Moves that First names one after the other (FirstMoves.antt). Order: they are permitted moves; one of them, and more behind others; how a Drain begins and goes
 -- on. Assumes nothing.
 use Rattle.std.specs.Prelude.{cond, ℕ, suc, eqb}
+use Rattle.network.specs.declared.NamedMove.{NamedMove}
 use Rattle.network.specs.Routes.{deliver}
-use Rattle.network.specs.Calls.{NamedMove}
 
 -- How a Drain begins and goes on ----------------------------------------------------------------------------------------------------------
 

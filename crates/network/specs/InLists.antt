@@ -5,10 +5,11 @@ use Rattle.std.specs.Prelude.{◌≡◌, ◌≢◌, List, [], ◌++◌, map, ℕ
 use Rattle.std.proofs.Math.Decide.{ℕ_discrete}
 use Rattle.base.specs.Joins.{join_below}
 use Rattle.base.specs.Rearrangement.{Rearranged}
+use Rattle.network.specs.declared.NamedMove.{NamedMove}
 use Rattle.network.specs.Sizes.{Shape, nodes, queues}
 use Rattle.network.specs.Packet.{label, destination}
 use Rattle.network.specs.Layout.{shape, held, delivered}
-use Rattle.network.specs.Calls.{NamedMove, Delivery, move_answer, moved_number}
+use Rattle.network.specs.Calls.{Delivery, move_answer, moved_number}
 use Rattle.network.specs.Run.{Call, move, Ledger, Outcome, run}
 
 -- the packets held by all queues, node after node and queue after queue

@@ -1,7 +1,8 @@
 -- R160 to R189: the numbers, and for each call the first of its tests that applies, in its order; 0 if none does.
--- Order: the numbers; the tests by what each finds; the tests that all calls but Make share; Make; Offer; Move; Credit; Look. Assumes nothing.
-use Rattle.std.specs.Prelude.{Bool, true, false, not, cond, ◌||◌, List, ℕ, leb, ltb, eqb, length, get_or}
+-- Order: the numbers, and the code's refusals by them; the tests by what each finds; the tests that all calls but Make share; Make; Offer; Move; Credit; Look. Assumes nothing.
+use Rattle.std.specs.Prelude.{Bool, true, false, not, cond, ◌||◌, List, ℕ, leb, ltb, eqb, length, get_or, Result, Ok, Err}
 use Rattle.base.specs.Tests.{elem}
+use Rattle.network.specs.declared.Refusal.{Refusal}
 use Rattle.network.specs.Sizes.{Shape, within, sizes_in_range, most_chunks, nodes, queues, injection_queue, capacity}
 use Rattle.network.specs.Layout.{shape, header_words, need, held, load, taken, accepted}
 use Rattle.network.specs.Check.{is_network, most_accepted}
@@ -58,6 +59,33 @@ own_node = 14
 -- R175: of a page or a list of fills that is too short for a step of a dump
 abbrev pub short_page : ℕ
 short_page = 15
+
+-- the number of each refusal of the code; and what the code answers, a value or a refusal, as these definitions have it: by the number, or with
+-- the number in its place
+abbrev pub refusal_number : Refusal → ℕ
+refusal_number Refusal.ShortStore = short_store
+refusal_number Refusal.WrongSize = wrong_size
+refusal_number Refusal.NoNetwork = no_network
+refusal_number Refusal.NoSuchNode = no_such_node
+refusal_number Refusal.NoSuchQueue = no_such_queue
+refusal_number Refusal.NoSuchOutput = no_such_output
+refusal_number Refusal.InjectionFull = injection_full
+refusal_number Refusal.CountSpent = count_spent
+refusal_number Refusal.QueueEmpty = queue_empty
+refusal_number Refusal.NoRoute = no_route
+refusal_number Refusal.NoSlot = no_slot
+refusal_number Refusal.NoBubble = no_bubble
+refusal_number Refusal.BadLine = bad_line
+refusal_number Refusal.OwnNode = own_node
+refusal_number Refusal.ShortPage = short_page
+
+abbrev pub number_of : {A : Type 0} → Result A Refusal → ℕ
+number_of (Ok value) = 0
+number_of (Err refusal) = refusal_number refusal
+
+abbrev pub numbered : {A : Type 0} → Result A Refusal → Result A ℕ
+numbered (Ok value) = Ok value
+numbered (Err refusal) = Err (refusal_number refusal)
 
 -- refused by this number if the test applies, else whatever the later tests say
 abbrev pub refuse : Bool → ℕ → ℕ → ℕ

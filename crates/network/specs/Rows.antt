@@ -3,11 +3,9 @@
 -- own, `kept_rows` has them all, and `kept_cases` (Cases.antt) takes it. Words are counted from 0, as in R42. Order: the words; places and the packet word;
 -- the ranges of the sizes; the check; the order of refusals; what refused calls leave; what is read of an answer; routes; flow; first in, first out;
 -- Credit; First; Drain; a run of calls; all of them. Assumes nothing.
-use Rattle.std.specs.Prelude.{◌≡◌, true, false, List, [], ◌∷◌, ◌++◌, map, ℕ, ◌+◌, ◌*◌, ◌-◌, ◌%◌, ◌^◌, pos, negsuc, take, drop, set, replicate}
+use Rattle.std.specs.Prelude.{◌≡◌, true, false, List, [], ◌∷◌, ◌++◌, map, ℕ, ◌+◌, ◌*◌, ◌-◌, ◌%◌, ◌^◌, pos, negsuc, take, drop, set, replicate, Option, None, Some, Ok, Err}
+use Rattle.network.specs.declared.NamedMove.{NamedMove}
 use Rattle.network.specs.declared.Sizes.{Sizes}
-use Rattle.network.specs.declared.Moved.{Moved}
-use Rattle.network.specs.declared.Credit.{Credit}
-use Rattle.network.specs.declared.Found.{Found}
 use Rattle.network.specs.declared.Stop.{Stop}
 use Rattle.network.specs.declared.Drained.{Drained}
 use Rattle.network.specs.Sizes.{Shape, shape_of, sized, size, nodes, most_nodes, capacity}
@@ -17,8 +15,8 @@ use Rattle.network.specs.Layout.{shape, accepted, delivered, moves_made, need, q
 use Rattle.network.specs.Check.{packet_fits, work_left}
 use Rattle.network.specs.Routes.{routes, target}
 use Rattle.network.specs.Refusals.{bad_line, short_page, network_refusal, make_refusal, offer_refusal, move_refusal, look_refusal}
-use Rattle.network.specs.Calls.{make_words, offered, offer_words, move_words, move_answer, credit_answer, look_part, look_at, first_answer, drain_words, drain_ledger, drain_answer}
-use Rattle.network.specs.Calls.{NamedMove, move_of, Delivery, moved_number, moved_packets, credit_number, credit_free, found_number, found_move, drained_number, drained_moves, drained_delivered, drained_stop}
+use Rattle.network.specs.Calls.{make_words, offered, offer_words, move_words, move_answer, credit_answer, look_part, look_at, first_answer, drain_words, drain_ledger, drain_answer, Answer, drain_of}
+use Rattle.network.specs.Calls.{move_of, Delivery, moved_number, moved_packets, credit_number, credit_free, found_number, found_move, drained_number, drained_moves, drained_delivered, drained_stop}
 use Rattle.network.specs.Choices.{Permits}
 use Rattle.network.specs.Run.{move, drain, Ledger, Outcome, run, held_with, handed_with, hops_with, at_destination}
 use Rattle.network.specs.FirstMoves.{ByFirst}
@@ -443,19 +441,19 @@ abbrev pub OfferAsCheck : Type 0
 OfferAsCheck = map (λ w. offer_refusal w 2 2 9) spoilt ≡ 1 ∷ 2 ∷ 1 ∷ 3 ∷ []
 
 abbrev pub MoveAsCheck : Type 0
-MoveAsCheck = map (λ w. move_answer w 2 13 13) spoilt ≡ Moved.Refused 1 ∷ Moved.Refused 2 ∷ Moved.Refused 1 ∷ Moved.Refused 3 ∷ []
+MoveAsCheck = map (λ w. move_answer w 2 13 13) spoilt ≡ Err 1 ∷ Err 2 ∷ Err 1 ∷ Err 3 ∷ []
 
 abbrev pub CreditAsCheck : Type 0
-CreditAsCheck = map (λ w. credit_answer w 2 13) spoilt ≡ Credit.Refused 1 ∷ Credit.Refused 2 ∷ Credit.Refused 1 ∷ Credit.Refused 3 ∷ []
+CreditAsCheck = map (λ w. credit_answer w 2 13) spoilt ≡ Err 1 ∷ Err 2 ∷ Err 1 ∷ Err 3 ∷ []
 
 abbrev pub LookAsCheck : Type 0
 LookAsCheck = map (λ w. look_refusal w 2 13) spoilt ≡ 1 ∷ 2 ∷ 1 ∷ 3 ∷ []
 
 abbrev pub FirstAsCheck : Type 0
-FirstAsCheck = map first_answer spoilt ≡ Found.Refused 1 ∷ Found.Refused 2 ∷ Found.Refused 1 ∷ Found.Refused 3 ∷ []
+FirstAsCheck = map first_answer spoilt ≡ Err 1 ∷ Err 2 ∷ Err 1 ∷ Err 3 ∷ []
 
 abbrev pub DrainAsCheck : Type 0
-DrainAsCheck = map (λ w. drain_answer w 0 0) spoilt ≡ Drained.Refused 1 ∷ Drained.Refused 2 ∷ Drained.Refused 1 ∷ Drained.Refused 3 ∷ []
+DrainAsCheck = map (λ w. drain_answer w 0 0) spoilt ≡ Err 1 ∷ Err 2 ∷ Err 1 ∷ Err 3 ∷ []
 
 -- R189, Offer. 4: node and destination are no node and equal, with no such chunk number and the count spent; the destination alone, from a full queue; the node
 -- alone. 2: chunk number 0 and 9, to itself with the count spent and from a full queue, and to another node. 14: with the count spent and from a full queue. 8:
@@ -483,40 +481,40 @@ CountSpent = map (λ a. offer_refusal (counting (empty two) a a 0) 0 1 1) (42949
 
 -- R184, Move. 4: no queue and no output either. 5: no output either
 abbrev pub Move4 : Type 0
-Move4 = move_answer crowded 2 13 13 ≡ Moved.Refused 4
+Move4 = move_answer crowded 2 13 13 ≡ Err 4
 
 abbrev pub Move5 : Type 0
-Move5 = move_answer crowded 0 13 13 ≡ Moved.Refused 5
+Move5 = move_answer crowded 0 13 13 ≡ Err 5
 
 -- 6: from queue 1, where nobody is; and from queue 0, whose head has no such route
 abbrev pub Move6 : Type 0
-Move6 = move_answer crowded 0 1 13 ∷ move_answer crowded 0 0 13 ∷ [] ≡ Moved.Refused 6 ∷ Moved.Refused 6 ∷ []
+Move6 = move_answer crowded 0 1 13 ∷ move_answer crowded 0 0 13 ∷ [] ≡ Err 6 ∷ Err 6 ∷ []
 
 -- 9: to a target without a free slot, in x+ and in x−. What speaks of a head, 10 and 12, is not broken where there is none
 abbrev pub Move9 : Type 0
-Move9 = move_answer crowded 0 1 1 ∷ move_answer crowded 0 1 2 ∷ [] ≡ Moved.Refused 9 ∷ Moved.Refused 9 ∷ []
+Move9 = move_answer crowded 0 1 1 ∷ move_answer crowded 0 1 2 ∷ [] ≡ Err 9 ∷ Err 9 ∷ []
 
 -- 10: to a target without a free slot; to an escape queue with one, where the head would enter; and a delivery, which has no target
 abbrev pub Move10 : Type 0
-Move10 = move_answer crowded 0 0 2 ∷ move_answer crowded 0 0 8 ∷ move_answer crowded 0 0 0 ∷ [] ≡ Moved.Refused 10 ∷ Moved.Refused 10 ∷ Moved.Refused 10 ∷ []
+Move10 = move_answer crowded 0 0 2 ∷ move_answer crowded 0 0 8 ∷ move_answer crowded 0 0 0 ∷ [] ≡ Err 10 ∷ Err 10 ∷ Err 10 ∷ []
 
 -- 11, and 12, each by itself: the two are never broken together
 abbrev pub Move11 : Type 0
-Move11 = move_answer crowded 0 0 1 ≡ Moved.Refused 11
+Move11 = move_answer crowded 0 0 1 ≡ Err 11
 
 abbrev pub Move12 : Type 0
-Move12 = move_answer crowded 0 0 7 ≡ Moved.Refused 12
+Move12 = move_answer crowded 0 0 7 ≡ Err 12
 
 -- R112, no rule broken: a delivery hands out the word; a hop, after the delivery from queue 7 of node 1 has made the second slot free, hands out nothing
 abbrev pub Move0 : Type 0
-Move0 = (move_answer crowded 1 1 0 ≡ Moved.Delivered (arrived 1)) × (move_answer (move_words crowded 1 7 0) 0 0 7 ≡ Moved.Passed)
+Move0 = (move_answer crowded 1 1 0 ≡ Ok (Some (arrived 1))) × (move_answer (move_words crowded 1 7 0) 0 0 7 ≡ (Ok None))
 
 -- R185, Credit. 4: no output either, above the last and output 0. 6: the same two
 abbrev pub Credit4 : Type 0
-Credit4 = credit_answer crowded 2 13 ∷ credit_answer crowded 2 0 ∷ [] ≡ Credit.Refused 4 ∷ Credit.Refused 4 ∷ []
+Credit4 = credit_answer crowded 2 13 ∷ credit_answer crowded 2 0 ∷ [] ≡ Err 4 ∷ Err 4 ∷ []
 
 abbrev pub Credit6 : Type 0
-Credit6 = credit_answer crowded 0 13 ∷ credit_answer crowded 0 0 ∷ [] ≡ Credit.Refused 6 ∷ Credit.Refused 6 ∷ []
+Credit6 = credit_answer crowded 0 13 ∷ credit_answer crowded 0 0 ∷ [] ≡ Err 6 ∷ Err 6 ∷ []
 
 -- R186, Look's companion. 4: no queue either. 5
 abbrev pub Look4 : Type 0
@@ -554,28 +552,28 @@ RefusedDrain = (drain_words no-network 9 2 ≡ no-network) × (drain_ledger no-n
 -- What is read of an answer (R190 to R192, R321) ------------------------------------------------------------------------------------------------
 
 -- Move: refused by 12; a hop, after the delivery from queue 7 of node 1 has made the second slot free; a delivery. The number, and the packets handed out
-abbrev move-answers : List Moved
+abbrev move-answers : List (Answer (Option ℕ))
 move-answers = move_answer crowded 0 0 7 ∷ move_answer (move_words crowded 1 7 0) 0 0 7 ∷ move_answer crowded 1 1 0 ∷ []
 
 abbrev pub MoveTold : Type 0
 MoveTold = (map moved_number move-answers ≡ 12 ∷ 0 ∷ 0 ∷ []) × (map moved_packets move-answers ≡ [] ∷ [] ∷ (arrived 1 ∷ []) ∷ [])
 
 -- Credit: refused by 6; of output 7, which has one of two slots free. The number, and the slots
-abbrev credit-answers : List Credit
+abbrev credit-answers : List (Answer ℕ)
 credit-answers = credit_answer crowded 0 13 ∷ credit_answer crowded 0 7 ∷ []
 
 abbrev pub CreditTold : Type 0
 CreditTold = (map credit_number credit-answers ≡ 6 ∷ 0 ∷ []) × (map credit_free credit-answers ≡ 0 ∷ 1 ∷ [])
 
 -- First: refused by 3; the delivery from queue 1 of node 1; none. The number, and the move
-abbrev first-answers : List Found
+abbrev first-answers : List (Answer (Option NamedMove))
 first-answers = first_answer no-network ∷ first_answer crowded ∷ first_answer (empty two) ∷ []
 
 abbrev pub FirstTold : Type 0
 FirstTold = (map found_number first-answers ≡ 3 ∷ 0 ∷ 0 ∷ []) × (map found_move first-answers ≡ [] ∷ (move_of 1 1 0 ∷ []) ∷ [] ∷ [])
 
 -- Drain: refused by 3; six moves, five of them deliveries (below). The number, the moves, the deliveries and the stop
-abbrev drain-answers : List Drained
+abbrev drain-answers : List (Answer Drained)
 drain-answers = drain_answer no-network 6 5 ∷ drain_answer crowded 6 5 ∷ []
 
 abbrev pub DrainTold : Type 0
@@ -657,11 +655,11 @@ OneChunkFree = (map (λ c. move_refusal (holding (only four 0 (one-hop-of c)) 1 
 -- bubble from the injection queue and from the adaptive queue; Credit tells of one slot
 abbrev pub OneSlotFree : Type 0
 OneSlotFree = (map (λ from. move_refusal (ahead 2 7 (1 ∷ [])) 0 from 7) (7 ∷ 0 ∷ 1 ∷ []) ≡ 0 ∷ 12 ∷ 12 ∷ [])
-    × (credit_answer (ahead 2 7 (1 ∷ [])) 0 7 ≡ Credit.Free 1)
+    × (credit_answer (ahead 2 7 (1 ∷ [])) 0 7 ≡ Ok 1)
 
 -- R153: a delivery at node 0, with the injection queue of its neighbour full
 abbrev pub DeliveryNeedsNoSlot : Type 0
-DeliveryNeedsNoSlot = move_answer (holding (only two 1 seven) 1 0 (here 1 ∷ [])) 0 1 0 ≡ Moved.Delivered seven
+DeliveryNeedsNoSlot = move_answer (holding (only two 1 seven) 1 0 (here 1 ∷ [])) 0 1 0 ≡ Ok (Some seven)
 
 -- First in, first out ------------------------------------------------------------------------------------------------------------------------
 
@@ -678,7 +676,7 @@ abbrev both-arrived : List ℕ
 both-arrived = holding (empty small) 1 1 (five-arrived ∷ six-arrived ∷ [])
 
 abbrev pub OldestOut : Type 0
-OldestOut = (move_answer both-arrived 1 1 0 ≡ Moved.Delivered five-arrived)
+OldestOut = (move_answer both-arrived 1 1 0 ≡ Ok (Some five-arrived))
     × (move_words both-arrived 1 1 0 ≡ 2 ∷ 1 ∷ 1 ∷ 4 ∷ 1 ∷ 3 ∷ 2 ∷ 1 ∷ 1 ∷ (replicate 92 0 ++ (1 ∷ six-arrived ∷ replicate 82 0)))
 
 -- R119: where Look's part begins: behind word 9, behind word 101 and behind word 180
@@ -713,42 +711,42 @@ lopsided = so-many (so-many (empty small) 0 1 0 1 2) 1 2 1 0 4
 -- R27, R116: for adaptive outputs
 abbrev pub CreditAdaptive : Type 0
 CreditAdaptive = credit_answer lopsided 0 1 ∷ credit_answer lopsided 0 2 ∷ credit_answer lopsided 1 1 ∷ credit_answer lopsided 1 2 ∷ []
-    ≡ Credit.Free 2 ∷ Credit.Free 5 ∷ Credit.Free 5 ∷ Credit.Free 8 ∷ []
+    ≡ Ok 2 ∷ Ok 5 ∷ Ok 5 ∷ Ok 8 ∷ []
 
 -- and where the target, one of four nodes, has one packet of seven chunks, or none
 abbrev pub CreditByChunks : Type 0
-CreditByChunks = credit_answer (holding (empty four) 1 1 (of_chunks 7 (here 1) ∷ [])) 0 1 ∷ credit_answer (empty four) 0 1 ∷ [] ≡ Credit.Free 1 ∷ Credit.Free 8 ∷ []
+CreditByChunks = credit_answer (holding (empty four) 1 1 (of_chunks 7 (here 1) ∷ [])) 0 1 ∷ credit_answer (empty four) 0 1 ∷ [] ≡ Ok 1 ∷ Ok 8 ∷ []
 
 -- for escape outputs
 abbrev pub CreditEscape : Type 0
 CreditEscape = credit_answer lopsided 0 7 ∷ credit_answer lopsided 0 8 ∷ credit_answer lopsided 1 7 ∷ credit_answer lopsided 1 8 ∷ []
-    ≡ Credit.Free 4 ∷ Credit.Free 0 ∷ Credit.Free 3 ∷ Credit.Free 2 ∷ []
+    ≡ Ok 4 ∷ Ok 0 ∷ Ok 3 ∷ Ok 2 ∷ []
 
 -- First (R123, R124) -----------------------------------------------------------------------------------------------------------------------
 
 -- in the crowded network the head at node 0 has no permitted move; so the first is the delivery from queue 1 of node 1
 abbrev pub FirstPermitted : Type 0
-FirstPermitted = first_answer crowded ≡ Found.Move 1 1 0
+FirstPermitted = first_answer crowded ≡ Ok (Some (move_of 1 1 0))
 
 -- one that has arrived in queue 8 of node 0: a lower node comes before a lower queue
 abbrev pub FirstByNode : Type 0
-FirstByNode = first_answer (holding crowded 0 8 (seven ∷ [])) ≡ Found.Move 0 8 0
+FirstByNode = first_answer (holding crowded 0 8 (seven ∷ [])) ≡ Ok (Some (move_of 0 8 0))
 
 -- one that has arrived in queue 0 of node 1: it comes before queue 1
 abbrev pub FirstByQueue : Type 0
-FirstByQueue = first_answer (holding crowded 1 0 (here 1 ∷ [])) ≡ Found.Move 1 0 0
+FirstByQueue = first_answer (holding crowded 1 0 (here 1 ∷ [])) ≡ Ok (Some (move_of 1 0 0))
 
 -- a head alone in its network, with outputs 1 and 7 permitted: its first route comes first
 abbrev pub FirstByRoute : Type 0
-FirstByRoute = (map (move_refusal (only two 0 nine) 0 0) (1 ∷ 7 ∷ []) ≡ 0 ∷ 0 ∷ []) × (first_answer (only two 0 nine) ≡ Found.Move 0 0 1)
+FirstByRoute = (map (move_refusal (only two 0 nine) 0 0) (1 ∷ 7 ∷ []) ≡ 0 ∷ 0 ∷ []) × (first_answer (only two 0 nine) ≡ Ok (Some (move_of 0 0 1)))
 
 -- of three nodes the last one alone holds a packet
 abbrev pub FirstAtTheLastNode : Type 0
-FirstAtTheLastNode = first_answer (holding (empty three) 2 0 (here 2 ∷ [])) ≡ Found.Move 2 0 0
+FirstAtTheLastNode = first_answer (holding (empty three) 2 0 (here 2 ∷ [])) ≡ Ok (Some (move_of 2 0 0))
 
 -- nothing held: none, and that is no refusal
 abbrev pub FirstNone : Type 0
-FirstNone = first_answer (empty two) ≡ Found.Nothing
+FirstNone = first_answer (empty two) ≡ Ok None
 
 -- First's moves in the crowded network: delivery from queue 1 of node 1, tag 1; the hop to output 1 that this has made free; delivery of tag 9, from queue 1; then
 -- of tags 2, 3 and 4, from queues 2, 7 and 8. Six moves, five deliveries
@@ -768,7 +766,7 @@ DrainWords = drain_words crowded 2 4 ≡ after_two
 
 -- R129, R130: all six, with as much budget and a ledger word for each delivery
 abbrev pub DrainEmptied : Type 0
-DrainEmptied = drain_answer crowded 6 5 ≡ Drained.Stopped 6 5 Stop.Emptied
+DrainEmptied = drain_answer crowded 6 5 ≡ Ok (drain_of 6 5 Stop.Emptied)
 
 -- R128: the ledger then
 abbrev pub DrainInOrder : Type 0
@@ -776,11 +774,11 @@ DrainInOrder = drain_ledger crowded 6 (90 ∷ 91 ∷ 92 ∷ 93 ∷ 94 ∷ []) �
 
 -- R131, R133: a budget of 2, and of 2 with one ledger word: spent is tested before full
 abbrev pub DrainSpent : Type 0
-DrainSpent = (drain_answer crowded 2 4 ≡ Drained.Stopped 2 1 Stop.Spent) × (drain_answer crowded 2 1 ≡ Drained.Stopped 2 1 Stop.Spent)
+DrainSpent = (drain_answer crowded 2 4 ≡ Ok (drain_of 2 1 Stop.Spent)) × (drain_answer crowded 2 1 ≡ Ok (drain_of 2 1 Stop.Spent))
 
 -- R132: two ledger words are written after three moves; one is written after the first, and the hop behind it needs none
 abbrev pub DrainFull : Type 0
-DrainFull = (drain_answer crowded 9 2 ≡ Drained.Stopped 3 2 Stop.Full) × (drain_answer crowded 3 1 ≡ Drained.Stopped 2 1 Stop.Full)
+DrainFull = (drain_answer crowded 9 2 ≡ Ok (drain_of 3 2 Stop.Full)) × (drain_answer crowded 3 1 ≡ Ok (drain_of 2 1 Stop.Full))
 
 -- R132: with one ledger word, which the first delivery takes: the packet whose delivery is next stands where it stood, and is not counted
 abbrev pub WordsAtFull : Type 0

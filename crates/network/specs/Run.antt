@@ -3,6 +3,7 @@
 use Rattle.std.specs.Prelude.{◌≡◌, ◌↔◌, ◌≢◌, Bool, cond, ◌&&◌, List, [], ◌∷◌, ◌++◌, map, ℕ, ◌+◌, ◌<◌, ◌≤◌, T, eqb, length, take, drop}
 use Rattle.base.specs.Tests.{all_of}
 use Rattle.base.specs.Sums.{sum_of}
+use Rattle.network.specs.declared.NamedMove.{NamedMove}
 use Rattle.network.specs.Sizes.{Shape, nodes, directions}
 use Rattle.network.specs.Packet.{label, destination, hops}
 use Rattle.network.specs.Layout.{shape, need, total, delivered, moves_made}
@@ -10,7 +11,7 @@ use Rattle.network.specs.Check.{packets_held, work_left, ring_has_room}
 use Rattle.network.specs.Routes.{deliver}
 use Rattle.network.specs.Refusals.{network_refusal, move_refusal, head}
 use Rattle.network.specs.Choices.{Permits}
-use Rattle.network.specs.Calls.{unless_refused, NamedMove, Delivery, move_words, move_answer, moved_number, moved_packets, drained, drain_words, drain_ledger, drain_answer, drained_moves, drained_delivered}
+use Rattle.network.specs.Calls.{unless_refused, Delivery, move_words, move_answer, moved_number, moved_packets, drained, drain_words, drain_ledger, drain_answer, drained_moves, drained_delivered}
 
 -- R220, R221: a Move's node, queue and output; a Drain's budget, and its ledger, which is no part of the network's words
 pub data Call : Type 0 where

@@ -1,7 +1,7 @@
 -- Moves that may come in any order (RULES R600 to R616). Order: the queues of a move; when moves are apart; a pair of moves in either order; a list of them
 -- in any order; what the words are afterwards, in which no order is left. TogetherLaws.antt has the laws, the crate `run` proves both statements; a queue is
 -- named by `queue_at`, and the statements ask `targets` alone where a move leads. Assumes nothing.
-use Rattle.std.specs.Prelude.{◌≡◌, Bool, cond, ℕ, ◌+◌, T, eqb, length, drop, replicate}
+use Rattle.std.specs.Prelude.{◌≡◌, Bool, cond, ℕ, ◌+◌, T, eqb, length, drop, replicate, Option}
 use mathlib.Core.HLevel.{Discrete}
 use mathlib.Core.List.{List, [], ◌∷◌, ◌++◌, map, flat_map}
 use Rattle.std.proofs.Math.Decide.{ℕ_discrete}
@@ -9,11 +9,11 @@ use Rattle.base.specs.Tests.{pair-discrete, discrete-by}
 use Rattle.base.specs.Sums.{sum_of}
 use Rattle.base.specs.Rearrangement.{count, Rearranged}
 use Rattle.base.specs.Different.{all_different}
-use Rattle.network.specs.declared.Moved.{Moved}
+use Rattle.network.specs.declared.NamedMove.{NamedMove}
 use Rattle.network.specs.Sizes.{Shape}
 use Rattle.network.specs.Layout.{held, accepted, delivered, moves_made}
 use Rattle.network.specs.Routes.{deliver, target}
-use Rattle.network.specs.Calls.{NamedMove, Delivery, move_words, move_answer}
+use Rattle.network.specs.Calls.{Delivery, move_words, move_answer, Answer}
 use Rattle.network.specs.AfterLaws.{hopped, deliveries}
 use Rattle.network.specs.Choices.{Permits}
 use Rattle.network.specs.Run.{run, Leads}
@@ -70,7 +70,7 @@ outputs_differ ms = all_different (pair-discrete ℕ_discrete ℕ_discrete) (fla
 -- A pair of moves in either order ---------------------------------------------------------------------------------------------------------
 
 -- what a move answers, and the words that it leaves
-abbrev pub answered : List ℕ → NamedMove → Moved
+abbrev pub answered : List ℕ → NamedMove → Answer (Option ℕ)
 answered w m = move_answer w m.node m.queue m.output
 
 abbrev pub moved : List ℕ → NamedMove → List ℕ
@@ -97,7 +97,7 @@ same_delivery? =
     discrete-by (pair-discrete ℕ_discrete ℕ_discrete) (λ d. (d.node, d.packet)) (λ a b e i. record { node = (e i).0; packet = (e i).1 })
 
 -- the answers of moves made one after the other
-unfoldable pub answers : List ℕ → List NamedMove → List Moved
+unfoldable pub answers : List ℕ → List NamedMove → List (Answer (Option ℕ))
 answers w [] = []
 answers w (m ∷ ms) = answered w m ∷ answers (moved w m) ms
 

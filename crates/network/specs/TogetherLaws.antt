@@ -6,9 +6,9 @@ use mathlib.Core.List.{List}
 use Prim.Native.Nat.{ℕ, ◌<◌}
 use Rattle.std.proofs.Math.Decide.{ℕ_discrete}
 use Rattle.base.specs.Tests.{pair-discrete}
+use Rattle.network.specs.declared.NamedMove.{NamedMove}
 use Rattle.network.specs.Sizes.{Shape, nodes, queues}
 use Rattle.network.specs.Layout.{held}
-use Rattle.network.specs.Calls.{NamedMove}
 use Rattle.network.specs.AfterLaws.{LayoutKept}
 use Rattle.network.specs.Together.{held_after, HeaderAfter}
 

@@ -2,18 +2,18 @@
 -- docs/RULES.md, as in Rows.antt. For each pair of moves: whether the queues are all different, the sources, the targets; then what both orders answer and
 -- leave. Order: the queues of a move; moves that go together; two deliveries at one node; three moves; a target that is the other's source; one target; one source; two
 -- entries into one ring; all of them. Assumes nothing.
-use Rattle.std.specs.Prelude.{◌≡◌, Bool, true, false, ℕ, ◌+◌, ◌*◌, ◌^◌, replicate}
+use Rattle.std.specs.Prelude.{◌≡◌, Bool, true, false, ℕ, ◌+◌, ◌*◌, ◌^◌, replicate, None, Some, Ok, Err}
 use mathlib.Core.List.{List, [], ◌∷◌, ◌++◌, map, flat_map}
 use Rattle.std.proofs.Math.Decide.{ℕ_discrete}
 use Rattle.base.specs.Tests.{pair-discrete}
 use Rattle.base.specs.Rearrangement.{one_if, count}
 use Rattle.base.specs.Different.{all_different}
-use Rattle.network.specs.declared.Moved.{Moved}
+use Rattle.network.specs.declared.NamedMove.{NamedMove}
 use Rattle.network.specs.Sizes.{Shape, shape_of, sized}
 use Rattle.network.specs.Layout.{held}
 use Rattle.network.specs.Check.{ring_has_room}
 use Rattle.network.specs.Refusals.{move_refusal}
-use Rattle.network.specs.Calls.{NamedMove, move_of, moved_number, moved_packets}
+use Rattle.network.specs.Calls.{move_of, moved_number, moved_packets}
 use Rattle.network.specs.Run.{Outcome, outcome, run}
 use Rattle.network.specs.InLists.{words_of, nodes_of, as_moves}
 use Rattle.network.specs.Together.{queue_at, same_place?, source, targets, queues_differ, sources_differ, targets_differ, output_named, outputs_differ, moved, answers, newcomers, held_after, deliveries_among}
@@ -89,8 +89,8 @@ NoTarget = differ ring (move_of 1 0 0) (move_of 1 1 0) ≡ true ∷ true ∷ tru
 
 -- R606, R608: each is handed out by its own move, whichever comes first
 abbrev pub TwoDeliveries : Type 0
-TwoDeliveries = (answers two-arrived (move_of 1 0 0 ∷ move_of 1 1 0 ∷ []) ≡ Moved.Delivered 4295032832 ∷ Moved.Delivered 8590000128 ∷ [])
-    × (answers two-arrived (move_of 1 1 0 ∷ move_of 1 0 0 ∷ []) ≡ Moved.Delivered 8590000128 ∷ Moved.Delivered 4295032832 ∷ [])
+TwoDeliveries = (answers two-arrived (move_of 1 0 0 ∷ move_of 1 1 0 ∷ []) ≡ Ok (Some 4295032832) ∷ Ok (Some 8590000128) ∷ [])
+    × (answers two-arrived (move_of 1 1 0 ∷ move_of 1 0 0 ∷ []) ≡ Ok (Some 8590000128) ∷ Ok (Some 4295032832) ∷ [])
 
 -- R609: at node 1, and in the order of the moves
 abbrev pub HandedOutInOrder : Type 0
@@ -182,8 +182,8 @@ BehindEachOther = (held ring (moved (moved (same_way 1) (move_of 0 0 1)) (move_o
 
 -- with eight chunks each the second does not fit, whichever it is
 abbrev pub NoRoomForTwo : Type 0
-NoRoomForTwo = (answers (same_way 8) (move_of 0 0 1 ∷ move_of 0 1 1 ∷ []) ≡ Moved.Passed ∷ Moved.Refused 11 ∷ [])
-    × (answers (same_way 8) (move_of 0 1 1 ∷ move_of 0 0 1 ∷ []) ≡ Moved.Passed ∷ Moved.Refused 11 ∷ [])
+NoRoomForTwo = (answers (same_way 8) (move_of 0 0 1 ∷ move_of 0 1 1 ∷ []) ≡ (Ok None) ∷ Err 11 ∷ [])
+    × (answers (same_way 8) (move_of 0 1 1 ∷ move_of 0 0 1 ∷ []) ≡ (Ok None) ∷ Err 11 ∷ [])
 
 -- One source ------------------------------------------------------------------------------------------------------------------------------
 

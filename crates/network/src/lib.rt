@@ -5,7 +5,8 @@
 
 ghost use Rattle.std.specs.Prelude.{◌≡◌, ◌<◌};
 ghost use Rattle.network.specs.Sizes.{sized, direction_of, is_adaptive};
-ghost use Rattle.network.specs.Calls.{drained_number, drained_moves, drained_delivered};
+ghost use Rattle.network.specs.Refusals.{refusal_number, number_of, numbered};
+ghost use Rattle.network.specs.Calls.{drained_moves, drained_delivered};
 
 // R25, R28: the nodes along x, y and z, and by how much a queue of each kind is long: the sizes of a network, in the order of its first words.
 #[derive(Clone, Copy)]
@@ -128,132 +129,115 @@ pub const MOST_ACCEPTED: u64 = 4294967295;
 // R85: the most work that a packet starts with, 8 hops in each dimension and its delivery.
 pub const MOST_WORK: u64 = 25;
 
-// The numbers of the refusals.
-
-// R161: fewer words than the header or the sizes need.
-pub const SHORT_STORE: u64 = 1;
-
-// R162: a size out of its range.
-pub const WRONG_SIZE: u64 = 2;
-
-// R163: the check fails otherwise.
-pub const NO_NETWORK: u64 = 3;
-
-// R164: no node, or as a destination none.
-pub const NO_SUCH_NODE: u64 = 4;
-
-// R165: no queue.
-pub const NO_SUCH_QUEUE: u64 = 5;
-
-// R166: no output, or for Credit output 0.
-pub const NO_SUCH_OUTPUT: u64 = 6;
-
-// R167: the injection queue holds its capacity.
-pub const INJECTION_FULL: u64 = 7;
-
-// R168: accepted is the most that it may be.
-pub const COUNT_SPENT: u64 = 8;
-
-// R169: the queue to move from is empty.
-pub const QUEUE_EMPTY: u64 = 9;
-
-// R170: no route of the head goes by the output.
-pub const NO_ROUTE: u64 = 10;
-
-// R171: the target has no free slot.
-pub const NO_SLOT: u64 = 11;
-
-// R172: the target has one free slot and two are needed.
-pub const NO_BUBBLE: u64 = 12;
-
-// R173: no command of the bench program, or no step of a dump.
-pub const BAD_LINE: u64 = 13;
-
-// R174: an offer to the node at which it is made.
-pub const OWN_NODE: u64 = 14;
-
-// R175: a page or a list of fills too short for a step of a dump.
-pub const SHORT_PAGE: u64 = 15;
-
-// Move: refused by a rule, passed on to a neighbour, or delivered, with the packet word that it hands out.
-#[derive(Clone, Copy)]
-pub enum Moved {
-    Refused(u64),
-    Passed,
-    Delivered(u64),
+// R160: why a call is refused: the first rule that is broken.
+#[derive(Clone, Copy, Debug, PartialEq, Eq)]
+pub enum Refusal {
+    // R161: fewer words than the header or the sizes need.
+    ShortStore,
+    // R162: a size out of its range.
+    WrongSize,
+    // R163: the check fails otherwise.
+    NoNetwork,
+    // R164: no node, or as a destination none.
+    NoSuchNode,
+    // R165: no queue.
+    NoSuchQueue,
+    // R166: no output, or for Credit output 0.
+    NoSuchOutput,
+    // R167: the injection queue holds its capacity.
+    InjectionFull,
+    // R168: accepted is the most that it may be.
+    CountSpent,
+    // R169: the queue to move from is empty.
+    QueueEmpty,
+    // R170: no route of the head goes by the output.
+    NoRoute,
+    // R171: the target has no free slot.
+    NoSlot,
+    // R172: the target has one free slot and two are needed.
+    NoBubble,
+    // R173: no command of the bench program, or no step of a dump.
+    BadLine,
+    // R174: an offer to the node at which it is made.
+    OwnNode,
+    // R175: a page or a list of fills too short for a step of a dump.
+    ShortPage,
 }
 
-// Credit: refused by a rule, or how much is free of the target, in chunks or in slots.
-#[derive(Clone, Copy)]
-pub enum Credit {
-    Refused(u64),
-    Free(u64),
+// R161 to R175: the number that a refusal is told by.
+impl From<Refusal> for u64 {
+    ghost from_gives = { λ refusal number. number ≡ refusal_number refusal };
+
+    fn from(refusal: Refusal) -> u64 {
+        match refusal {
+            Refusal::ShortStore => 1,
+            Refusal::WrongSize => 2,
+            Refusal::NoNetwork => 3,
+            Refusal::NoSuchNode => 4,
+            Refusal::NoSuchQueue => 5,
+            Refusal::NoSuchOutput => 6,
+            Refusal::InjectionFull => 7,
+            Refusal::CountSpent => 8,
+            Refusal::QueueEmpty => 9,
+            Refusal::NoRoute => 10,
+            Refusal::NoSlot => 11,
+            Refusal::NoBubble => 12,
+            Refusal::BadLine => 13,
+            Refusal::OwnNode => 14,
+            Refusal::ShortPage => 15,
+        }
+    }
 }
 
-// First: refused by a rule, no permitted move, or the first one.
-#[derive(Clone, Copy)]
-pub enum Found {
-    Refused(u64),
-    Nothing,
-    Move { node: u64, queue: u64, output: u64 },
+// The number of an answer: that of its refusal, and 0 where it has none.
+pub fn number_of<A>(answer: &Result<A, Refusal>) -> u64
+    ensures { result ≡ number_of answer.now }
+{
+    match answer {
+        Ok(_) => 0,
+        Err(refusal) => u64::from(*refusal),
+    }
+}
+
+// A move by name: of the head of this queue of this node, by this output.
+#[derive(Clone, Copy, Debug, PartialEq, Eq)]
+pub struct NamedMove {
+    pub node: u64,
+    pub queue: u64,
+    pub output: u64,
 }
 
 // Why a Drain stopped.
-#[derive(Clone, Copy)]
+#[derive(Clone, Copy, Debug, PartialEq, Eq)]
 pub enum Stop {
     Emptied,
     Spent,
     Full,
 }
 
-// Drain: refused by a rule, or how many moves it made, how many packets it delivered, and why it stopped.
-#[derive(Clone, Copy)]
-pub enum Drained {
-    Refused(u64),
-    Stopped {
-        moves: u64,
-        delivered: u64,
-        stop: Stop,
-    },
+// What a Drain that is not refused came to: how many moves it made, how many packets it delivered, and why it stopped.
+#[derive(Clone, Copy, Debug, PartialEq, Eq)]
+pub struct Drained {
+    pub moves: u64,
+    pub delivered: u64,
+    pub stop: Stop,
 }
 
-// What is read of a Drain's answer: by which rule it is refused, or 0; the moves that it made; and the packets that it delivered. A refused one made none
-// and delivered none.
-pub fn drained_number(answer: Drained) -> u64
-    ensures { result ≡ drained_number answer }
+// What is read of a Drain's answer: the moves that it made, and the packets that it delivered. A refused one made none and delivered none.
+pub fn drained_moves(answer: &Result<Drained, Refusal>) -> u64
+    ensures { result ≡ drained_moves (numbered answer.now) }
 {
     match answer {
-        Drained::Refused(refusal) => refusal,
-        Drained::Stopped {
-            moves: _,
-            delivered: _,
-            stop: _,
-        } => 0,
+        Ok(drained) => drained.moves,
+        Err(_) => 0,
     }
 }
 
-pub fn drained_moves(answer: Drained) -> u64
-    ensures { result ≡ drained_moves answer }
+pub fn drained_delivered(answer: &Result<Drained, Refusal>) -> u64
+    ensures { result ≡ drained_delivered (numbered answer.now) }
 {
     match answer {
-        Drained::Refused(_) => 0,
-        Drained::Stopped {
-            moves,
-            delivered: _,
-            stop: _,
-        } => moves,
-    }
-}
-
-pub fn drained_delivered(answer: Drained) -> u64
-    ensures { result ≡ drained_delivered answer }
-{
-    match answer {
-        Drained::Refused(_) => 0,
-        Drained::Stopped {
-            moves: _,
-            delivered,
-            stop: _,
-        } => delivered,
+        Ok(drained) => drained.delivered,
+        Err(_) => 0,
     }
 }

@@ -3,10 +3,10 @@ use Rattle.std.proofs.Common.{refl}
 use Rattle.network.specs.Calls.{drained_moves}
 use Rattle.network.proofs.drained_moves.Goals as goal
 
-pub returns-in-Refused : goal.returns-in-Refused
+pub returns-in-Ok : goal.returns-in-Ok
 unfolding drained_moves
-returns-in-Refused c = rw c.in-Refused.is refl
+returns-in-Ok c = rw c.in-Ok.is refl
 
-pub returns-in-Stopped : goal.returns-in-Stopped
+pub returns-in-Err : goal.returns-in-Err
 unfolding drained_moves
-returns-in-Stopped c = rw c.in-Stopped.is refl
+returns-in-Err c = rw c.in-Err.is refl
