@@ -1,11 +1,12 @@
 -- What a reader asks of demand 3. Order: First and an empty network; a Drain that may go on to the end; the hops left by direction; the arbiter's order
 -- of moves; the stamps of a dump. Reached.antt has that Make and accepted offers lead to networks. Assumes nothing.
-use Rattle.std.specs.Prelude.{◌≡◌, refl, ◌↔◌, List, [], ◌∷◌, ℕ, ◌+◌, ◌<◌, ◌≤◌, length}
+use Rattle.std.specs.Prelude.{◌≡◌, refl, ◌↔◌, List, [], ◌∷◌, ℕ, ◌+◌, ◌<◌, ◌≤◌, length, Option, None, Ok}
 use Rattle.std.proofs.Common.{ap, sym, ◌∙◌, arith, eq-eqb}
 use Rattle.std.proofs.Math.Decide.{ℕ_discrete}
-use Rattle.network.specs.declared.Found.{Found}
+use Rattle.network.specs.declared.NamedMove.{NamedMove}
 use Rattle.network.specs.declared.Stop.{Stop}
 use Rattle.network.specs.declared.Drained.{Drained}
+use Rattle.std.specs.Result.{result_unwrap_or}
 use Rattle.base.specs.Sums.{sum_of, sum_below}
 use Rattle.base.proofs.Sums.{sum-zero}
 use Rattle.network.specs.Sizes.{Shape, nodes, queues, directions}
@@ -19,7 +20,7 @@ use Rattle.network.proofs.RefusalLaws.{network-passed}
 use Rattle.network.specs.FirstLaws.{Finds, nothing, named}
 use Rattle.network.proofs.FirstLaws.{first_finds, first-nothing}
 use Rattle.network.proofs.FirstMovesLaws.{held-some}
-use Rattle.network.specs.Calls.{Progress, first_move, first_answer, drain_from, drained, drain_answer, drained_moves}
+use Rattle.network.specs.Calls.{Progress, first_move, first_answer, drain_from, drained, drain_answer, drained_moves, drain_of, Answer}
 use Rattle.network.proofs.CallLaws.{torus}
 use Rattle.network.specs.Run.{Call, drain, outcome, run, is_labelled, held_with, handed_with, hops_with, Demand3}
 use Rattle.run.specs.Step.{Ran}
@@ -31,27 +32,30 @@ use Rattle.run.specs.Reached.{offer-network, offer-moves}
 use Rattle.run.specs.Corollaries.{SameInTheEnd, Event, ran, offered, event_words, event_moves, later_words, moves_between, Counted}
 
 -- R124: First says none exactly when nothing is held
-pub first-none-when-empty : (w : List ℕ) → network_refusal w ≡ 0 → (first_answer w ≡ Found.Nothing) ↔ (packets_held (shape w) w ≡ 0)
+pub first-none-when-empty : (w : List ℕ) → network_refusal w ≡ 0 → (first_answer w ≡ Ok None) ↔ (packets_held (shape w) w ≡ 0)
 unfolding first_answer
-first-none-when-empty w e = rw (eq-eqb (network_refusal w) 0 e) ((λ none. empty none (ℕ_discrete (packets_held (shape w) w) 0)), (λ z. none z (first_move (shape w) w) (first_finds (shape w) w)))
+first-none-when-empty w e = rw (eq-eqb (network_refusal w) 0 e) (
+      (λ e'. empty (ap (λ (x : Answer (Option NamedMove)). result_unwrap_or x None) e') (ℕ_discrete (packets_held (shape w) w) 0)),
+      (λ z. ap (λ (x : Option NamedMove). Ok x) (none z (first_move (shape w) w) (first_finds (shape w) w))),
+    )
   where
     N : Network (shape w) w
     N = network-passed w e
 
-    empty : first_move (shape w) w ≡ Found.Nothing → Dec (packets_held (shape w) w ≡ 0) → packets_held (shape w) w ≡ 0
+    empty : first_move (shape w) w ≡ None → Dec (packets_held (shape w) w ≡ 0) → packets_held (shape w) w ≡ 0
     empty none (yes z) = z
     empty none (no ne) =
         let s : PermittedMove (shape w) w = alive (shape w) w (torus w N) N ne in
         absurd (first-nothing (shape w) w none s.node s.queue s.output s.permitted)
 
-    none : packets_held (shape w) w ≡ 0 → (f : Found) → Finds (Permitted (shape w) w) f → f ≡ Found.Nothing
+    none : packets_held (shape w) w ≡ 0 → (f : Option NamedMove) → Finds (Permitted (shape w) w) f → f ≡ None
     none z f nothing = refl
     none z f (named {n} {q} {o} P) = absurd (held-some (shape w) w n q o P z)
 
 -- a Drain with a budget of at least the work left and a ledger of at least the packets held stops with emptied, and the number of its moves is the
 -- work left
 pub drain-to-the-end : (w : List ℕ) (budget room : ℕ) → network_refusal w ≡ 0 → work_left (shape w) w ≤ budget → packets_held (shape w) w ≤ room
-    → drain_answer w budget room ≡ Drained.Stopped (work_left (shape w) w) (packets_held (shape w) w) Stop.Emptied
+    → drain_answer w budget room ≡ Ok (drain_of (work_left (shape w) w) (packets_held (shape w) w) Stop.Emptied)
 unfolding drain_answer drained
 drain-to-the-end w budget room e b l = rw (eq-eqb (network_refusal w) 0 e) (by (drain-why (shape w) (torus w N) budget room w N))
   where
@@ -64,10 +68,11 @@ drain-to-the-end w budget room e b l = rw (eq-eqb (network_refusal w) 0 e) (by (
     ran : Ran (shape w) w r.words r.deliveries (length r.moves)
     ran = drain-ran (shape w) (torus w N) budget room w N
 
-    all : {a b c d : ℕ} {x y : Stop} → a ≡ b → c ≡ d → x ≡ y → Drained.Stopped a c x ≡ Drained.Stopped b d y
-    all p q s = λ i. Drained.Stopped (p i) (q i) (s i)
+    all : {a b c d : ℕ} {x y : Stop} → a ≡ b → c ≡ d → x ≡ y → ◌≡◌ {A = Answer Drained} (Ok (drain_of a c x)) (Ok (drain_of b d y))
+    all p q s = λ i. Ok (drain_of (p i) (q i) (s i))
 
-    by : StopReason (shape w) budget room r → Drained.Stopped (length r.moves) (length r.deliveries) r.stop ≡ Drained.Stopped (work_left (shape w) w) (packets_held (shape w) w) Stop.Emptied
+    by : StopReason (shape w) budget room r
+        → ◌≡◌ {A = Answer Drained} (Ok (drain_of (length r.moves) (length r.deliveries) r.stop)) (Ok (drain_of (work_left (shape w) w) (packets_held (shape w) w) Stop.Emptied))
     by (nothing-held s z) =
         let done : work_left (shape w) r.words ≡ 0 = no-packets (shape w) r.words z in
         let x = ran.work-done in

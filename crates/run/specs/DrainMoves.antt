@@ -1,12 +1,12 @@
 -- What a Drain does: the same fact as a move's, and that each of its moves is the one that First names by then, and so one that Move makes. Order: the next
 -- move; a whole Drain; its moves one by one. Assumes nothing.
-use Rattle.std.specs.Prelude.{◌≡◌, ◌≢◌, Bool, cond, List, [], ◌∷◌, ◌++◌, eqb, length}
+use Rattle.std.specs.Prelude.{◌≡◌, ◌≢◌, Bool, cond, List, [], ◌∷◌, ◌++◌, eqb, length, Option, Some}
 use Rattle.std.proofs.Math.Path.{refl}
 use Rattle.std.proofs.Common.{sym, ◌∙◌, subst, one-add, eq-eqb, ne_eqb}
 use Rattle.std.proofs.Math.Bool.{true, false}
 use Prim.Native.Nat.{ℕ, zero, suc}
 use Rattle.std.proofs.Math.Decide.{ℕ_discrete}
-use Rattle.network.specs.declared.Found.{Found}
+use Rattle.network.specs.declared.NamedMove.{NamedMove}
 use Rattle.network.specs.declared.Stop.{Stop}
 use Rattle.network.specs.Sizes.{Shape}
 use Rattle.network.specs.TorusLaws.{Torus}
@@ -19,7 +19,7 @@ use Rattle.network.specs.RefusalLaws.{Permitted}
 use Rattle.network.proofs.RefusalLaws.{network-passes}
 use Rattle.network.specs.FirstLaws.{Finds, nothing, named}
 use Rattle.network.proofs.FirstLaws.{first_finds}
-use Rattle.network.specs.Calls.{NamedMove, move_of, Delivery, Progress, after_move, first_move, stopped, one_more, deliver_next, move_next, drain_from}
+use Rattle.network.specs.Calls.{move_of, Delivery, Progress, after_move, first_move, stopped, one_more, deliver_next, move_next, drain_from}
 use Rattle.network.specs.Run.{Leads}
 use Rattle.network.specs.FirstMoves.{ByFirst}
 use Rattle.network.proofs.FirstMovesLaws.{search-named, by-first-leads, by-first-one, by-first-append}
@@ -49,7 +49,7 @@ hands-nothing S w n q o ne = rw (ne_eqb o deliver ne)
 
 module _ (S : Shape) (tor : Torus S) where
   -- the next move, if First names one, and what comes after it
-  next : (w : List ℕ) (room : ℕ) (f : Found) (on : ℕ → List ℕ → Progress) → Network S w → Finds (Permitted S w) f
+  next : (w : List ℕ) (room : ℕ) (f : Option NamedMove) (on : ℕ → List ℕ → Progress) → Network S w → Finds (Permitted S w) f
       → ((r : ℕ) (v : List ℕ) → Network S v → RanTo S v (on r v)) → RanTo S w (move_next S w room f on)
   unfolding move_next deliver_next
   next w room f on N nothing rec = stops S w Stop.Emptied N
@@ -91,7 +91,7 @@ module _ (S : Shape) (tor : Torus S) where
       go false r = r
 
   -- each move of a Drain is the one that First names in the words by then, and does what Move does
-  first_next : (w : List ℕ) (room : ℕ) (f : Found) (on : ℕ → List ℕ → Progress) → shape w ≡ S → Network S w → first_move S w ≡ f → Finds (Permitted S w) f
+  first_next : (w : List ℕ) (room : ℕ) (f : Option NamedMove) (on : ℕ → List ℕ → Progress) → shape w ≡ S → Network S w → first_move S w ≡ f → Finds (Permitted S w) f
       → ((r : ℕ) (v : List ℕ) → shape v ≡ S → Network S v → ByFirst v (on r v).moves (on r v).words)
       → ByFirst w (move_next S w room f on).moves (move_next S w room f on).words
   unfolding move_next deliver_next stopped one_more ByFirst
@@ -110,7 +110,7 @@ module _ (S : Shape) (tor : Torus S) where
       one : ByFirst w (m ∷ []) (after_move S w n q o)
       one =
           subst (λ (T : Shape). ByFirst w (m ∷ []) (after_move T w n q o)) same
-          (by-first-one w m (search-named w m passed (subst (λ (T : Shape). first_move T w ≡ Found.Move n q o) (sym same) first)))
+          (by-first-one w m (search-named w m passed (subst (λ (T : Shape). first_move T w ≡ Some (move_of n q o)) (sym same) first)))
 
       later : (r : ℕ) → ByFirst w (m ∷ (on r (after_move S w n q o)).moves) (on r (after_move S w n q o)).words
       later r =

@@ -1,10 +1,10 @@
 -- After a move, only few heads can have come to have a permitted move: that of its source queue, that of its target, and those of the node whose output
 -- leads into the source queue. A Drain need not look at any other head again. Order: the node before; a permitted move of another head was permitted
 -- before; First at another head; First's move from the heads. Assumes nothing.
-use Rattle.std.specs.Prelude.{◌≡◌, refl, ◌≢◌, List, ℕ, ◌<◌, ◌≤◌, T, length}
+use Rattle.std.specs.Prelude.{◌≡◌, refl, ◌≢◌, List, ℕ, ◌<◌, ◌≤◌, T, length, Option, None}
 use Rattle.std.proofs.Common.{ap, sym, ◌∙◌, subst, le_trans, arith}
 use Rattle.base.specs.Tests.{elem}
-use Rattle.network.specs.declared.Found.{Found}
+use Rattle.network.specs.declared.NamedMove.{NamedMove}
 use Rattle.network.specs.Sizes.{Shape, nodes, queues, directions, direction_of}
 use Rattle.network.specs.Torus.{neighbour}
 use Rattle.network.specs.TorusLaws.{Torus}
@@ -74,22 +74,22 @@ permitted-before S w n q o tor N P k r t u p =
 
 -- so a head at which First found nothing has nothing still
 pub still-nothing : (S : Shape) (w : List ℕ) (n q o : ℕ) → Torus S → Network S w → Permitted S w n q o → (k r : ℕ) → Untouched S n q o k r
-    → first_in_queue S w k r ≡ Found.Nothing → first_in_queue S (after_move S w n q o) k r ≡ Found.Nothing
+    → first_in_queue S w k r ≡ None → first_in_queue S (after_move S w n q o) k r ≡ None
 still-nothing S w n q o tor N P k r u e = go (first_in_queue S (after_move S w n q o) k r) (queue-finds S (after_move S w n q o) k r)
   where
     v : List ℕ
     v = after_move S w n q o
 
-    go : (f : Found) → Finds (Its S v k r) f → f ≡ Found.Nothing
+    go : (f : Option NamedMove) → Finds (Its S v k r) f → f ≡ None
     go f nothing = refl
     go f (named {n = k'} {q = r'} {o = t} h) =
         let p : Permitted S v k r t = subst (λ (x : ℕ). Permitted S v x r t) h.0 (subst (λ (y : ℕ). Permitted S v k' y t) h.1 h.2) in
         absurd (queue-nothing S w k r e t (permitted-before S w n q o tor N P k r t u p))
 
 -- First's move where no head before that of queue q of node n has one, and none where no head has
-pub first-at : (S : Shape) (w : List ℕ) (n q : ℕ) (f : Found) → n < nodes S → q < queues
-    → ((k r : ℕ) → k < n → r < queues → first_in_queue S w k r ≡ Found.Nothing) → ((r : ℕ) → r < q → first_in_queue S w n r ≡ Found.Nothing)
-    → first_in_queue S w n q ≡ f → f ≢ Found.Nothing → first_move S w ≡ f
+pub first-at : (S : Shape) (w : List ℕ) (n q : ℕ) (f : Option NamedMove) → n < nodes S → q < queues
+    → ((k r : ℕ) → k < n → r < queues → first_in_queue S w k r ≡ None) → ((r : ℕ) → r < q → first_in_queue S w n r ≡ None)
+    → first_in_queue S w n q ≡ f → f ≢ None → first_move S w ≡ f
 unfolding first_move first_in_node
 first-at S w n q f hn hq earlier lower e ne =
     search-at (λ k. first_in_node S w k) 0 (nodes S) n f (omega arith) (omega arith)
@@ -97,7 +97,7 @@ first-at S w n q f hn hq earlier lower e ne =
     (search-at (λ r. first_in_queue S w n r) 0 queues q f (omega arith) (omega arith) (λ r x y. lower r y) e ne)
     ne
 
-pub first-nowhere : (S : Shape) (w : List ℕ) → ((k r : ℕ) → k < nodes S → r < queues → first_in_queue S w k r ≡ Found.Nothing) → first_move S w ≡ Found.Nothing
+pub first-nowhere : (S : Shape) (w : List ℕ) → ((k r : ℕ) → k < nodes S → r < queues → first_in_queue S w k r ≡ None) → first_move S w ≡ None
 unfolding first_move first_in_node
 first-nowhere S w none =
     search-nowhere (λ k. first_in_node S w k) 0 (nodes S)

@@ -1,13 +1,13 @@
 -- Each of Drain's stops has its condition, on every network: theorem `drain-stops` (RULES R130 to R133), of the statement in network/specs/Choices.antt.
 -- So a Drain that says emptied has left nothing, in the two cases of its definition that never come up too.
 -- Order: why moves stopped; one move more; the next move; a whole Drain; the theorem. Assumes nothing.
-use Rattle.std.specs.Prelude.{◌≡◌, ◌≢◌, cond, eqb, length}
+use Rattle.std.specs.Prelude.{◌≡◌, ◌≢◌, cond, eqb, length, Option, Some, Ok}
 use Rattle.std.proofs.Math.Path.{refl}
 use Rattle.std.proofs.Common.{ap, sym, ◌∙◌, subst, arith, eq-eqb, ne_eqb, length-append}
 use mathlib.Core.List.{List, [], ◌∷◌, ◌++◌}
 use Prim.Native.Nat.{ℕ, zero, suc, ◌+◌, ◌<◌}
 use Rattle.std.proofs.Math.Decide.{ℕ_discrete}
-use Rattle.network.specs.declared.Found.{Found}
+use Rattle.network.specs.declared.NamedMove.{NamedMove}
 use Rattle.network.specs.declared.Stop.{Stop}
 use Rattle.network.specs.declared.Drained.{Drained}
 use Rattle.network.specs.Sizes.{Shape}
@@ -21,7 +21,7 @@ use Rattle.network.specs.RefusalLaws.{Permitted}
 use Rattle.network.proofs.RefusalLaws.{network-passed, network-passes}
 use Rattle.network.specs.FirstLaws.{Finds, nothing, named}
 use Rattle.network.proofs.FirstLaws.{first_finds, first-nothing}
-use Rattle.network.specs.Calls.{NamedMove, move_of, Delivery, Progress, after_move, first_move, first_answer, stopped, one_more, deliver_next, move_next, drain_from, drained, drain_words, drain_answer, drained_moves, drained_delivered, drained_stop, found_move}
+use Rattle.network.specs.Calls.{move_of, Delivery, Progress, after_move, first_move, first_answer, stopped, one_more, deliver_next, move_next, drain_from, drained, drain_words, drain_answer, drained_moves, drained_delivered, drained_stop, found_move, drain_of}
 use Rattle.network.proofs.CallLaws.{torus}
 use Rattle.network.specs.DrainLaws.{Within}
 use Rattle.network.proofs.DrainLaws.{drain-within}
@@ -34,7 +34,7 @@ use Rattle.run.specs.DrainMoves.{drain-ran}
 pub record Delivers (S : Shape) (w : List ℕ) : Type 0 where
   pub node : ℕ
   pub queue : ℕ
-  pub first : first_move S w ≡ Found.Move node queue deliver
+  pub first : first_move S w ≡ Some (move_of node queue deliver)
 
 -- why moves stopped, by the stop that they name
 pub data StopReason (S : Shape) (budget room : ℕ) (r : Progress) : Type 0 where
@@ -53,7 +53,7 @@ why-more S budget left room k ds r e (ledger-full s h m d l) =
     ledger-full s h (omega arith) d (omega arith)
 
 module _ (S : Shape) (tor : Torus S) where
-  why-next : (w : List ℕ) (budget room : ℕ) (f : Found) (on : ℕ → List ℕ → Progress) → Network S w → packets_held S w ≢ 0 → first_move S w ≡ f
+  why-next : (w : List ℕ) (budget room : ℕ) (f : Option NamedMove) (on : ℕ → List ℕ → Progress) → Network S w → packets_held S w ≢ 0 → first_move S w ≡ f
       → Finds (Permitted S w) f → ((left : ℕ) (v : List ℕ) → Network S v → StopReason S budget left (on left v)) → StopReason S (suc budget) room (move_next S w room f on)
   unfolding move_next deliver_next stopped
   why-next w budget room f on N ne e nothing rec =
@@ -65,7 +65,7 @@ module _ (S : Shape) (tor : Torus S) where
       after = (step S w n q o tor N P).network
 
       delivers : o ≡ deliver → (room' : ℕ) → StopReason S (suc budget) room' (deliver_next S w n q room' on)
-      delivers z zero = ledger-full refl ne (omega arith) (record { node = n; queue = q; first = e ∙ ap (λ (x : ℕ). Found.Move n q x) z }) refl
+      delivers z zero = ledger-full refl ne (omega arith) (record { node = n; queue = q; first = e ∙ ap (λ (x : ℕ). Some (move_of n q x)) z }) refl
       delivers z (suc left) =
           why-more S budget left (suc left) (move_of n q deliver) (record { node = n; packet = head (held S w n q) } ∷ []) (on left (after_move S w n q deliver)) (omega arith)
           (rec left (after_move S w n q deliver) (subst (λ (x : ℕ). Network S (after_move S w n q x)) z after))
@@ -108,13 +108,13 @@ unfolding first_answer found_move
 next-delivers v N d =
     record {
       next = move_of d.node d.queue deliver;
-      first = rw (eq-eqb (network_refusal v) 0 (network-passes v N)) (ap found_move d.first);
+      first = rw (eq-eqb (network_refusal v) 0 (network-passes v N)) (ap (λ (x : Option NamedMove). found_move (Ok x)) d.first);
       delivers = refl;
     }
 
 -- each stop with its own condition, and no other's
 stops-by : (budget room : ℕ) (r : Progress) → Network (shape r.words) r.words → Within budget room r → StopReason (shape r.words) budget room r
-    → DrainStops budget room (Drained.Stopped (length r.moves) (length r.deliveries) r.stop) r.words
+    → DrainStops budget room (Ok (drain_of (length r.moves) (length r.deliveries) r.stop)) r.words
 unfolding drained_moves drained_delivered drained_stop stop_code
 stops-by budget room r N limits (nothing-held s z) =
     record {

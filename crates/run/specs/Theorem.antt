@@ -4,12 +4,11 @@
 -- pass the check, so each escape ring has a free slot; and while anything is held, some move is permitted. `Demand3` of network/specs/Run.antt says this in
 -- full, of the very definitions that the contracts of Move and Drain cite; here is its proof.
 -- Order: nothing is held exactly when no work is left; one call; a list of calls; the theorem. Assumes nothing.
-use Rattle.std.specs.Prelude.{◌≡◌, refl, ◌≢◌, Bool, true, false, cond, List, [], ◌∷◌, ◌++◌, map, ℕ, ◌+◌, ◌≤◌, eqb, length}
+use Rattle.std.specs.Prelude.{◌≡◌, refl, ◌≢◌, Bool, true, false, cond, List, [], ◌∷◌, ◌++◌, map, ℕ, ◌+◌, ◌≤◌, eqb, length, Option, None, Some, Ok}
 use Rattle.std.proofs.Common.{ap, ap₂, sym, ◌∙◌, subst, arith, eq-eqb, ne_eqb, length-append}
 use Rattle.std.proofs.Math.Decide.{ℕ_discrete}
 use Rattle.base.specs.Sums.{sum_of, sum_below}
 use Rattle.base.proofs.Sums.{sum_of-least, sum-zero}
-use Rattle.network.specs.declared.Moved.{Moved}
 use Rattle.network.specs.Sizes.{Shape, nodes, queues}
 use Rattle.network.specs.Packet.{work}
 use Rattle.network.specs.Layout.{shape, held, total}
@@ -19,7 +18,7 @@ use Rattle.network.specs.CheckLaws.{Network}
 use Rattle.network.specs.Routes.{deliver}
 use Rattle.network.specs.Refusals.{network_refusal, move_rules, move_refusal, head}
 use Rattle.network.proofs.RefusalLaws.{network-passed, network-passes, neither, else_by-zero, permitted-of, permitted-by}
-use Rattle.network.specs.Calls.{move_of, unless_refused, moved_number, Delivery, after_move, move_words, move_answer, moved_packets, drained, drain_words, drain_answer, drained_moves}
+use Rattle.network.specs.Calls.{move_of, unless_refused, moved_number, Delivery, after_move, move_words, move_answer, moved_packets, drained, drain_words, drain_answer, drained_moves, Answer}
 use Rattle.network.proofs.CallLaws.{torus}
 use Rattle.network.specs.Run.{Call, move, drain, Outcome, outcome, run, Leads, ledger_of, SomeMove, AfterRun, Demand3}
 use Rattle.network.proofs.RunLaws.{drain-handed, run-kept, leads-none, leads_one, leads-append}
@@ -77,8 +76,8 @@ made_move w n q o e = rw (eq-eqb (move_refusal w n q o) 0 e) (by (eqb o deliver)
     p : ℕ
     p = head (held (shape w) w n q)
 
-    answer : Bool → Moved
-    answer t = cond t (Moved.Delivered p) Moved.Passed
+    answer : Bool → Answer (Option ℕ)
+    answer t = Ok (cond t (Some p) None)
 
     by : (t : Bool)
         → ◌≡◌ {A = Outcome}

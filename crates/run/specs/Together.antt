@@ -1,14 +1,14 @@
 -- Moves that may come in any order (RULES R600 to R616, network/specs/Together.antt). In plain words: of moves that are each permitted in the same network,
 -- whose sources differ among themselves and whose targets do, every order is permitted, every order ends in the same words, and each move is answered as it
 -- would be at the start. Order: one move after others; moves after moves; any order; where all queues differ; a pair; what M lines show. Assumes nothing.
-use Rattle.std.specs.Prelude.{◌≡◌, refl, ◌↔◌, ◌≢◌, cond, ℕ, ◌+◌, ◌≤◌, T, eqb, get_or}
+use Rattle.std.specs.Prelude.{◌≡◌, refl, ◌↔◌, ◌≢◌, cond, ℕ, ◌+◌, ◌≤◌, T, eqb, get_or, Option, None, Some, Ok}
 use Rattle.std.proofs.Common.{ap, ap₂, sym, ◌∙◌, subst, arith, eq-eqb}
 use mathlib.Core.List.{List, [], ◌∷◌, ◌++◌, map, flat_map, append-nil, append_assoc}
 use Rattle.base.specs.Tests.{EachOf}
 use Rattle.base.specs.Rearrangement.{count, Rearranged}
 use Rattle.base.proofs.Rearrangement.{count_same, count-append, rearranged-each, rearranged-flat}
 use Rattle.base.proofs.Different.{different-exactly}
-use Rattle.network.specs.declared.Moved.{Moved}
+use Rattle.network.specs.declared.NamedMove.{NamedMove}
 use Rattle.network.specs.Sizes.{Shape}
 use Rattle.network.specs.Layout.{shape, held}
 use Rattle.network.specs.CheckLaws.{Network}
@@ -16,7 +16,7 @@ use Rattle.network.specs.Routes.{deliver}
 use Rattle.network.specs.Refusals.{network_refusal, move_rules, move_refusal, head}
 use Rattle.network.specs.RefusalLaws.{Permitted}
 use Rattle.network.proofs.RefusalLaws.{network-passed, neither, else_by-zero, permitted-of, permitted-by}
-use Rattle.network.specs.Calls.{NamedMove, Delivery, move_answer, moved_packets}
+use Rattle.network.specs.Calls.{Delivery, move_answer, moved_packets, Answer}
 use Rattle.network.proofs.CallLaws.{torus, move-call}
 use Rattle.network.specs.Choices.{Permits}
 use Rattle.network.specs.Run.{move, outcome, run, Leads, Demand3}
@@ -44,7 +44,7 @@ permits-in S v m e s P =
 
 -- its answer is by the head of its queue
 answer-is : (w : List ℕ) (m : NamedMove) → Permits w m
-    → answered w m ≡ cond (eqb m.output deliver) (Moved.Delivered (head (held (shape w) w m.node m.queue))) Moved.Passed
+    → answered w m ≡ Ok (cond (eqb m.output deliver) (Some (head (held (shape w) w m.node m.queue))) None)
 unfolding move_answer
 answer-is w m e = rw (eq-eqb (move_refusal w m.node m.queue m.output) 0 e)
 
@@ -69,7 +69,7 @@ next w v done m e f A p fresh free =
       permitted = here;
       same_answer =
           answer-is v m here
-          ∙ ap (λ (x : ℕ). cond (eqb m.output deliver) (Moved.Delivered x) Moved.Passed)
+          ∙ ap (λ (x : ℕ). Ok (cond (eqb m.output deliver) (Some x) None))
           (ap (λ (S : Shape). head (held S v m.node m.queue)) same_shape ∙ same_head (shape w) w v done m (torus w N) N A P fresh free)
           ∙ sym (answer-is w m p);
       network = moved-network v m f;
@@ -97,7 +97,7 @@ one-made w m e = rw (eq-eqb (move_refusal w m.node m.queue m.output) 0 e)
 
 same-handed : (v w : List ℕ) (m : NamedMove) → answered v m ≡ answered w m → (outcome (move m) v).handed_out ≡ (outcome (move m) w).handed_out
 unfolding outcome
-same-handed v w m e = ap (λ (a : Moved). map (λ (p : ℕ). record { node = m.node; packet = p }) (moved_packets a)) e
+same-handed v w m e = ap (λ (a : Answer (Option ℕ)). map (λ (p : ℕ). record { node = m.node; packet = p }) (moved_packets a)) e
 
 -- Moves after moves -----------------------------------------------------------------------------------------------------------------------
 
@@ -207,8 +207,8 @@ apart-either-order w a b e p q d =
           b-permitted = A.leads.1.0;
           a-permitted = B.leads.1.0;
           same-words = sym B.leads.1.1;
-          b-answer = ap (λ (l : List Moved). get_or l 1 Moved.Passed) A.same-answers;
-          a-answer = ap (λ (l : List Moved). get_or l 1 Moved.Passed) B.same-answers;
+          b-answer = ap (λ (l : List (Answer (Option ℕ))). get_or l 1 (Ok None)) A.same-answers;
+          a-answer = ap (λ (l : List (Answer (Option ℕ))). get_or l 1 (Ok None)) B.same-answers;
         }
 
 pub either_order : (w : List ℕ) (a b : NamedMove) → network_refusal w ≡ 0 → Permits w a → Permits w b → T (queues_differ (shape w) (a ∷ b ∷ []))

@@ -1,8 +1,8 @@
 -- Kept rows of the sheet's text: the lines of R257 and many others, as they are cut, read and printed, worked out by hand from docs/RULES.md and computed
 -- from the definitions. A must-fail edit of a definition names the row that it breaks; so each row is a law of its own, and `examples` has them all.
 -- Order: lines; commands; what is printed; all of them. Assumes nothing.
-use Rattle.std.specs.Prelude.{◌≡◌, [], ◌∷◌, ◌++◌, map, ◌+◌, ◌*◌, ◌^◌, replicate}
-use Rattle.network.specs.declared.Moved.{Moved}
+use Rattle.std.specs.Prelude.{◌≡◌, [], ◌∷◌, ◌++◌, map, ◌+◌, ◌*◌, ◌^◌, replicate, None, Some, Ok, Err}
+use Rattle.network.specs.Calls.{drain_of}
 use Rattle.network.specs.declared.Stop.{Stop}
 use Rattle.network.specs.declared.Drained.{Drained}
 use Rattle.sheet.specs.declared.Command.{Command}
@@ -122,8 +122,8 @@ LineEnd = answer_line 84 0 ≡ 84 ∷ 44 ∷ 48 ∷ 13 ∷ 10 ∷ []
 -- R253: a letter and a refusal
 abbrev pub Answered : Type 0
 Answered = (answer_line 79 7 ≡ text "O,7\r\n")
-    × (moved_lines (Moved.Refused 10) ≡ text "M,10\r\n")
-    × (moved_lines Moved.Passed ≡ text "M,0\r\n")
+    × (moved_lines (Err 10) ≡ text "M,10\r\n")
+    × (moved_lines (Ok None) ≡ text "M,0\r\n")
 
 -- R248: a line that is no command
 abbrev pub BadLine : Type 0
@@ -131,22 +131,22 @@ BadLine = bad_line_answer ≡ text "?,13\r\n"
 
 -- R255: a packet handed out by a Move, of eight chunks: its tag and its destination, and no chunks, before the line of the M
 abbrev pub HandedOut : Type 0
-HandedOut = moved_lines (Moved.Delivered (7 * 2 ^ 32 + 7 * 2 ^ 28 + 2 * 2 ^ 16)) ≡ text "P,7,2\r\nM,0\r\n"
+HandedOut = moved_lines (Ok (Some (7 * 2 ^ 32 + 7 * 2 ^ 28 + 2 * 2 ^ 16))) ≡ text "P,7,2\r\nM,0\r\n"
 
 -- R256: a Drain that is refused
 abbrev pub RefusedDrain : Type 0
-RefusedDrain = drained_lines (Drained.Refused 3) (0 ∷ []) ≡ text "D,3\r\n"
+RefusedDrain = drained_lines (Err 3) (0 ∷ []) ≡ text "D,3\r\n"
 
 -- R254: the moves of a Drain and its stop, in the three words
 abbrev pub StopWords : Type 0
-StopWords = (drained_lines (Drained.Stopped 2 0 Stop.Emptied) (0 ∷ []) ≡ text "D,0,2,emptied\r\n")
-    × (drained_lines (Drained.Stopped 0 0 Stop.Spent) (0 ∷ []) ≡ text "D,0,0,spent\r\n")
-    × (drained_lines (Drained.Stopped 5 0 Stop.Full) [] ≡ text "D,0,5,full\r\n")
+StopWords = (drained_lines (Ok (drain_of 2 0 Stop.Emptied)) (0 ∷ []) ≡ text "D,0,2,emptied\r\n")
+    × (drained_lines (Ok (drain_of 0 0 Stop.Spent)) (0 ∷ []) ≡ text "D,0,0,spent\r\n")
+    × (drained_lines (Ok (drain_of 5 0 Stop.Full)) [] ≡ text "D,0,5,full\r\n")
 
 -- R255: the packets that a Drain handed out, in their order, before the line of the D; what stands behind them in the ledger is not printed
 abbrev pub PacketsBefore : Type 0
-PacketsBefore = (drained_lines (Drained.Stopped 2 1 Stop.Emptied) ((7 * 2 ^ 32 + 2 * 2 ^ 16) ∷ 0 ∷ []) ≡ text "P,7,2\r\nD,0,2,emptied\r\n")
-    × (drained_lines (Drained.Stopped 5 2 Stop.Full) ((8 * 2 ^ 32 + 3 * 2 ^ 16) ∷ (9 * 2 ^ 32 + 4 * 2 ^ 16) ∷ [])
+PacketsBefore = (drained_lines (Ok (drain_of 2 1 Stop.Emptied)) ((7 * 2 ^ 32 + 2 * 2 ^ 16) ∷ 0 ∷ []) ≡ text "P,7,2\r\nD,0,2,emptied\r\n")
+    × (drained_lines (Ok (drain_of 5 2 Stop.Full)) ((8 * 2 ^ 32 + 3 * 2 ^ 16) ∷ (9 * 2 ^ 32 + 4 * 2 ^ 16) ∷ [])
     ≡ text "P,8,3\r\nP,9,4\r\nD,0,5,full\r\n")
 
 -- All of them ---------------------------------------------------------------------------------------------------------------------------

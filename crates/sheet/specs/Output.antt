@@ -1,13 +1,12 @@
 -- R252 to R256 and R248: the bytes that are printed. Order: a number; a line of fields; the lines of each answer; where bytes are put.
 -- Assumes nothing.
-use Rattle.std.specs.Prelude.{◌≡◌, true, false, List, [], ◌∷◌, ◌++◌, ℕ, zero, suc, ◌+◌, ◌/◌, ◌%◌, ◌≤◌, ltb, length, take, drop}
+use Rattle.std.specs.Prelude.{◌≡◌, true, false, List, [], ◌∷◌, ◌++◌, ℕ, zero, suc, ◌+◌, ◌/◌, ◌%◌, ◌≤◌, ltb, length, take, drop, Option, None, Some, Ok, Err}
 use Prim.Native.Char.{code}
-use Rattle.network.specs.declared.Moved.{Moved}
 use Rattle.network.specs.declared.Stop.{Stop}
 use Rattle.network.specs.declared.Drained.{Drained}
 use Rattle.network.specs.Packet.{tag, destination}
 use Rattle.network.specs.Refusals.{bad_line}
-use Rattle.network.specs.Calls.{drained_delivered}
+use Rattle.network.specs.Calls.{drained_delivered, Answer, drain_of}
 use Rattle.sheet.specs.Text.{text, comma, cr, lf}
 use Rattle.sheet.specs.Commands.{ten}
 
@@ -48,10 +47,10 @@ packet_lines [] = []
 packet_lines (p ∷ ps) = packet_line p ++ packet_lines ps
 
 -- R255: what a Move prints, and below what a Drain prints with its ledger
-unfoldable pub moved_lines : Moved → List ℕ
-moved_lines (Moved.Refused r) = answer_line (code "M") r
-moved_lines Moved.Passed = answer_line (code "M") 0
-moved_lines (Moved.Delivered p) = packet_line p ++ answer_line (code "M") 0
+unfoldable pub moved_lines : Answer (Option ℕ) → List ℕ
+moved_lines (Err r) = answer_line (code "M") r
+moved_lines (Ok None) = answer_line (code "M") 0
+moved_lines (Ok (Some p)) = packet_line p ++ answer_line (code "M") 0
 
 -- R254: a stop in a word
 unfoldable pub stop_word : Stop → List ℕ
@@ -64,11 +63,11 @@ unfoldable pub stopped_line : ℕ → Stop → List ℕ
 stopped_line moves stop = line (text "D") (decimal 0 ∷ decimal moves ∷ stop_word stop ∷ [])
 
 -- R256: a refused one has neither moves nor stop
-unfoldable pub drain_line : Drained → List ℕ
-drain_line (Drained.Refused r) = answer_line (code "D") r
-drain_line (Drained.Stopped moves delivered stop) = stopped_line moves stop
+unfoldable pub drain_line : Answer Drained → List ℕ
+drain_line (Err r) = answer_line (code "D") r
+drain_line (Ok d) = stopped_line d.moves d.stop
 
-unfoldable pub drained_lines : Drained → List ℕ → List ℕ
+unfoldable pub drained_lines : Answer Drained → List ℕ → List ℕ
 drained_lines answer ledger = packet_lines (take (drained_delivered answer) ledger) ++ drain_line answer
 
 -- `out` with bytes put at a place
