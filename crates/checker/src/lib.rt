@@ -8,52 +8,35 @@ ghost use Rattle.base.specs.Tests.{all_of};
 ghost use Rattle.network.specs.Sizes.{Shape, shape_of, within, largest_ring, sizes_in_range};
 ghost use Rattle.network.specs.Layout.{header_words};
 ghost use Rattle.network.specs.Check.{packets_held, work_left, counters_fit, is_network};
-ghost use Rattle.network.specs.Refusals.{network_refusal};
+ghost use Rattle.network.specs.Refusals.{numbered};
 ghost use Rattle.queue.specs.Queue.{EnoughWords};
 ghost use Rattle.checker.specs.Opened.{sizes_in, opened};
 
 use network::{
     ACCEPTED_AT, DELIVERED_AT, FEWEST_ESCAPE, HEADER_WORDS, LARGEST_RING, MOST_ACCEPTED,
-    MOST_SLOTS, MOST_WORK, MOVES_AT, NO_NETWORK, SHORT_STORE, Sizes, WRONG_SIZE, sized,
+    MOST_SLOTS, MOST_WORK, MOVES_AT, Refusal, Sizes, sized,
 };
 use queue_check::queues_fit;
 use ring_check::rings_have_room;
 
-// The number of the first test that refuses the words, 0 if they are a network.
-pub fn network_refusal(words: &[u64]) -> u64
-    ensures { result ≡ network_refusal words.now }
+// What the words are, for every call that goes on from there: refused by the first test that applies, or a network of these sizes.
+pub fn open(words: &[u64]) -> Result<Sizes, Refusal>
+    ensures { numbered result ≡ opened words.now }
 {
     if words.len() < HEADER_WORDS {
-        return SHORT_STORE;
+        return Err(Refusal::ShortStore);
     }
     let s = sizes_of(words);
     if !in_range(s) {
-        return WRONG_SIZE;
+        return Err(Refusal::WrongSize);
     }
     if words.len() < queue::need(s) {
-        return SHORT_STORE;
+        return Err(Refusal::ShortStore);
     }
     if !is_network(words, s) {
-        return NO_NETWORK;
+        return Err(Refusal::NoNetwork);
     }
-    0
-}
-
-// What the words are, for every call that goes on from there: refused by that number, or a network of these sizes.
-#[derive(Clone, Copy)]
-pub enum Opened {
-    Refused(u64),
-    Network(Sizes),
-}
-
-pub fn open(words: &[u64]) -> Opened
-    ensures { result ≡ opened words.now }
-{
-    let refusal = network_refusal(words);
-    if refusal != 0 {
-        return Opened::Refused(refusal);
-    }
-    Opened::Network(sizes_of(words))
+    Ok(s)
 }
 
 // The sizes that the words begin with.

@@ -36,7 +36,7 @@ fn take_turns(
         let turn = take_turn(words, s, near, loads, ready, limit - moves, room);
         match turn {
             Turn::Stopped(why) => {
-                return Drained::Stopped {
+                return Drained {
                     moves,
                     delivered: delivered as u64,
                     stop: why,
@@ -85,7 +85,7 @@ pub fn drain_network(words: &mut [u64], s: Sizes, budget: u32, ledger: &mut [u64
     let accepted = words[ACCEPTED_AT];
     let delivered = words[DELIVERED_AT];
     if accepted == delivered {
-        return Drained::Stopped {
+        return Drained {
             moves: 0,
             delivered: 0,
             stop: Stop::Emptied,

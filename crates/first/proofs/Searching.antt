@@ -1,8 +1,9 @@
 -- First's search, step by step: at each level, what is found from the start is what is found from here on, as long as nothing was found.
 -- Order: numbers searched in order; the routes of a head; a queue as the code reads it; the invariants of the three loops; a network
 -- that holds nothing. Assumes nothing.
+use Rattle.std.specs.Prelude.{Option, None, Some}
 use mathlib.Core.Path.{◌≡◌, refl, ap, sym, ◌∙◌, subst}
-use mathlib.Core.Bool.{Bool, true, false, cond}
+use mathlib.Core.Bool.{true, false, cond}
 use mathlib.Core.List.{List, [], ◌∷◌}
 use mathlib.Core.Logic.{◌⊎◌, inl, inr, ◌≢◌}
 use Prim.Native.Nat.{ℕ, suc, ◌+◌, ◌*◌, ◌-◌, ◌<◌, ◌≤◌}
@@ -14,7 +15,7 @@ use lib.Dec.{T}
 use lib.ListN.{length, get_or, drop}
 use Rattle.base.specs.Sums.{sum_below}
 use Rattle.base.specs.Tests.{elem}
-use Rattle.network.specs.declared.Found.{Found}
+use Rattle.network.specs.declared.NamedMove.{NamedMove}
 use Rattle.network.specs.Sizes.{Shape, shape_of, nodes, queues, adaptive_queue, escape_queue, capacity, directions}
 use Rattle.network.specs.Layout.{header_words, node_words, queue_start, queue_end, queue_length, held, total, accepted, delivered}
 use Rattle.network.proofs.LayoutLaws.{end-next, end-length, node-words, total-zero}
@@ -28,7 +29,7 @@ use Rattle.network.proofs.RoutesLaws.{route-of}
 use Rattle.network.specs.Refusals.{head, flow_rules, move_rules}
 use Rattle.network.specs.RefusalLaws.{Permitted}
 use Rattle.network.proofs.RefusalLaws.{permitted-of, permitted-by, flow-of, flow-by}
-use Rattle.network.specs.Calls.{first_output, first_in_queue, or_else, search, first_in_node, first_move}
+use Rattle.network.specs.Calls.{first_output, first_in_queue, or_else, search, first_in_node, first_move, move_of}
 use Rattle.network.specs.FirstLaws.{Finds, nothing, named}
 use Rattle.network.proofs.FirstLaws.{first_finds}
 use Rattle.network.specs.declared.Sizes.{Sizes}
@@ -40,22 +41,22 @@ use Rattle.queue.specs.HeldWords.{queue-checked, count-read, head_read}
 
 -- Numbers searched in order -----------------------------------------------------------------------------------------------------------
 
-module _ (f : ℕ → Found) (i total : ℕ) where
+module _ (f : ℕ → Option NamedMove) (i total : ℕ) where
   step : i < total → search f i (total - i) ≡ or_else (f i) (search f (i + 1) (total - (i + 1)))
   unfolding search
   step h =
       let e : total - i ≡ suc (total - (i + 1)) = omega arith in
       ap (search f i) e ∙ ap (λ (j : ℕ). or_else (f i) (search f j (total - (i + 1)))) (sym (add-one i))
 
-  pub search-on : i < total → f i ≡ Found.Nothing → search f (i + 1) (total - (i + 1)) ≡ search f i (total - i)
+  pub search-on : i < total → f i ≡ None → search f (i + 1) (total - (i + 1)) ≡ search f i (total - i)
   unfolding or_else
-  search-on h e = sym (step h ∙ ap (λ (a : Found). or_else a (search f (i + 1) (total - (i + 1)))) e)
+  search-on h e = sym (step h ∙ ap (λ (a : Option NamedMove). or_else a (search f (i + 1) (total - (i + 1)))) e)
 
-  pub search-found : (n q o : ℕ) → i < total → f i ≡ Found.Move n q o → search f i (total - i) ≡ Found.Move n q o
+  pub search-found : (n q o : ℕ) → i < total → f i ≡ Some (move_of n q o) → search f i (total - i) ≡ Some (move_of n q o)
   unfolding or_else
-  search-found n q o h e = step h ∙ ap (λ (a : Found). or_else a (search f (i + 1) (total - (i + 1)))) e
+  search-found n q o h e = step h ∙ ap (λ (a : Option NamedMove). or_else a (search f (i + 1) (total - (i + 1)))) e
 
-  pub search-end : total ≤ i → search f i (total - i) ≡ Found.Nothing
+  pub search-end : total ≤ i → search f i (total - i) ≡ None
   unfolding search
   search-end h = let e : total - i ≡ 0 = omega arith in ap (search f i) e
 
@@ -76,26 +77,26 @@ route-lt q p o t = go (route-of q p o t)
 
 module _ (S : Shape) (w : List ℕ) (n q : ℕ) where
   -- an empty queue has no permitted move
-  none_of : (os : List ℕ) → length (held S w n q) ≡ 0 → first_output S w n q os ≡ Found.Nothing
+  none_of : (os : List ℕ) → length (held S w n q) ≡ 0 → first_output S w n q os ≡ None
   unfolding first_output
   none_of [] e = refl
   none_of (o ∷ os) e =
-      ap (λ b. cond b (Found.Move n q o) (first_output S w n q os)) (ne_eqb (move_rules S w n q o) 0 (λ z. (permitted-of S w n q o z).holds e))
+      ap (λ b. cond b (Some (move_of n q o)) (first_output S w n q os)) (ne_eqb (move_rules S w n q o) 0 (λ z. (permitted-of S w n q o z).holds e))
       ∙ none_of os e
 
-  pub empty : length (held S w n q) ≡ 0 → first_in_queue S w n q ≡ Found.Nothing
+  pub empty : length (held S w n q) ≡ 0 → first_in_queue S w n q ≡ None
   unfolding first_in_queue
   empty e = none_of (routes q (head (held S w n q))) e
 
   output_on : (o : ℕ) (os : List ℕ) → move_rules S w n q o ≢ 0 → first_output S w n q (o ∷ os) ≡ first_output S w n q os
   unfolding first_output
-  output_on o os ne = ap (λ b. cond b (Found.Move n q o) (first_output S w n q os)) (ne_eqb (move_rules S w n q o) 0 ne)
+  output_on o os ne = ap (λ b. cond b (Some (move_of n q o)) (first_output S w n q os)) (ne_eqb (move_rules S w n q o) 0 ne)
 
-  output-found : (o : ℕ) (os : List ℕ) → move_rules S w n q o ≡ 0 → first_output S w n q (o ∷ os) ≡ Found.Move n q o
+  output-found : (o : ℕ) (os : List ℕ) → move_rules S w n q o ≡ 0 → first_output S w n q (o ∷ os) ≡ Some (move_of n q o)
   unfolding first_output
-  output-found o os e = ap (λ b. cond b (Found.Move n q o) (first_output S w n q os)) (eq-eqb (move_rules S w n q o) 0 e)
+  output-found o os e = ap (λ b. cond b (Some (move_of n q o)) (first_output S w n q os)) (eq-eqb (move_rules S w n q o) 0 e)
 
-  output-end : first_output S w n q [] ≡ Found.Nothing
+  output-end : first_output S w n q [] ≡ None
   unfolding first_output
   output-end = refl
 
@@ -163,7 +164,7 @@ module _ {s : Sizes} {w : List ℕ} {n q start : ℕ} {r : List ℕ} (k : Readin
       ∙ inv
 
   pub line-found : (j : ℕ) → j < selection_lines → applies j (get_or r j 0) ≡ true → flow_rules (shape_of s) w n q (get_or r j 0) (get_or w (start + 1) 0) ≡ 0 → FoundFrom s w n q r j
-      → first_in_queue (shape_of s) w n q ≡ Found.Move n q (get_or r j 0)
+      → first_in_queue (shape_of s) w n q ≡ Some (move_of n q (get_or r j 0))
   line-found j h a e inv =
       sym inv
       ∙ ap (first_output (shape_of s) w n q) (line_taken r j (among j h) a)
@@ -171,7 +172,7 @@ module _ {s : Sizes} {w : List ℕ} {n q start : ℕ} {r : List ℕ} (k : Readin
       (flow-passes (shape_of s) w n q (get_or r j 0) k.queue.node k.queue.queue holds (is-route j h a)
       (ap (flow_rules (shape_of s) w n q (get_or r j 0)) (sym the-head) ∙ e))
 
-  pub lines_none : (j : ℕ) → j ≤ selection_lines → selection_lines ≤ j → FoundFrom s w n q r j → first_in_queue (shape_of s) w n q ≡ Found.Nothing
+  pub lines_none : (j : ℕ) → j ≤ selection_lines → selection_lines ≤ j → FoundFrom s w n q r j → first_in_queue (shape_of s) w n q ≡ None
   lines_none j h l inv =
       sym inv
       ∙ ap (first_output (shape_of s) w n q) (lines_end r j (let e = k.each in omega arith))
@@ -188,7 +189,7 @@ end-at s w n q k start slots e f =
 
 -- a queue that holds none
 pub queue-none : (s : Sizes) (w : List ℕ) (n q start : ℕ) → QueueOf (shape_of s) w n q → start ≡ queue_start (shape_of s) n q → get_or w start 0 ≡ 0
-    → first_in_queue (shape_of s) w n q ≡ Found.Nothing
+    → first_in_queue (shape_of s) w n q ≡ None
 queue-none s w n q start k at z = empty (shape_of s) w n q (sym (count-read s w n q k start at) ∙ z)
 
 -- The invariants ----------------------------------------------------------------------------------------------------------------------
@@ -198,43 +199,40 @@ pub record AtLine (s : Sizes) (w : List ℕ) (n q : ℕ) (r : List ℕ) (j : ℕ
   pub within : j ≤ selection_lines
   pub left : FoundFrom s w n q r j
 
--- nothing was found yet, and what is left is found: of a node's queues, of the nodes
-pub record AtQueue (s : Sizes) (w : List ℕ) (n : ℕ) (found : Bool) (start q : ℕ) : Type 0 where
-  pub nothing : found ≡ false
+-- what is left is found: of a node's queues, of the nodes
+pub record AtQueue (s : Sizes) (w : List ℕ) (n start q : ℕ) : Type 0 where
   pub within : q ≤ queues
   pub place : start ≡ queue_start (shape_of s) n q
   pub left : search (λ r. first_in_queue (shape_of s) w n r) q (queues - q) ≡ first_in_node (shape_of s) w n
 
-pub record AtNode (s : Sizes) (w : List ℕ) (found : Bool) (start n : ℕ) : Type 0 where
-  pub nothing : found ≡ false
+pub record AtNode (s : Sizes) (w : List ℕ) (start n : ℕ) : Type 0 where
   pub within : n ≤ nodes (shape_of s)
   pub place : start ≡ queue_start (shape_of s) n 0
   pub left : search (λ m. first_in_node (shape_of s) w m) n (nodes (shape_of s) - n) ≡ first_move (shape_of s) w
 
 module _ {s : Sizes} {w : List ℕ} {n : ℕ} where
-  pub queues-begin : {found : Bool} {start : ℕ} → found ≡ false → start ≡ queue_start (shape_of s) n 0 → AtQueue s w n found start 0
+  pub queues-begin : {start : ℕ} → start ≡ queue_start (shape_of s) n 0 → AtQueue s w n start 0
   unfolding first_in_node
-  queues-begin f e = record { nothing = f; within = omega arith; place = e; left = refl }
+  queues-begin e = record { within = omega arith; place = e; left = refl }
 
-  pub queue-next : {found later : Bool} {start q slots : ℕ} → AtQueue s w n found start q → later ≡ false → q < queues → slots ≡ capacity (shape_of s) q
-      → first_in_queue (shape_of s) w n q ≡ Found.Nothing → AtQueue s w n later (start + (1 + slots)) (q + 1)
+  pub queue-next : {start q slots : ℕ} → AtQueue s w n start q → q < queues → slots ≡ capacity (shape_of s) q
+      → first_in_queue (shape_of s) w n q ≡ None → AtQueue s w n (start + (1 + slots)) (q + 1)
   unfolding queue_end queue_length
-  queue-next {start = start} {q = q} {slots = slots} i f h c e =
+  queue-next {start = start} {q = q} {slots = slots} i h c e =
       let next : queue_start (shape_of s) n q + (1 + capacity (shape_of s) q) ≡ queue_start (shape_of s) n (suc q) = end-next (shape_of s) n q in
       let at : start ≡ queue_start (shape_of s) n q = i.place in
       let one : queue_start (shape_of s) n (suc q) ≡ queue_start (shape_of s) n (q + 1) = ap (queue_start (shape_of s) n) (sym (add-one q)) in
       record {
-        nothing = f;
         within = omega arith;
         place = omega arith;
         left = search-on (λ r. first_in_queue (shape_of s) w n r) q queues h e ∙ i.left;
       }
 
-  pub queue-found : {found : Bool} {start q o : ℕ} → AtQueue s w n found start q → q < queues → first_in_queue (shape_of s) w n q ≡ Found.Move n q o
-      → first_in_node (shape_of s) w n ≡ Found.Move n q o
+  pub queue-found : {start q o : ℕ} → AtQueue s w n start q → q < queues → first_in_queue (shape_of s) w n q ≡ Some (move_of n q o)
+      → first_in_node (shape_of s) w n ≡ Some (move_of n q o)
   queue-found {q = q} {o = o} i h e = sym i.left ∙ search-found (λ r. first_in_queue (shape_of s) w n r) q queues n q o h e
 
-  queues-none : {found : Bool} {start q : ℕ} → AtQueue s w n found start q → queues ≤ q → first_in_node (shape_of s) w n ≡ Found.Nothing
+  queues-none : {start q : ℕ} → AtQueue s w n start q → queues ≤ q → first_in_node (shape_of s) w n ≡ None
   queues-none {q = q} i h = sym i.left ∙ search-end (λ r. first_in_queue (shape_of s) w n r) q queues h
 
 -- the words of a node end where the next node's begin
@@ -251,12 +249,12 @@ unfolding queue_start sum_below
 before-nodes S = let z = zero-mul (node_words S) in omega arith
 
 module _ {s : Sizes} {w : List ℕ} where
-  pub nodes-begin : AtNode s w false header_words 0
+  pub nodes-begin : AtNode s w header_words 0
   unfolding first_move
-  nodes-begin = record { nothing = refl; within = omega arith; place = before-nodes (shape_of s); left = ap (search (λ m. first_in_node (shape_of s) w m) 0) (omega arith) }
+  nodes-begin = record { within = omega arith; place = before-nodes (shape_of s); left = ap (search (λ m. first_in_node (shape_of s) w m) 0) (omega arith) }
 
-  pub node-next : {found : Bool} {start start' n q : ℕ} {found' : Bool} → AtNode s w found start n → n < nodes (shape_of s) → AtQueue s w n found' start' q → queues ≤ q
-      → AtNode s w found' start' (n + 1)
+  pub node-next : {start start' n q : ℕ} → AtNode s w start n → n < nodes (shape_of s) → AtQueue s w n start' q → queues ≤ q
+      → AtNode s w start' (n + 1)
   node-next {start' = start'} {n = n} {q = q} i h j l =
       let at : start' ≡ queue_start (shape_of s) n q = j.place in
       let b : q ≤ queues = j.within in
@@ -264,29 +262,28 @@ module _ {s : Sizes} {w : List ℕ} where
       let same : queue_start (shape_of s) n q ≡ queue_start (shape_of s) n queues = ap (queue_start (shape_of s) n) last in
       let next = after-node (shape_of s) n in
       record {
-        nothing = j.nothing;
         within = omega arith;
         place = omega arith;
         left = search-on (λ m. first_in_node (shape_of s) w m) n (nodes (shape_of s)) h (queues-none j l) ∙ i.left;
       }
 
-  pub node-found : {found : Bool} {start n q o : ℕ} → AtNode s w found start n → n < nodes (shape_of s) → first_in_node (shape_of s) w n ≡ Found.Move n q o
-      → first_move (shape_of s) w ≡ Found.Move n q o
+  pub node-found : {start n q o : ℕ} → AtNode s w start n → n < nodes (shape_of s) → first_in_node (shape_of s) w n ≡ Some (move_of n q o)
+      → first_move (shape_of s) w ≡ Some (move_of n q o)
   node-found {n = n} {q = q} {o = o} i h e = sym i.left ∙ search-found (λ m. first_in_node (shape_of s) w m) n (nodes (shape_of s)) n q o h e
 
-  pub nodes-none : {found : Bool} {start n : ℕ} → AtNode s w found start n → nodes (shape_of s) ≤ n → first_move (shape_of s) w ≡ Found.Nothing
+  pub nodes-none : {start n : ℕ} → AtNode s w start n → nodes (shape_of s) ≤ n → first_move (shape_of s) w ≡ None
   nodes-none {n = n} i h = sym i.left ∙ search-end (λ m. first_in_node (shape_of s) w m) n (nodes (shape_of s)) h
 
 -- A network that holds nothing --------------------------------------------------------------------------------------------------------
 
 -- as many packets were delivered as accepted: no queue holds one, and none can move
-pub nothing-held : (S : Shape) (w : List ℕ) → Network S w → accepted w ≡ delivered w → first_move S w ≡ Found.Nothing
+pub nothing-held : (S : Shape) (w : List ℕ) → Network S w → accepted w ≡ delivered w → first_move S w ≡ None
 unfolding packets_held
 nothing-held S w N e = go (first_move S w) (first_finds S w)
   where
     none : total S w length ≡ 0
     none = let c : delivered w + total S w length ≡ accepted w = N.counted in omega arith
 
-    go : (f : Found) → Finds (Permitted S w) f → f ≡ Found.Nothing
+    go : (f : Option NamedMove) → Finds (Permitted S w) f → f ≡ None
     go f nothing = refl
     go f (named {n} {q} {o} P) = absurd (P.holds (ap length (total-zero S w n q none P.node P.queue)))

@@ -11,40 +11,36 @@ ghost use Rattle.loads.specs.Loads.{Loads};
 ghost use Rattle.queue.specs.QueueOf.{QueueOf};
 
 use flow::{flow_rules, may_flow};
-use network::{ACCEPTED_AT, DELIVERED_AT, Found, HEADER_WORDS, QUEUES, Sizes};
+use network::{ACCEPTED_AT, DELIVERED_AT, HEADER_WORDS, NamedMove, QUEUES, Sizes};
 use queue::{capacity, queue_start};
 use routes::{LINES, applies, routes};
 use torus::nodes;
 
 // The first permitted move of the network. Where as many packets were delivered as accepted, none is held. The place of the words
 // goes on from queue to queue, and an empty queue costs no more than its count word.
-pub fn first_move(words: &[u64], s: Sizes) -> Found
+pub fn first_move(words: &[u64], s: Sizes) -> Option<NamedMove>
     requires { Network (shape_of s) words.now }
     ensures { result ≡ first_move (shape_of s) words.now }
 {
     if words[ACCEPTED_AT] == words[DELIVERED_AT] {
-        return Found::Nothing;
+        return None;
     }
-    let mut found = false;
-    let mut node: u64 = 0;
-    let mut queue: u64 = 0;
-    let mut output: u64 = 0;
     let mut start: usize = HEADER_WORDS;
     let total = nodes(s);
-    'search: for n in 0..total {
+    for n in 0..total {
         for q in 0..QUEUES {
             if words[start] != 0 {
                 let p = words[start + 1];
                 let outputs = routes(q, p);
                 for k in 0..LINES {
-                    let o = outputs[k as usize];
-                    if applies(k, o) {
-                        if flow_rules(words, s, n, q, o, p) == 0 {
-                            found = true;
-                            node = n;
-                            queue = q;
-                            output = o;
-                            break 'search;
+                    let output = outputs[k as usize];
+                    if applies(k, output) {
+                        if flow_rules(words, s, n, q, output, p).is_ok() {
+                            return Some(NamedMove {
+                                node: n,
+                                queue: q,
+                                output,
+                            });
                         }
                     }
                 }
@@ -53,19 +49,11 @@ pub fn first_move(words: &[u64], s: Sizes) -> Found
             start += 1 + slots as usize;
         }
     }
-    if found {
-        Found::Move {
-            node,
-            queue,
-            output,
-        }
-    } else {
-        Found::Nothing
-    }
+    None
 }
 
 // The first permitted move of the head of queue q of node n, if it has one.
-pub fn first_in_queue(words: &[u64], s: Sizes, near: &[u16], loads: &[u8], n: u64, q: u64) -> Found
+pub fn first_in_queue(words: &[u64], s: Sizes, near: &[u16], loads: &[u8], n: u64, q: u64) -> Option<NamedMove>
     requires queue_of { QueueOf (shape_of s) words.now n q }
     requires near { Near (shape_of s) near.now }
     requires loads { Loads (shape_of s) words.now loads.now }
@@ -73,7 +61,7 @@ pub fn first_in_queue(words: &[u64], s: Sizes, near: &[u16], loads: &[u8], n: u6
 {
     let start = queue_start(s, n, q);
     if words[start] == 0 {
-        return Found::Nothing;
+        return None;
     }
     let p = words[start + 1];
     let outputs = routes(q, p);
@@ -81,13 +69,13 @@ pub fn first_in_queue(words: &[u64], s: Sizes, near: &[u16], loads: &[u8], n: u6
         let output = outputs[k as usize];
         if applies(k, output) {
             if may_flow(words, s, near, loads, n, q, output, p) {
-                return Found::Move {
+                return Some(NamedMove {
                     node: n,
                     queue: q,
                     output,
-                };
+                });
             }
         }
     }
-    Found::Nothing
+    None
 }

@@ -4,14 +4,14 @@
 
 ghost use Rattle.std.specs.Prelude.{◌≡◌, ◌<◌, eqb, T};
 ghost use Rattle.network.specs.Routes.{target, free_load, load_needed};
-ghost use Rattle.network.specs.Refusals.{flow_rules};
+ghost use Rattle.network.specs.Refusals.{flow_rules, number_of};
 ghost use Rattle.near.specs.Table.{Near};
 ghost use Rattle.loads.specs.Loads.{Loads};
 ghost use Rattle.network.specs.Sizes.{shape_of, nodes, queues, sizes_in_range};
 ghost use Rattle.queue.specs.QueueOf.{QueueOf};
 
 use near::look_up;
-use network::{DELIVER, DIRECTIONS, NO_BUBBLE, NO_SLOT, Sizes, direction_of};
+use network::{DELIVER, DIRECTIONS, Refusal, Sizes, direction_of};
 use packet::load;
 use queue::{capacity, taken};
 use torus::neighbour;
@@ -50,21 +50,21 @@ pub fn load_needed(q: u64, o: u64, p: u64) -> u64
 }
 
 // The refusal of packet p, a head of queue q of node n, whose route is output o, by the slots of its target.
-pub fn flow_rules(words: &[u64], s: Sizes, n: u64, q: u64, o: u64, p: u64) -> u64
+pub fn flow_rules(words: &[u64], s: Sizes, n: u64, q: u64, o: u64, p: u64) -> Result<(), Refusal>
     requires { QueueOf (shape_of s) words.now n o }
-    ensures { result ≡ flow_rules (shape_of s) words.now n q o p }
+    ensures { number_of result ≡ flow_rules (shape_of s) words.now n q o p }
 {
     if o == DELIVER {
-        return 0;
+        return Ok(());
     }
     let free = free_load(words, s, n, o);
     if free < load(o, p) {
-        return NO_SLOT;
+        return Err(Refusal::NoSlot);
     }
     if free < load_needed(q, o, p) {
-        return NO_BUBBLE;
+        return Err(Refusal::NoBubble);
     }
-    0
+    Ok(())
 }
 
 // Whether the flow rule lets packet p, a head of queue q of node n, go by output o, which is one of its routes. The target's node and the load of an adaptive

@@ -1,13 +1,11 @@
 -- What the answer of each call tells whose answer is an enum: its number, the refusal or 0, and each of its values, where the call is refused
 -- and where it is not. All of it is read by the definitions at the end of Calls.antt. A record for each call, with the law that the call's answer
 -- keeps it. Order: an answer by its refusal; Move; Credit; First; Drain. Assumes nothing.
-use Rattle.std.specs.Prelude.{◌≡◌, refl, Bool, true, false, cond, List, [], ◌∷◌, ℕ, zero, suc, eqb, Option, None, Some, Ok}
+use Rattle.std.specs.Prelude.{◌≡◌, refl, Bool, true, false, cond, List, [], ◌∷◌, ℕ, zero, suc, eqb, None, Some, Ok}
 use Rattle.std.proofs.Common.{suc-ne-zero, ne_eqb}
-use Rattle.network.specs.declared.NamedMove.{NamedMove}
-use Rattle.network.specs.Layout.{shape}
 use Rattle.network.specs.Routes.{deliver}
 use Rattle.network.specs.Refusals.{network_refusal, move_refusal, credit_refusal}
-use Rattle.network.specs.Calls.{unless_refused, move_answer, credit_answer, first_move, first_answer, drain_answer}
+use Rattle.network.specs.Calls.{unless_refused, move_answer, credit_answer, first_answer, drain_answer}
 use Rattle.network.specs.Calls.{moved_number, moved_packets, credit_number, credit_free, found_number, found_move, drained_number, drained_moves, drained_delivered, drained_stop}
 use Rattle.network.specs.Answers.{MoveTells, CreditTells, FirstTells, DrainTells}
 

@@ -1,7 +1,7 @@
 -- First names the earliest permitted move, and none exactly where no move is permitted: theorem `first-right`, for all words.
 -- Order: where a search took its move from; the outputs before the one that is named; what stands before it in the whole search; two permitted moves
 -- compared; the theorem. Assumes nothing.
-use Rattle.std.specs.Prelude.{◌≡◌, ◌⊎◌, ◌≢◌, ℕ, zero, suc, ◌+◌, ◌<◌, ◌≤◌, T, eqb, Option, None, Some, Err, Ok}
+use Rattle.std.specs.Prelude.{◌≡◌, ◌⊎◌, ◌≢◌, ℕ, zero, suc, ◌+◌, ◌<◌, ◌≤◌, T, eqb, Option, None, Some, Ok}
 use Rattle.std.proofs.Math.Path.{refl, sym}
 use Rattle.std.proofs.Common.{ap, ap₂, ◌∙◌, subst, inl, inr, arith, eq-eqb, ne_eqb, eqb→eq}
 use Rattle.std.specs.Option.{option_map_or}

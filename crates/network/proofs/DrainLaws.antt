@@ -9,7 +9,6 @@ use Rattle.std.proofs.Common.{arith, length-append}
 use Rattle.std.proofs.Math.Dec.{eqb}
 use Rattle.network.specs.declared.NamedMove.{NamedMove}
 use Rattle.network.specs.declared.Stop.{Stop}
-use Rattle.network.specs.declared.Drained.{Drained}
 use Rattle.network.specs.Sizes.{Shape}
 use Rattle.network.specs.Layout.{shape, held}
 use Rattle.network.specs.Check.{packets_held}

@@ -1,6 +1,6 @@
 -- What each helper of Run.antt states, said without it, in the lists of InLists.antt. Order: a label counted; all that is held; what was handed out; a packet at
 -- at-destination; moves that lead from words to words; some move; ledgers. Assumes nothing.
-use Rattle.std.specs.Prelude.{◌≡◌, refl, ◌↔◌, Bool, cond, ◌&&◌, List, [], ◌∷◌, map, ℕ, suc, ◌+◌, ◌≤◌, min, T, eqb, length, get_or, take, drop, Some}
+use Rattle.std.specs.Prelude.{◌≡◌, refl, ◌↔◌, Bool, cond, ◌&&◌, List, [], ◌∷◌, map, ℕ, suc, ◌+◌, ◌≤◌, min, T, eqb, length, get_or, take, drop}
 use Rattle.std.proofs.Common.{ap, sym, ◌∙◌, add-zero, arith, eq-eqb, ne_eqb, eqb→eq, length-take, length-take-le}
 use Rattle.std.proofs.Math.Path.{fun_ext}
 use Rattle.std.proofs.Math.Decide.{ℕ_discrete}

@@ -1,7 +1,7 @@
 -- Refusals as facts: a chain of tests gives 0 exactly when none of them applies. Order: one test and two chains; words that are a network;
 -- Offer's chunk number, and an offer to oneself; a permitted move. Assumes nothing.
 use Rattle.std.specs.Prelude.{◌≡◌, refl, ◌≢◌, ◌↔◌, List, [], ◌∷◌, ℕ, suc, slice_index_or, ◌+◌, ◌<◌, ◌≤◌, T, leb, ltb, eqb, length}
-use Rattle.std.proofs.Common.{ap, sym, ◌∙◌, arith, eq-eqb, ne_eqb, le-leb, le-ltb, ltb-false, leb-false, eqb→eq}
+use Rattle.std.proofs.Common.{true≢false, is_ok, Result, Ok, Err, ap, sym, ◌∙◌, arith, eq-eqb, ne_eqb, le-leb, le-ltb, ltb-false, leb-false, eqb→eq}
 use mathlib.Core.Bool.{Bool, true, false, cond, not, ◌||◌}
 use native.Mathlib.Nat.{le_trans}
 use Rattle.std.proofs.Math.Decide.{ℕ_discrete}
@@ -17,7 +17,7 @@ use Rattle.network.proofs.CheckLaws.{network-of, network-by}
 use Rattle.network.specs.Routes.{routes, deliver, target, free_load, load_needed}
 use Rattle.network.proofs.RoutesLaws.{free-load-is, load-needed}
 use Rattle.network.specs.declared.Refusal.{Refusal}
-use Rattle.network.specs.Refusals.{refusal_number, refuse, else_by, network_refusal, wrong_chunks, is_own_node, count_is_spent, injection_is_full, offer_rules, head, flow_rules, move_rules, short_store, wrong_size, no_network, no_such_node, no_such_queue, no_such_output, injection_full, count_spent, queue_empty, no_route, no_slot, no_bubble, own_node}
+use Rattle.network.specs.Refusals.{refusal_number, number_of, refuse, else_by, network_refusal, wrong_chunks, is_own_node, count_is_spent, injection_is_full, offer_rules, head, flow_rules, move_rules, short_store, wrong_size, no_network, no_such_node, no_such_queue, no_such_output, injection_full, count_spent, queue_empty, no_route, no_slot, no_bubble, own_node}
 use Rattle.network.specs.RefusalLaws.{Permitted}
 
 -- a test that would refuse by k + 1 did not apply, and the later ones say 0
@@ -235,3 +235,12 @@ number-positive Refusal.NoBubble = omega arith
 number-positive Refusal.BadLine = omega arith
 number-positive Refusal.OwnNode = omega arith
 number-positive Refusal.ShortPage = omega arith
+
+-- what the code answers has the number 0 exactly where it is no refusal
+pub ok-number : {A : Type 0} (r : Result A Refusal) → is_ok r ≡ true → number_of r ≡ 0
+ok-number (Ok value) e = refl
+ok-number (Err refusal) e = absurd (true≢false (sym e))
+
+pub err-number : {A : Type 0} (r : Result A Refusal) → is_ok r ≡ false → number_of r ≢ 0
+err-number (Ok value) e = absurd (true≢false e)
+err-number (Err refusal) e = λ z. let p = number-positive refusal in omega arith

@@ -11,7 +11,6 @@ use Rattle.std.proofs.Math.Dec.{T}
 use Rattle.base.specs.Tests.{elem}
 use Rattle.base.specs.Sums.{sum_below}
 use Rattle.network.specs.declared.Stop.{Stop}
-use Rattle.network.specs.declared.Drained.{Drained}
 use Rattle.network.specs.declared.Sizes.{Sizes}
 use Rattle.network.specs.Sizes.{Shape, shape_of, sized, size, within, sizes_in_range, most_chunks, nodes, queues, directions, dimensions, dimension_of, direction_of, is_plus, injection_queue, escape_queue}
 use Rattle.network.specs.Packet.{signed, tag, destination, chunks, spare, upper_spare, offset, with_offset, distance, hops, hops_left, hop, label}

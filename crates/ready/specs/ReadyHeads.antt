@@ -1,12 +1,12 @@
 -- The set of heads that goes along with a Drain: it holds every head that has a permitted move. The head of queue q of node n is number 16 n + q.
 -- Order: what it covers; a head taken out that has none; First's move from its lowest head; the set after a move; the search. Assumes nothing.
-use Rattle.std.specs.Prelude.{◌≡◌, refl, ◌⊎◌, ◌≢◌, Bool, true, false, cond, not, ◌&&◌, ◌||◌, List, ℕ, ◌+◌, ◌*◌, ◌-◌, ◌/◌, ◌%◌, ◌<◌, ◌≤◌, eqb, ltb}
+use Rattle.std.specs.Prelude.{◌≡◌, refl, ◌⊎◌, ◌≢◌, Bool, true, false, cond, not, ◌&&◌, ◌||◌, List, ℕ, ◌+◌, ◌*◌, ◌-◌, ◌/◌, ◌%◌, ◌<◌, ◌≤◌, eqb, ltb, Option, None, Some, Err}
 use Rattle.std.proofs.Common.{ap, ap₂, sym, ◌∙◌, subst, inl, inr, true≢false, arith}
 use Rattle.std.proofs.lemmas.Bool.{false≢true}
 use native.Mathlib.Nat.{lt_trans}
 use Rattle.std.proofs.Math.Decide.{ℕ_discrete, dec_lt}
 use borrow.Author.Tests.{eq-eqb, ne_eqb, lt-ltb, ltb-true, eqb-false}
-use Rattle.network.specs.declared.Found.{Found}
+use Rattle.network.specs.declared.NamedMove.{NamedMove}
 use Rattle.network.specs.Sizes.{Shape, nodes, queues, directions, direction_of, most_nodes}
 use Rattle.network.specs.Torus.{neighbour}
 use Rattle.network.specs.TorusLaws.{Torus}
@@ -15,7 +15,7 @@ use Rattle.network.specs.Check.{opposite}
 use Rattle.network.specs.CheckLaws.{Network}
 use Rattle.network.specs.RefusalLaws.{Permitted}
 use Rattle.network.specs.Routes.{deliver, target}
-use Rattle.network.specs.Calls.{after_move, first_in_queue, first_move}
+use Rattle.network.specs.Calls.{after_move, first_in_queue, first_move, move_of}
 use Rattle.run.specs.NewHeads.{before, Untouched, still-nothing, first-at, first-nowhere}
 use Rattle.headset.specs.Set.{member, IsSet, HeadsBelow, Inserted, NodeInserted, Removed, LowestMember, node_heads, heads}
 
@@ -30,7 +30,7 @@ Heads S set = (h : ℕ) → member set h ≡ true → (h / node_heads < nodes S)
 pub record Covered (S : Shape) (w set : List ℕ) : Type 0 where
   pub set-of : IsSet set
   pub heads : Heads S set
-  pub others : (n q : ℕ) → n < nodes S → q < queues → member set (head_of n q) ≡ false → first_in_queue S w n q ≡ Found.Nothing
+  pub others : (n q : ℕ) → n < nodes S → q < queues → member set (head_of n q) ≡ false → first_in_queue S w n q ≡ None
 
 -- the two tests of a number that is a head's
 head-node : (n q : ℕ) → q < queues → head_of n q / node_heads ≡ n
@@ -61,7 +61,7 @@ covered-filled S w set f =
         ∙ ap₂ (λ (a b : Bool). a && b) (lt-ltb n (nodes S) hn) (lt-ltb q queues hq)
 
 -- one without a move taken out
-pub covered-removed : (S : Shape) (w set after : List ℕ) (h : ℕ) → Covered S w set → first_in_queue S w (h / node_heads) (h % node_heads) ≡ Found.Nothing → Removed set after h
+pub covered-removed : (S : Shape) (w set after : List ℕ) (h : ℕ) → Covered S w set → first_in_queue S w (h / node_heads) (h % node_heads) ≡ None → Removed set after h
     → Covered S w after
 covered-removed S w set after h c none r =
     record {
@@ -71,14 +71,14 @@ covered-removed S w set after h c none r =
     }
   where
     go : (n q : ℕ) → n < nodes S → q < queues → Dec (head_of n q ≡ h) → (not (eqb (head_of n q) h) && member set (head_of n q)) ≡ false
-        → first_in_queue S w n q ≡ Found.Nothing
+        → first_in_queue S w n q ≡ None
     go n q hn hq (yes e) x =
         ap₂ (λ (a b : ℕ). first_in_queue S w a b) (sym (head-node n q hq) ∙ ap (λ (m : ℕ). m / node_heads) e) (sym (head-queue n q hq) ∙ ap (λ (m : ℕ). m % node_heads) e) ∙ none
     go n q hn hq (no ne) x = c.others n q hn hq (rw (ne_eqb (head_of n q) h ne) at x)
 
 -- First's move: that of the lowest head of the set which has one
-pub lowest-first : (S : Shape) (w set : List ℕ) (h : ℕ) (f : Found) → Covered S w set → LowestMember set h → h < heads → first_in_queue S w (h / node_heads) (h % node_heads) ≡ f
-    → f ≢ Found.Nothing → first_move S w ≡ f
+pub lowest-first : (S : Shape) (w set : List ℕ) (h : ℕ) (f : Option NamedMove) → Covered S w set → LowestMember set h → h < heads → first_in_queue S w (h / node_heads) (h % node_heads) ≡ f
+    → f ≢ None → first_move S w ≡ f
 lowest-first S w set h f c l small e ne =
     let (hn, hq) = c.heads h (l.found small) in
     first-at S w (h / node_heads) (h % node_heads) f hn hq
@@ -213,12 +213,12 @@ lowest-rises set after h r l out l' small = go (dec_lt h r)
     go (no b) = absurd (true≢false (sym (l'.found (omega arith)) ∙ gone (omega arith)))
 
 -- where no head is left, there is no move
-pub lowest-none : (S : Shape) (w set : List ℕ) (h : ℕ) → Covered S w set → LowestMember set h → nodes S ≤ most_nodes → heads ≤ h → first_move S w ≡ Found.Nothing
+pub lowest-none : (S : Shape) (w set : List ℕ) (h : ℕ) → Covered S w set → LowestMember set h → nodes S ≤ most_nodes → heads ≤ h → first_move S w ≡ None
 lowest-none S w set h c l few g = first-nowhere S w (λ k r hk hr. c.others k r hk hr (l.below (head_of k r) (omega arith)))
 
 -- what is named is not nothing
-pub refused-some : (f : Found) (r : ℕ) → f ≡ Found.Refused r → f ≢ Found.Nothing
+pub refused-some : (f : Option NamedMove) (r : ℕ) → f ≡ Err r → f ≢ None
 refused-some f r e z = let y : ◌≡◌ {A = ℕ} 0 1 = cc in native.Mathlib.Nat.suc-ne-zero 0 (sym y)
 
-pub move_some : (f : Found) (n q o : ℕ) → f ≡ Found.Move n q o → f ≢ Found.Nothing
+pub move_some : (f : Option NamedMove) (n q o : ℕ) → f ≡ Some (move_of n q o) → f ≢ None
 move_some f n q o e z = let y : ◌≡◌ {A = ℕ} 0 1 = cc in native.Mathlib.Nat.suc-ne-zero 0 (sym y)

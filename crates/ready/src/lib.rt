@@ -11,7 +11,7 @@ ghost use Rattle.loads.specs.Loads.{Loads};
 ghost use Rattle.headset.specs.Set.{IsSet};
 ghost use Rattle.ready.specs.ReadyHeads.{Covered, Marked, SourceMarked, ArrivalMarked, FeederMarked};
 
-use network::{DELIVER, Found, INJECTION_QUEUE, Sizes, direction_of};
+use network::{DELIVER, INJECTION_QUEUE, NamedMove, Sizes, direction_of};
 
 // The head of queue q of node n becomes a member.
 fn mark_head(ready: &mut [u64], s: Sizes, n: u64, q: u64)
@@ -65,7 +65,7 @@ pub fn mark(ready: &mut [u64], s: Sizes, near: &[u16], n: u64, q: u64, o: u64)
 }
 
 // First's move, found from the lowest head of the set on. Heads of the set that have none are taken out of it.
-pub fn next_move(words: &[u64], s: Sizes, near: &[u16], loads: &[u8], ready: &mut [u64]) -> Found
+pub fn next_move(words: &[u64], s: Sizes, near: &[u16], loads: &[u8], ready: &mut [u64]) -> Option<NamedMove>
     requires network { Network (shape_of s) words.now }
     requires near { Near (shape_of s) near.now }
     requires loads { Loads (shape_of s) words.now loads.now }
@@ -75,28 +75,12 @@ pub fn next_move(words: &[u64], s: Sizes, near: &[u16], loads: &[u8], ready: &mu
 {
     let mut h = headset::lowest(ready);
     while h < headset::HEADS {
-        let found = first::first_in_queue(
-            words,
-            s,
-            near,
-            loads,
-            h / headset::NODE_HEADS,
-            h % headset::NODE_HEADS,
-        );
-        match found {
-            Found::Refused(_) => {
-                return found;
-            }
-            Found::Nothing => {}
-            Found::Move {
-                node: _,
-                queue: _,
-                output: _,
-            } => {
-                return found;
-            }
+        let n = h / headset::NODE_HEADS;
+        let q = h % headset::NODE_HEADS;
+        if let Some(found) = first::first_in_queue(words, s, near, loads, n, q) {
+            return Some(found);
         }
         h = headset::remove_lowest(ready, h);
     }
-    Found::Nothing
+    None
 }

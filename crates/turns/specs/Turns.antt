@@ -1,12 +1,12 @@
 -- One turn of a Drain, and that turns one after the other are the Drain of the definitions. Order: what a turn comes to and leaves; a Drain by its first
 -- turn; a Drain by the turns made so far. Assumes nothing.
-use Rattle.std.specs.Prelude.{◌≡◌, refl, ◌≢◌, cond, eqb}
+use Rattle.std.specs.Prelude.{◌≡◌, refl, ◌≢◌, cond, eqb, Option, None, Some, Err}
 use Rattle.std.proofs.Common.{ap, ap₂, sym, ◌∙◌, subst, arith}
 use mathlib.Core.List.{List, [], ◌∷◌, ◌++◌, append_assoc}
 use Prim.Native.Nat.{ℕ, zero, suc, ◌+◌}
 use Rattle.std.proofs.Math.Decide.{ℕ_discrete}
 use borrow.Author.Tests.{eq-eqb, ne_eqb}
-use Rattle.network.specs.declared.Found.{Found}
+use Rattle.network.specs.declared.NamedMove.{NamedMove}
 use Rattle.network.specs.declared.Stop.{Stop}
 use Rattle.network.specs.Sizes.{Shape}
 use Rattle.network.specs.TorusLaws.{Torus}
@@ -18,15 +18,15 @@ use Rattle.network.specs.Refusals.{head}
 use Rattle.network.specs.RefusalLaws.{Permitted}
 use Rattle.network.specs.FirstLaws.{Finds, nothing, named}
 use Rattle.network.proofs.FirstLaws.{first_finds}
-use Rattle.network.specs.Calls.{NamedMove, move_of, Delivery, Progress, after_move, first_move, stopped, one_more, deliver_next, move_next, drain_from}
+use Rattle.network.specs.Calls.{move_of, Delivery, Progress, after_move, first_move, stopped, one_more, deliver_next, move_next, drain_from}
 use Rattle.run.specs.Step.{step}
 use Rattle.turns.specs.declared.Turn.{Turn}
 
 -- what a turn comes to, by the move that First names: the stops come first
-unfoldable pub turn_by : Shape → List ℕ → ℕ → Found → Turn
-turn_by S w room (Found.Refused r) = Turn.Stopped Stop.Emptied
-turn_by S w room Found.Nothing = Turn.Stopped Stop.Emptied
-turn_by S w room (Found.Move n q o) =
+unfoldable pub turn_by : Shape → List ℕ → ℕ → Option NamedMove → Turn
+turn_by S w room (Err r) = Turn.Stopped Stop.Emptied
+turn_by S w room None = Turn.Stopped Stop.Emptied
+turn_by S w room (Some (move_of n q o)) =
     cond (eqb o deliver) (cond (eqb room 0) (Turn.Stopped Stop.Full) (Turn.Delivered (head (held S w n q)))) Turn.Passed
 
 unfoldable pub turn_answer : Shape → List ℕ → ℕ → ℕ → Turn
@@ -39,12 +39,12 @@ unless_stopped (Turn.Stopped why) after before = before
 unless_stopped Turn.Passed after before = after
 unless_stopped (Turn.Delivered p) after before = after
 
-unfoldable pub made_by : Shape → List ℕ → Found → List ℕ
-made_by S w (Found.Refused r) = w
-made_by S w Found.Nothing = w
-made_by S w (Found.Move n q o) = after_move S w n q o
+unfoldable pub made_by : Shape → List ℕ → Option NamedMove → List ℕ
+made_by S w (Err r) = w
+made_by S w None = w
+made_by S w (Some (move_of n q o)) = after_move S w n q o
 
-unfoldable pub by_words : Shape → List ℕ → ℕ → Found → List ℕ
+unfoldable pub by_words : Shape → List ℕ → ℕ → Option NamedMove → List ℕ
 by_words S w room f = unless_stopped (turn_by S w room f) (made_by S w f) w
 
 unfoldable pub turn_words : Shape → List ℕ → ℕ → ℕ → List ℕ
@@ -79,7 +79,7 @@ next-drain S w b room ne = rw (ne_eqb (packets_held S w) 0 ne)
 
 module _ (S : Shape) (tor : Torus S) (w : List ℕ) (N : Network S w) where
   -- the turn by the move that First names
-  by-found : (b room : ℕ) (f : Found) → Finds (Permitted S w) f
+  by-found : (b room : ℕ) (f : Option NamedMove) → Finds (Permitted S w) f
       → drain_from S (suc b) room w ≡ move_next S w room f (λ r v. drain_from S b r v)
       → ByTurn S w (suc b) room (turn_by S w room f) (unless_stopped (turn_by S w room f) (made_by S w f) w)
   unfolding turn_by unless_stopped made_by move_next deliver_next
@@ -144,19 +144,19 @@ after_more ms m ds es r =
     }
 
 -- the turn by a move, at each place where the code returns
-pub by-passed : (S : Shape) (w : List ℕ) (room n q o : ℕ) → o ≢ 0 → turn_by S w room (Found.Move n q o) ≡ Turn.Passed
+pub by-passed : (S : Shape) (w : List ℕ) (room n q o : ℕ) → o ≢ 0 → turn_by S w room (Some (move_of n q o)) ≡ Turn.Passed
 unfolding turn_by
 by-passed S w room n q o ne = rw (ne_eqb o deliver ne)
 
-pub by-full : (S : Shape) (w : List ℕ) (room n q o : ℕ) → o ≡ 0 → room ≡ 0 → turn_by S w room (Found.Move n q o) ≡ Turn.Stopped Stop.Full
+pub by-full : (S : Shape) (w : List ℕ) (room n q o : ℕ) → o ≡ 0 → room ≡ 0 → turn_by S w room (Some (move_of n q o)) ≡ Turn.Stopped Stop.Full
 unfolding turn_by
 by-full S w room n q o e z = rw (eq-eqb o deliver e, eq-eqb room 0 z)
 
-pub by-delivered : (S : Shape) (w : List ℕ) (room n q o p : ℕ) → o ≡ 0 → room ≢ 0 → p ≡ head (held S w n q) → turn_by S w room (Found.Move n q o) ≡ Turn.Delivered p
+pub by-delivered : (S : Shape) (w : List ℕ) (room n q o p : ℕ) → o ≡ 0 → room ≢ 0 → p ≡ head (held S w n q) → turn_by S w room (Some (move_of n q o)) ≡ Turn.Delivered p
 unfolding turn_by
 by-delivered S w room n q o p e ne h = rw (eq-eqb o deliver e, ne_eqb room 0 ne) (ap Turn.Delivered (sym h))
 
-pub words-moved : (S : Shape) (w : List ℕ) (room n q o : ℕ) (t : Turn) → turn_by S w room (Found.Move n q o) ≡ t → unless_stopped t (after_move S w n q o) w ≡ by_words S w room (Found.Move n q o)
+pub words-moved : (S : Shape) (w : List ℕ) (room n q o : ℕ) (t : Turn) → turn_by S w room (Some (move_of n q o)) ≡ t → unless_stopped t (after_move S w n q o) w ≡ by_words S w room (Some (move_of n q o))
 unfolding by_words made_by
 words-moved S w room n q o t e = ap (λ (x : Turn). unless_stopped x (after_move S w n q o) w) (sym e)
 
@@ -169,23 +169,23 @@ pub turn-spent : (S : Shape) (w : List ℕ) (budget room : ℕ) → packets_held
 unfolding turn_answer
 turn-spent S w budget room ne z = rw (ne_eqb (packets_held S w) 0 ne, eq-eqb budget 0 z)
 
-pub turn_by-some : (S : Shape) (w : List ℕ) (budget room : ℕ) (f : Found) → packets_held S w ≢ 0 → budget ≢ 0 → f ≡ first_move S w → turn_by S w room f ≡ turn_answer S w budget room
+pub turn_by-some : (S : Shape) (w : List ℕ) (budget room : ℕ) (f : Option NamedMove) → packets_held S w ≢ 0 → budget ≢ 0 → f ≡ first_move S w → turn_by S w room f ≡ turn_answer S w budget room
 unfolding turn_answer
 turn_by-some S w budget room f ne nb e = rw (ne_eqb (packets_held S w) 0 ne, ne_eqb budget 0 nb) (ap (turn_by S w room) e)
 
-pub turn-by-words : (S : Shape) (w : List ℕ) (budget room : ℕ) (f : Found) → packets_held S w ≢ 0 → budget ≢ 0 → f ≡ first_move S w → by_words S w room f ≡ turn_words S w budget room
+pub turn-by-words : (S : Shape) (w : List ℕ) (budget room : ℕ) (f : Option NamedMove) → packets_held S w ≢ 0 → budget ≢ 0 → f ≡ first_move S w → by_words S w room f ≡ turn_words S w budget room
 unfolding by_words turn_words
-turn-by-words S w budget room f ne nb e = ap₂ (λ (t : Turn) (g : Found). unless_stopped t (made_by S w g) w) (turn_by-some S w budget room f ne nb e) e
+turn-by-words S w budget room f ne nb e = ap₂ (λ (t : Turn) (g : Option NamedMove). unless_stopped t (made_by S w g) w) (turn_by-some S w budget room f ne nb e) e
 
 pub stopped-words : (S : Shape) (w : List ℕ) (budget room : ℕ) (why : Stop) → turn_answer S w budget room ≡ Turn.Stopped why → w ≡ turn_words S w budget room
 unfolding turn_words unless_stopped
 stopped-words S w budget room why e = sym (ap (λ (t : Turn). unless_stopped t (made_by S w (first_move S w)) w) e)
 
 -- First's move is permitted
-pub first-permitted : (S : Shape) (w : List ℕ) (n q o : ℕ) → Found.Move n q o ≡ first_move S w → Permitted S w n q o
+pub first-permitted : (S : Shape) (w : List ℕ) (n q o : ℕ) → Some (move_of n q o) ≡ first_move S w → Permitted S w n q o
 first-permitted S w n q o e = go (first_move S w) (first_finds S w) e
   where
-    go : (f : Found) → Finds (Permitted S w) f → Found.Move n q o ≡ f → Permitted S w n q o
+    go : (f : Option NamedMove) → Finds (Permitted S w) f → Some (move_of n q o) ≡ f → Permitted S w n q o
     go f nothing x = absurd (let z : ◌≡◌ {A = ℕ} 0 1 = cc in native.Mathlib.Nat.suc-ne-zero 0 (sym z))
     go f (named {n = m} {q = r} {o = t} P) x =
         let a : m ≡ n = cc in

@@ -6,14 +6,14 @@
 
 ghost use Rattle.std.specs.Prelude.{◌≡◌};
 ghost use Rattle.network.specs.Sizes.{shape_of};
-ghost use Rattle.network.specs.declared.Found.{Found};
+ghost use Rattle.network.specs.Calls.{move_of};
 ghost use Rattle.network.specs.CheckLaws.{Network};
 ghost use Rattle.network.specs.RefusalLaws.{Permitted};
 ghost use Rattle.near.specs.Table.{Near};
 ghost use Rattle.turns.specs.Turns.{turn_by, by_words, turn_answer, turn_words};
 ghost use Rattle.turns.specs.Turned.{Kept};
 
-use network::{ACCEPTED_AT, DELIVER, DELIVERED_AT, Found, Sizes, Stop, direction_of};
+use network::{ACCEPTED_AT, DELIVER, DELIVERED_AT, Sizes, Stop, direction_of};
 
 // What a turn came to: a stop, a move to a neighbour, or a delivery with the packet word that it hands out.
 #[derive(Clone, Copy)]
@@ -39,9 +39,9 @@ fn turn_by_move(
     requires near { Near (shape_of s) near.now }
     requires kept_2 { Kept (shape_of s) words.old ready.old loads.old }
     requires permitted { Permitted (shape_of s) words.old n q o }
-    ensures answer { result ≡ turn_by (shape_of s) words.old room (Found.Move n q o) }
-    ensures words { words.new ≡ by_words (shape_of s) words.old room (Found.Move n q o) }
-    ensures kept { Kept (shape_of s) (by_words (shape_of s) words.old room (Found.Move n q o)) ready.new loads.new }
+    ensures answer { result ≡ turn_by (shape_of s) words.old room (Some (move_of n q o)) }
+    ensures words { words.new ≡ by_words (shape_of s) words.old room (Some (move_of n q o)) }
+    ensures kept { Kept (shape_of s) (by_words (shape_of s) words.old room (Some (move_of n q o))) ready.new loads.new }
 {
     if o != DELIVER {
         let there = near::look_up(near, direction_of(o), n);
@@ -82,14 +82,9 @@ pub fn take_turn(
     if budget == 0 {
         return Turn::Stopped(Stop::Spent);
     }
-    let found = ready::next_move(words, s, near, loads, ready);
-    match found {
-        Found::Refused(_) => Turn::Stopped(Stop::Emptied),
-        Found::Nothing => Turn::Stopped(Stop::Emptied),
-        Found::Move {
-            node,
-            queue,
-            output,
-        } => turn_by_move(words, s, near, loads, ready, room, node, queue, output),
+    match ready::next_move(words, s, near, loads, ready) {
+        // while anything is held one is named
+        None => Turn::Stopped(Stop::Emptied),
+        Some(m) => turn_by_move(words, s, near, loads, ready, room, m.node, m.queue, m.output),
     }
 }

@@ -5,7 +5,7 @@ use Rattle.base.specs.Tests.{elem}
 use Rattle.network.specs.Sizes.{Shape, shape_of, nodes, queues}
 use Rattle.network.specs.Layout.{held}
 use Rattle.network.specs.Routes.{routes}
-use Rattle.network.specs.Refusals.{refuse, head, flow_rules, move_rules, no_such_node, no_such_queue, no_such_output, queue_empty, no_route}
+use Rattle.network.specs.Refusals.{number_of, refuse, head, flow_rules, move_rules, no_such_node, no_such_queue, no_such_output, queue_empty, no_route}
 use Rattle.rules.proofs.move_rules.Goals as goal
 use Rattle.rules.proofs.move_rules.Goals.{Else-o-ge-QUEUES}
 
@@ -63,5 +63,5 @@ returns c =
     let a = c.args in
     let t = there (goal.at.returns c).Else-o-ge-QUEUES in
     let is = sym c.if-not-is_route.false ∙ c.is_route.ensures in
-    tested (shape_of a.s) a.words.now a.n a.q a.o c.nodes.result c.held_count.result c.head-p.result c.flow_rules.result true false false false false
+    tested (shape_of a.s) a.words.now a.n a.q a.o c.nodes.result c.held_count.result c.head-p.result (number_of c.flow_rules.result) true false false false false
     c.nodes.ensures c.held_count.ensures c.head-p.ensures is c.flow_rules.ensures t.0 t.1 t.2 (ne_eqb c.held_count.result 0 c.if-held_count-eq0.false)

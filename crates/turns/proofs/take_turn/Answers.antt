@@ -1,8 +1,9 @@
 -- `turns::take_turn` meets its contract. Assumes nothing.
+use Rattle.std.specs.Prelude.{Some}
 use Rattle.std.proofs.Common.{◌≡◌, sym, ◌∙◌, arith}
+use Rattle.network.specs.Calls.{move_of}
 use Rattle.network.specs.Sizes.{shape_of}
 use Rattle.network.specs.Layout.{accepted, delivered}
-use Rattle.network.specs.declared.Found.{Found}
 use Rattle.network.specs.declared.Stop.{Stop}
 use Rattle.turns.specs.declared.Turn.{Turn}
 use Rattle.turns.specs.Turns.{turn_by, first-permitted}
@@ -67,7 +68,7 @@ unfolding accepted delivered
 returns-in-Move c =
     let all =
     turned_by (shape_of c.args.s) c.args.words.now c.args.ready.now c.args.loads.now c.requires.network c.requires.kept_2 c.args.budget c.args.room
-    (Found.Move c.in-Move.node c.in-Move.queue c.in-Move.output) c.turn_by_move.result c.turn_by_move.new.words c.turn_by_move.new.ready
+    (Some (move_of c.in-Move.node c.in-Move.queue c.in-Move.output)) c.turn_by_move.result c.turn_by_move.new.words c.turn_by_move.new.ready
     c.turn_by_move.new.loads
     c.if-words.false c.if-budget-eq0.false (sym c.in-Move.is ∙ c.next_move-found.ensures.answer)
     (c.turn_by_move.ensures.answer, (c.turn_by_move.ensures.words, c.turn_by_move.ensures.kept)) in
