@@ -1,6 +1,6 @@
 -- A Drain in the middle of its loop: what its turns so far have come to, and how each further turn changes that. Order: where it stands; at the start;
 -- after a turn that passed a packet on, that delivered one, that stopped; what the whole Drain then is. Assumes nothing.
-use Rattle.std.specs.Prelude.{◌≡◌, refl, List, [], ◌∷◌, ◌++◌, map, ℕ, suc, ◌+◌, ◌-◌, ◌<◌, ◌≤◌, Ok}
+use Rattle.std.specs.Prelude.{◌≡◌, refl, List, [], ◌∷◌, ◌++◌, map, ℕ, suc, ◌+◌, ◌-◌, ◌<◌, ◌≤◌}
 use Rattle.std.proofs.Common.{ap, ap₂, sym, ◌∙◌, subst, append_assoc, append-nil, add-one, arith, drop-cons}
 use native.Mathlib.Nat.{sub-zero}
 use lib.ListN.{length, drop, set, length-append, length-map}
@@ -36,7 +36,7 @@ pub record DrainedTo (S : Shape) (w : List ℕ) (budget : ℕ) (ledger : List �
   pub handed : List Delivery
   pub why : Stop
   pub whole : drain_from S budget (length ledger) w ≡ record { words = v; moves = made; deliveries = handed; stop = why }
-  pub says : said ≡ Ok (drain_of (length made) (length handed) why)
+  pub says : said ≡ drain_of (length made) (length handed) why
   pub writes : written ≡ packets handed ++ drop (length handed) ledger
 
 pub so-far-start : (S : Shape) (w : List ℕ) (budget : ℕ) (l : List ℕ) → Network S w → SoFar S w budget l w l 0 0
@@ -175,14 +175,14 @@ module _ (S : Shape) (tor : Torus S) (w₀ : List ℕ) (budget : ℕ) (l₀ : Li
       ∙ at-the-end f.made f.handed w why
 
   pub so-far-end : (w l : List ℕ) (m d : ℕ) (why : Stop) → SoFar S w₀ budget l₀ w l m d → turn_answer S w (budget - m) (length l₀ - d) ≡ Turn.Stopped why
-      → DrainedTo S w₀ budget l₀ (Ok (drain_of m d why)) w l
+      → DrainedTo S w₀ budget l₀ (drain_of m d why) w l
   so-far-end w l m d why f e =
       record {
         made = f.made;
         handed = f.handed;
         why = why;
         whole = so-far-stopped w l m d why f e;
-        says = ap₂ (λ (x y : ℕ). Ok (drain_of x y why)) (sym f.moved) (sym f.counted);
+        says = ap₂ (λ (x y : ℕ). drain_of x y why) (sym f.moved) (sym f.counted);
         writes = f.written ∙ ap (λ (x : ℕ). packets f.handed ++ drop x l₀) (sym f.counted);
       }
 
@@ -218,7 +218,7 @@ module _ (S : Shape) (tor : Torus S) (w₀ : List ℕ) (budget : ℕ) (l₀ : Li
       (subst (λ (x : ℕ). SoFar S w₀ budget l₀ (turn_words S w (budget - m) (length l₀ - d)) (set l d p) (m + 1) x) (sym ed) g))
 
   pub end-of-it : (w l : List ℕ) (m d : ℕ) (why : Stop) (t : Turn) (v : List ℕ) → SoFar S w₀ budget l₀ w l m d → t ≡ turn_answer S w (budget - m) (length l₀ - d)
-      → v ≡ turn_words S w (budget - m) (length l₀ - d) → t ≡ Turn.Stopped why → DrainedTo S w₀ budget l₀ (Ok (drain_of m d why)) v l
+      → v ≡ turn_words S w (budget - m) (length l₀ - d) → t ≡ Turn.Stopped why → DrainedTo S w₀ budget l₀ (drain_of m d why) v l
   end-of-it w l m d why t v f et ev e =
-      let g : DrainedTo S w₀ budget l₀ (Ok (drain_of m d why)) w l = so-far-end w l m d why f (sym et ∙ e) in
-      subst (λ (x : List ℕ). DrainedTo S w₀ budget l₀ (Ok (drain_of m d why)) x l) (stopped-words S w (budget - m) (length l₀ - d) why (sym et ∙ e) ∙ sym ev) g
+      let g : DrainedTo S w₀ budget l₀ (drain_of m d why) w l = so-far-end w l m d why f (sym et ∙ e) in
+      subst (λ (x : List ℕ). DrainedTo S w₀ budget l₀ (drain_of m d why) x l) (stopped-words S w (budget - m) (length l₀ - d) why (sym et ∙ e) ∙ sym ev) g

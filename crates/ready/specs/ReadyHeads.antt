@@ -217,8 +217,5 @@ pub lowest-none : (S : Shape) (w set : List ℕ) (h : ℕ) → Covered S w set �
 lowest-none S w set h c l few g = first-nowhere S w (λ k r hk hr. c.others k r hk hr (l.below (head_of k r) (omega arith)))
 
 -- what is named is not nothing
-pub refused-some : (f : Option NamedMove) (r : ℕ) → f ≡ Err r → f ≢ None
-refused-some f r e z = let y : ◌≡◌ {A = ℕ} 0 1 = cc in native.Mathlib.Nat.suc-ne-zero 0 (sym y)
-
-pub move_some : (f : Option NamedMove) (n q o : ℕ) → f ≡ Some (move_of n q o) → f ≢ None
-move_some f n q o e z = let y : ◌≡◌ {A = ℕ} 0 1 = cc in native.Mathlib.Nat.suc-ne-zero 0 (sym y)
+pub move_some : (f : Option NamedMove) (m : NamedMove) → f ≡ Some m → f ≢ None
+move_some f m e z = let y : ◌≡◌ {A = ℕ} 0 1 = cc in native.Mathlib.Nat.suc-ne-zero 0 (sym y)

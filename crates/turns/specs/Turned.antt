@@ -86,7 +86,3 @@ module _ (S : Shape) (w set loads : List ℕ) (N : Network S w) (c : Kept S w se
 pub by-nothing : (S : Shape) (w : List ℕ) (room : ℕ) (f : Option NamedMove) → f ≡ None → turn_by S w room f ≡ Turn.Stopped Stop.Emptied
 unfolding turn_by
 by-nothing S w room f e = ap (turn_by S w room) e
-
-pub by-refused : (S : Shape) (w : List ℕ) (room r : ℕ) (f : Option NamedMove) → f ≡ Err r → turn_by S w room f ≡ Turn.Stopped Stop.Emptied
-unfolding turn_by
-by-refused S w room r f e = ap (turn_by S w room) e

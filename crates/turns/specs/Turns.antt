@@ -1,5 +1,6 @@
 -- One turn of a Drain, and that turns one after the other are the Drain of the definitions. Order: what a turn comes to and leaves; a Drain by its first
 -- turn; a Drain by the turns made so far. Assumes nothing.
+use Rattle.std.specs.Option.{unwrap_or}
 use Rattle.std.specs.Prelude.{◌≡◌, refl, ◌≢◌, cond, eqb, Option, None, Some, Err}
 use Rattle.std.proofs.Common.{ap, ap₂, sym, ◌∙◌, subst, arith}
 use mathlib.Core.List.{List, [], ◌∷◌, ◌++◌, append_assoc}
@@ -24,10 +25,9 @@ use Rattle.turns.specs.declared.Turn.{Turn}
 
 -- what a turn comes to, by the move that First names: the stops come first
 unfoldable pub turn_by : Shape → List ℕ → ℕ → Option NamedMove → Turn
-turn_by S w room (Err r) = Turn.Stopped Stop.Emptied
 turn_by S w room None = Turn.Stopped Stop.Emptied
-turn_by S w room (Some (move_of n q o)) =
-    cond (eqb o deliver) (cond (eqb room 0) (Turn.Stopped Stop.Full) (Turn.Delivered (head (held S w n q)))) Turn.Passed
+turn_by S w room (Some m) =
+    cond (eqb m.output deliver) (cond (eqb room 0) (Turn.Stopped Stop.Full) (Turn.Delivered (head (held S w m.node m.queue)))) Turn.Passed
 
 unfoldable pub turn_answer : Shape → List ℕ → ℕ → ℕ → Turn
 turn_answer S w budget room =
@@ -40,9 +40,8 @@ unless_stopped Turn.Passed after before = after
 unless_stopped (Turn.Delivered p) after before = after
 
 unfoldable pub made_by : Shape → List ℕ → Option NamedMove → List ℕ
-made_by S w (Err r) = w
 made_by S w None = w
-made_by S w (Some (move_of n q o)) = after_move S w n q o
+made_by S w (Some m) = after_move S w m.node m.queue m.output
 
 unfoldable pub by_words : Shape → List ℕ → ℕ → Option NamedMove → List ℕ
 by_words S w room f = unless_stopped (turn_by S w room f) (made_by S w f) w
@@ -182,16 +181,14 @@ unfolding turn_words unless_stopped
 stopped-words S w budget room why e = sym (ap (λ (t : Turn). unless_stopped t (made_by S w (first_move S w)) w) e)
 
 -- First's move is permitted
-pub first-permitted : (S : Shape) (w : List ℕ) (n q o : ℕ) → Some (move_of n q o) ≡ first_move S w → Permitted S w n q o
-first-permitted S w n q o e = go (first_move S w) (first_finds S w) e
+pub first-permitted : (S : Shape) (w : List ℕ) (m : NamedMove) → Some m ≡ first_move S w → Permitted S w m.node m.queue m.output
+first-permitted S w m e = go (first_move S w) (first_finds S w) e
   where
-    go : (f : Option NamedMove) → Finds (Permitted S w) f → Some (move_of n q o) ≡ f → Permitted S w n q o
+    go : (f : Option NamedMove) → Finds (Permitted S w) f → Some m ≡ f → Permitted S w m.node m.queue m.output
     go f nothing x = absurd (let z : ◌≡◌ {A = ℕ} 0 1 = cc in native.Mathlib.Nat.suc-ne-zero 0 (sym z))
-    go f (named {n = m} {q = r} {o = t} P) x =
-        let a : m ≡ n = cc in
-        let b : r ≡ q = cc in
-        let c : t ≡ o = cc in
-        subst (λ (k : ℕ). Permitted S w k q o) a (subst (λ (k : ℕ). Permitted S w m k o) b (subst (λ (k : ℕ). Permitted S w m r k) c P))
+    go f (named {n} {q} {o} P) x =
+        let same : move_of n q o ≡ m = sym (ap (λ (k : Option NamedMove). unwrap_or k m) x) in
+        subst (λ (k : NamedMove). Permitted S w k.node k.queue k.output) same P
 
 -- nothing is held exactly when as many were delivered as accepted
 pub none-held : (S : Shape) (w : List ℕ) → Network S w → accepted w ≡ delivered w → packets_held S w ≡ 0
