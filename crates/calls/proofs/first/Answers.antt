@@ -1,32 +1,28 @@
 -- `calls::first` meets its contract. Assumes nothing.
-use Rattle.std.proofs.Common.{◌≡◌, ap, sym, ◌∙◌, subst, List, ℕ}
-use Rattle.network.specs.Sizes.{shape_of}
-use Rattle.network.specs.declared.Found.{Found}
-use Rattle.network.specs.Calls.{first_answer}
+use Rattle.std.proofs.Common.{◌≡◌, ap, sym, ◌∙◌, subst, List, ℕ, Option}
+use Rattle.network.specs.declared.NamedMove.{NamedMove}
+use Rattle.network.specs.Sizes.{Shape}
+use Rattle.network.specs.Calls.{Answer, first_move, first_answer}
 use Rattle.network.specs.Answers.{FirstTells}
-use Rattle.network.proofs.Answers.{first-tells}
-use Rattle.calls.specs.Returns.{first-broken, first_found}
-use Rattle.checker.specs.Opened.{broken, is_open, is-shut}
+use Rattle.network.proofs.Answers.{first-tells, passed-numbered, refused-says, made-says}
+use Rattle.checker.specs.Opened.{is_open, is-shut}
 use Rattle.calls.proofs.first.Goals as goal
 
-with_values : {w : List ℕ} {said : Found} → said ≡ first_answer w → (said ≡ first_answer w) × FirstTells w said
-with_values {w} e = (e, subst (λ (r : Found). FirstTells w r) (sym e) (first-tells w))
+told : {w : List ℕ} {said : Answer (Option NamedMove)} → said ≡ first_answer w → FirstTells w said
+told {w} e = subst (λ (r : Answer (Option NamedMove)). FirstTells w r) (sym e) (first-tells w)
+
+pub returns-in_err-s : goal.returns-in_err-s
+unfolding first_answer
+returns-in_err-s c =
+    let e = passed-numbered _ _ c.from_residual.ensures.1 ∙ refused-says c.in_err-s.field-0.0 _ (is-shut c.open.ensures c.in_err-s.was).says in
+    record { answer = e; told = told e }
 
 pub first_move-requires : goal.first_move-requires
-first_move-requires c =
-    let k = is_open c.open-opened.ensures c.in-Network.is in
-    k.network
+first_move-requires c = (is_open c.open.ensures c.in_ok-s.was).network
 
-pub returns-in-Refused : goal.returns-in-Refused
-returns-in-Refused c =
-    let k = is-shut c.open-opened.ensures c.in-Refused.is in
-    let all =
-    with_values (ap Found.Refused (sym k.says) ∙ first-broken c.args.words.now (broken k)) in
-    record { answer = all.0; told = all.1 }
-
-pub returns-in-Network : goal.returns-in-Network
-returns-in-Network c =
-    let k = is_open c.open-opened.ensures c.in-Network.is in
-    let all =
-    with_values (first_found (shape_of c.in-Network.s) c.args.words.now c.first_move.result k.passed k.sizes c.first_move.ensures) in
-    record { answer = all.0; told = all.1 }
+pub returns : goal.returns
+unfolding first_answer
+returns c =
+    let k = is_open c.open.ensures c.in_ok-s.was in
+    let e = made-says k.passed (c.first_move.ensures ∙ ap (λ (T : Shape). first_move T c.args.words.now) k.sizes) in
+    record { answer = e; told = told e }

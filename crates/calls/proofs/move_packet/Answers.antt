@@ -1,59 +1,67 @@
 -- `calls::move_packet` meets its contract. Assumes nothing.
-use Rattle.std.proofs.Common.{◌≡◌, sym, ◌∙◌, subst, List, ℕ, arith}
-use Rattle.network.specs.Sizes.{shape_of}
-use Rattle.network.specs.declared.Moved.{Moved}
+use Rattle.std.proofs.Common.{◌≡◌, ap, sym, ◌∙◌, subst, List, ℕ, Option}
+use Rattle.network.specs.Sizes.{Shape, shape_of}
 use Rattle.network.proofs.RefusalLaws.{permitted-of}
-use Rattle.network.specs.Calls.{move_answer}
+use Rattle.network.specs.Calls.{Answer, after_move, move_answer, move_words}
 use Rattle.network.specs.Answers.{MoveTells}
-use Rattle.network.proofs.Answers.{move-tells}
-use Rattle.calls.specs.Returns.{move-refused, move-broken, move-rules, move-delivered, move-passed}
-use Rattle.checker.specs.Opened.{broken, is_open, is-shut}
+use Rattle.network.proofs.Answers.{move-tells, passed-numbered, same-number, refused-says, refused-leaves, made-says, made-leaves}
+use Rattle.calls.specs.Returns.{move-shut, move-rules, handed-head, handed-none}
+use Rattle.checker.specs.Opened.{is_open, is-shut}
 use Rattle.calls.proofs.move_packet.Goals as goal
 
-told : (w : List ℕ) (n q o : ℕ) (said : Moved) → said ≡ move_answer w n q o → MoveTells w n q o said
-told w n q o said e = subst (λ (r : Moved). MoveTells w n q o r) (sym e) (move-tells w n q o)
+told : (w : List ℕ) (n q o : ℕ) {said : Answer (Option ℕ)} → said ≡ move_answer w n q o → MoveTells w n q o said
+told w n q o e = subst (λ (r : Answer (Option ℕ)). MoveTells w n q o r) (sym e) (move-tells w n q o)
 
-pub move_rules-refusal-requires : goal.move_rules-refusal-requires
-move_rules-refusal-requires c =
-    let k = is_open c.open-opened.ensures c.in-Network.is in
-    k.network
-
-pub returns-then-refusal-ne0 : goal.returns-then-refusal-ne0
-returns-then-refusal-ne0 c =
+pub returns-in_err-s : goal.returns-in_err-s
+unfolding move_answer move_words
+returns-in_err-s c =
     let a = c.args in
-    let k = is_open c.open-opened.ensures c.in-Network.is in
-    let x = move-refused a.words.now a.node a.queue a.output c.move_rules-refusal.result
-    (move-rules (shape_of c.in-Network.s) a.words.now a.node a.queue a.output k.passed k.sizes ∙ sym c.move_rules-refusal.ensures) (λ z. c.if-refusal-ne0.true (omega (arith, z))) in
-    record { answer = x.says; words = x.leaves; told = told _ _ _ _ _ x.says }
+    let x = move-shut c.in_err-s.field-0.0 a.node a.queue a.output (is-shut c.open.ensures c.in_err-s.was) in
+    let e = passed-numbered _ _ c.from_residual.ensures.1 ∙ refused-says c.in_err-s.field-0.0 _ x in
+    record { answer = e; words = refused-leaves c.in_err-s.field-0.0 _ _ x; told = told _ _ _ _ e }
+
+pub move_rules-requires : goal.move_rules-requires
+move_rules-requires c = (is_open c.open.ensures c.in_ok-s.was).network
+
+pub returns-in_err-move_rules : goal.returns-in_err-move_rules
+unfolding move_answer move_words
+returns-in_err-move_rules c =
+    let a = c.args in
+    let x = move-rules a.node a.queue a.output (is_open c.open.ensures c.in_ok-s.was) (sym c.move_rules.ensures ∙ same-number c.in_err-move_rules.was) in
+    let e = passed-numbered _ _ c.from_residual-in_err-move_rules.ensures.1 ∙ refused-says c.in_err-move_rules.field-0.0 _ x in
+    record { answer = e; words = refused-leaves c.in_err-move_rules.field-0.0 _ _ x; told = told _ _ _ _ e }
 
 pub make_move-p-requires : goal.make_move-p-requires
 make_move-p-requires c =
     let a = c.args in
-    let k = is_open c.open-opened.ensures c.in-Network.is in
-    let e = c.move_rules-refusal.ensures in
-    let l = c.if-refusal-ne0.false in
-    record { network = k.network; permitted = permitted-of (shape_of c.in-Network.s) a.words.now a.node a.queue a.output (omega arith) }
+    let k = is_open c.open.ensures c.in_ok-s.was in
+    record {
+      network = k.network;
+      permitted = permitted-of (shape_of c.in_ok-s.s) a.words.now a.node a.queue a.output (sym c.move_rules.ensures ∙ same-number c.in_ok-move_rules.was);
+    }
 
 pub returns-then-output-eq-DELIVER : goal.returns-then-output-eq-DELIVER
+unfolding move_answer move_words
 returns-then-output-eq-DELIVER c =
     let a = c.args in
-    let k = is_open c.open-opened.ensures c.in-Network.is in
-    let x = move-delivered (shape_of c.in-Network.s) a.words.now a.node a.queue a.output c.make_move-p.result k.passed k.sizes
-    (sym c.move_rules-refusal.ensures ∙ c.if-refusal-ne0.false) c.if-output-eq-DELIVER.true c.make_move-p.ensures.head in
-    record { answer = x.says; words = c.make_move-p.ensures.words ∙ x.leaves; told = told _ _ _ _ _ x.says }
+    let k = is_open c.open.ensures c.in_ok-s.was in
+    let z = move-rules a.node a.queue a.output k (sym c.move_rules.ensures ∙ same-number c.in_ok-move_rules.was) in
+    let e = made-says z (handed-head a.node a.queue a.output k c.if-output-eq-DELIVER.true c.make_move-p.ensures.head) in
+    record {
+      answer = e;
+      words = made-leaves _ z (c.make_move-p.ensures.words ∙ ap (λ (T : Shape). after_move T a.words.now a.node a.queue a.output) k.sizes);
+      told = told _ _ _ _ e;
+    }
 
-pub returns-in-Refused : goal.returns-in-Refused
-returns-in-Refused c =
+pub returns : goal.returns
+unfolding move_answer move_words
+returns c =
     let a = c.args in
-    let k = is-shut c.open-opened.ensures c.in-Refused.is in
-    let x = move-refused a.words.now a.node a.queue a.output c.in-Refused.refusal
-    (move-broken a.words.now a.node a.queue a.output (broken k) ∙ k.says) k.refused in
-    record { answer = x.says; words = x.leaves; told = told _ _ _ _ _ x.says }
-
-pub returns-else-output-eq-DELIVER : goal.returns-else-output-eq-DELIVER
-returns-else-output-eq-DELIVER c =
-    let a = c.args in
-    let k = is_open c.open-opened.ensures c.in-Network.is in
-    let x = move-passed (shape_of c.in-Network.s) a.words.now a.node a.queue a.output k.passed k.sizes
-    (sym c.move_rules-refusal.ensures ∙ c.if-refusal-ne0.false) c.if-output-eq-DELIVER.false in
-    record { answer = x.says; words = c.make_move-p.ensures.words ∙ x.leaves; told = told _ _ _ _ _ x.says }
+    let k = is_open c.open.ensures c.in_ok-s.was in
+    let z = move-rules a.node a.queue a.output k (sym c.move_rules.ensures ∙ same-number c.in_ok-move_rules.was) in
+    let e = made-says z (handed-none a.output _ c.if-output-eq-DELIVER.false) in
+    record {
+      answer = e;
+      words = made-leaves _ z (c.make_move-p.ensures.words ∙ ap (λ (T : Shape). after_move T a.words.now a.node a.queue a.output) k.sizes);
+      told = told _ _ _ _ e;
+    }

@@ -5,7 +5,9 @@ use Rattle.network.specs.Sizes.{Shape, shape_of, sizes_in_range}
 use Rattle.network.specs.Layout.{shape, header_words, need}
 use Rattle.network.specs.Check.{is_network}
 use Rattle.network.specs.Refusals.{refuse, network_refusal, short_store, wrong_size, no_network}
-use Rattle.checker.specs.Opened.{sizes-shape, opened-shut, opened-open}
+use Rattle.network.specs.declared.Refusal.{Refusal}
+use Rattle.network.proofs.Answers.{refused-says, made-says}
+use Rattle.checker.specs.Opened.{sizes-shape, opened}
 use Rattle.checker.proofs.open.Goals as goal
 use Rattle.checker.proofs.open.Goals.{After-is_network, After-sizes_of-s, Else-not-in_range, Else-words-need}
 
@@ -49,10 +51,12 @@ begin : (c : After-sizes_of-s) → shape_of c.sizes_of-s.result ≡ shape c.args
 begin c = ap shape_of c.sizes_of-s.ensures ∙ sizes-shape _
 
 pub returns-then-words-lt-HEADER_WORDS : goal.returns-then-words-lt-HEADER_WORDS
-returns-then-words-lt-HEADER_WORDS c = opened-shut _ short_store (sym (first _ _ refl c.if-words-lt-HEADER_WORDS.true)) (λ z. omega arith)
+unfolding opened
+returns-then-words-lt-HEADER_WORDS c = refused-says Refusal.ShortStore _ ((first _ _ refl c.if-words-lt-HEADER_WORDS.true))
 
 pub returns-then-not-in_range : goal.returns-then-not-in_range
-returns-then-not-in_range c = opened-shut _ wrong_size (sym (second _ _ (begin (goal.at.returns-then-not-in_range c).After-sizes_of-s) c.if-words-lt-HEADER_WORDS.false (sym c.in_range.ensures ∙ c.if-not-in_range.true))) (λ z. omega arith)
+unfolding opened
+returns-then-not-in_range c = refused-says Refusal.WrongSize _ ((second _ _ (begin (goal.at.returns-then-not-in_range c).After-sizes_of-s) c.if-words-lt-HEADER_WORDS.false (sym c.in_range.ensures ∙ c.if-not-in_range.true)))
 
 ranged : (c : Else-not-in_range) → sizes_in_range (shape_of c.sizes_of-s.result) ≡ true
 ranged c = sym c.in_range.ensures ∙ c.if-not-in_range.false
@@ -61,10 +65,11 @@ pub need-requires : goal.need-requires
 need-requires c = true-T _ (ranged (goal.at.need-requires c).Else-not-in_range)
 
 pub returns-then-words-need : goal.returns-then-words-need
+unfolding opened
 returns-then-words-need c =
     let l = c.if-words-need.true in
     let e = c.need.ensures in
-    opened-shut _ short_store (sym (third _ _ (begin (goal.at.returns-then-words-need c).After-sizes_of-s) c.if-words-lt-HEADER_WORDS.false (ranged (goal.at.returns-then-words-need c).Else-not-in_range) (omega arith))) (λ z. omega arith)
+    refused-says Refusal.ShortStore _ ((third _ _ (begin (goal.at.returns-then-words-need c).After-sizes_of-s) c.if-words-lt-HEADER_WORDS.false (ranged (goal.at.returns-then-words-need c).Else-not-in_range) (omega arith)))
 
 long : (c : Else-words-need) → need (shape_of c.sizes_of-s.result) ≤ length c.args.words.now
 long c = let l = c.if-words-need.false in let e = c.need.ensures in omega arith
@@ -80,8 +85,10 @@ last c =
     ∙ ap (λ (b : Bool). refuse (not b) no_network 0) (sym c.is_network.ensures)
 
 pub returns-then-not-is_network : goal.returns-then-not-is_network
+unfolding opened
 returns-then-not-is_network c =
-    opened-shut _ no_network (sym (last (goal.at.returns-then-not-is_network c).After-is_network ∙ applies _ _ _ (ap not c.if-not-is_network.true))) (λ z. omega arith)
+    refused-says Refusal.NoNetwork _ ((last (goal.at.returns-then-not-is_network c).After-is_network ∙ applies _ _ _ (ap not c.if-not-is_network.true)))
 
 pub returns : goal.returns
-returns c = opened-open _ _ (last (goal.at.returns c).After-is_network ∙ goes_on _ _ _ (ap not c.if-not-is_network.false)) c.sizes_of-s.ensures
+unfolding opened
+returns c = made-says (last (goal.at.returns c).After-is_network ∙ goes_on _ _ _ (ap not c.if-not-is_network.false)) c.sizes_of-s.ensures
