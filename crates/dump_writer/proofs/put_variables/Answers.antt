@@ -1,5 +1,4 @@
 -- `dump_writer::put_variables` meets its contract: the goals that the check does not find by itself. Assumes nothing.
-use Rattle.sheet.proofs.Puts.{put-length}
 use Rattle.dump_writer.proofs.Loops.{variables-none, variable-room, variables-more, variables-all}
 use Rattle.dump_writer.proofs.put_variables.Goals as goal
 
@@ -11,9 +10,6 @@ put_variable-next-requires c = variable-room c.loop-i.invariant c.loop-i-test.tr
 
 pub loop-i-preserved : goal.loop-i-preserved
 loop-i-preserved c = variables-more c.loop-i.invariant c.loop-i-test.true c.put_variable-next.ensures
-
-pub shape_of-page : goal.shape_of-page
-shape_of-page c = put-length (variables-all c.loop-i.invariant c.loop-i-test.false) c.requires
 
 pub returns : goal.returns
 returns c = variables-all c.loop-i.invariant c.loop-i-test.false

@@ -37,9 +37,6 @@ loop-n-preserved c =
     (sym c.node_words-node.ensures)
     (nodes-more c.loop-n.invariant (omega arith) c.read_node.ensures)
 
-pub shape_of-counts : goal.shape_of-counts
-shape_of-counts c = filled-length c.loop-n.invariant.filled
-
 pub returns : goal.returns
 returns c =
     let e = c.nodes-nodes.ensures in

@@ -53,8 +53,7 @@ overflow_add-at-in-loop-q c =
 pub loop-q-preserved : goal.loop-q-preserved
 loop-q-preserved c = node-more c.loop-q.invariant c.requires.0 c.requires.1 c.requires.3 c.loop-q-test.true c.capacity.result c.capacity.ensures
 
-pub shape_of-counts : goal.shape_of-counts
-shape_of-counts c = c.loop-q.invariant.same
-
 pub returns : goal.returns
-returns c = node-all c.loop-q.invariant c.requires.0 c.requires.1 c.requires.3 c.loop-q-test.false
+returns c =
+    let t = c.loop-q-test.false in
+    node-all c.loop-q.invariant c.requires.0 c.requires.1 c.requires.3 (omega arith)
