@@ -10,7 +10,7 @@ use lib.Dec.{eqb}
 use lib.ListN.{length, get_or, length-append}
 use Rattle.sheet.specs.Output.{Room, Put}
 use Rattle.sheet.specs.Puts.{ToPut}
-use Rattle.sheet.proofs.Puts.{put-none, put-behind, put-length, all-to-put, run_room, run-put}
+use Rattle.sheet.proofs.Puts.{put-none, put-behind, put-length, run_room, run-put}
 use Rattle.waveform.specs.Dump.{most_variables, variable_line, variable_lines, value_line, value_lines, tells, changes_to, changes}
 use Rattle.waveform.specs.Reading.{largest_fill}
 use Rattle.waveform.specs.DumpLaws.{change_at}
@@ -40,12 +40,6 @@ none_left i count h = ap (variable_lines i) n
 pub record Counted (count total i : ℕ) : Type 0 where
   pub all : total + length (variable_lines i (count - i)) ≡ length (variable_lines 0 count)
 
-pub counted_none : (count : ℕ) → Counted count 0 0
-counted_none count =
-    let n : count - 0 ≡ count = omega arith in
-    let l : length (variable_lines 0 (count - 0)) ≡ length (variable_lines 0 count) = ap (λ k. length (variable_lines 0 k)) n in
-    record { all = omega arith }
-
 pub counted-more : {count total i : ℕ} (n : ℕ) → Counted count total i → i < count → n ≡ length (variable_line i) → Counted count (total + n) (i + 1)
 counted-more {count} {total} {i} n c h e =
     let a = c.all in
@@ -70,11 +64,6 @@ counted-all {count} {total} {i} c h =
 -- the lines before number i have been put
 abbrev pub VariablesPut : List ℕ → ℕ → ℕ → List ℕ → ℕ → ℕ → Type 0
 VariablesPut before at count page next i = ToPut before at (variable_lines 0 count) page next (variable_lines i (count - i))
-
-pub variables-none : (page : List ℕ) (at count : ℕ) → Room page at (variable_lines 0 count) → VariablesPut page at count page at 0
-variables-none page at count room =
-    let n : count - 0 ≡ count = omega arith in
-    rw (ap (variable_lines 0) n) (all-to-put page at (variable_lines 0 count) room)
 
 module _ {before : List ℕ} {at count : ℕ} {page : List ℕ} {next i : ℕ} (v : VariablesPut before at count page next i) where
   still : i < count → ToPut before at (variable_lines 0 count) page next (variable_line i ++ variable_lines (i + 1) (count - (i + 1)))

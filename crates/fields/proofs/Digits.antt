@@ -1,14 +1,13 @@
 -- A number's digits, for `number_length` and the loop of `put_number`, which puts the last one first. Order: how many digits there are; the last digit and
 -- those before it; the digits put. Assumes nothing.
-use mathlib.Core.Path.{◌≡◌, refl, ap, ap₂, sym, ◌∙◌, subst}
+use mathlib.Core.Path.{◌≡◌, refl, ap, sym, ◌∙◌, subst}
 use mathlib.Core.List.{List, [], ◌∷◌, ◌++◌, append-nil, append_assoc}
 use Prim.Native.Nat.{ℕ, zero, suc, ◌+◌, ◌*◌, ◌/◌, ◌%◌, ◌^◌, ◌<◌, ◌≤◌}
 use Rattle.std.proofs.Math.Nat.{div-lt_iff_lt-mul, le-div_iff_mul-le, mod-eq_of_lt, mul-le-mul_right, one-le-pow, pow-suc, pow-succ', pow-zero, mul_comm}
 use native.Mathlib.Decide.{dec_lt}
 use native.Mathlib.Omega.{arith}
 use lib.ListN.{length, set, length-append}
-use Rattle.std.proofs.lemmas.List.{nil_from_length}
-use Rattle.sheet.specs.Output.{numeral, written, Room, Put}
+use Rattle.sheet.specs.Output.{numeral, written, Room}
 use Rattle.sheet.proofs.Numerals.{numeral-one, numeral-more, numeral-length-more}
 use Rattle.sheet.proofs.Puts.{put-none, written-front}
 
@@ -89,14 +88,4 @@ module _ (base n : ℕ) (two : 2 ≤ base) (before : List ℕ) (at : ℕ) (room 
           put =
               ap (λ o. set o j (48 + rest % base)) (d.put ∙ ap (λ k. written before k d.low) (sym e))
               ∙ written-front before j (48 + rest % base) d.low (rw e room-low);
-        }
-
-    pub behind-all : i ≤ at → Put before at (numeral base n) out (at + length (numeral base n))
-    behind-all h =
-        let p = d.place in
-        let none : d.front ≡ [] = nil_from_length d.front (omega arith) in
-        let e : i ≡ at = omega arith in
-        record {
-          leaves = d.put ∙ ap₂ (written before) e (sym (d.digits ∙ ap (λ f. f ++ d.low) none));
-          answers = refl;
         }

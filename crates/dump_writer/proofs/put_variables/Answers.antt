@@ -1,9 +1,6 @@
 -- `dump_writer::put_variables` meets its contract: the goals that the check does not find by itself. Assumes nothing.
-use Rattle.dump_writer.proofs.Loops.{variables-none, variable-room, variables-more, variables-all}
+use Rattle.dump_writer.proofs.Loops.{variable-room, variables-more, variables-all}
 use Rattle.dump_writer.proofs.put_variables.Goals as goal
-
-pub loop-i-init : goal.loop-i-init
-loop-i-init c = variables-none c.args.page.now c.args.at c.args.count c.requires
 
 pub put_variable-next-requires : goal.put_variable-next-requires
 put_variable-next-requires c = variable-room c.loop-i.invariant c.loop-i-test.true
