@@ -83,15 +83,5 @@ pub fn starts_with(bytes: &[u8], at: usize, fixed: &[u8]) -> bool
     requires { at ≤ length bytes.now }
     ensures { result ≡ starts_with fixed.now (drop at bytes.now) }
 {
-    if bytes.len() - at < fixed.len() {
-        return false;
-    }
-    let mut i = 0;
-    while i < fixed.len() {
-        if fixed[i] != bytes[at + i] {
-            return false;
-        }
-        i += 1;
-    }
-    true
+    bytes[at..].starts_with(fixed)
 }

@@ -1,17 +1,16 @@
 -- The loops of the writer of a dump, turn by turn. Order: the lines of the variables, counted and put; those of the values, counted and put. Assumes nothing.
 use mathlib.Core.Path.{◌≡◌, refl, ap, sym, ◌∙◌}
 use mathlib.Core.Bool.{Bool, true, false, not, ◌||◌}
-use mathlib.Core.List.{List, [], ◌∷◌, ◌++◌, append_assoc}
+use mathlib.Core.List.{List, [], ◌++◌}
 use mathlib.Core.Logic.{◌⊎◌, inl, inr}
 use Prim.Native.Nat.{ℕ, zero, suc, ◌+◌, ◌*◌, ◌-◌, ◌<◌, ◌≤◌}
 use native.Mathlib.Nat.{eq-or-lt_of_le}
 use native.Mathlib.Omega.{arith}
 use lib.Dec.{eqb}
-use lib.ListN.{length, get_or, take, drop, set, length-append, length-drop}
-use lib.Seq.{length-take-le, take-length, take-suc, drop-cons, set_at}
+use lib.ListN.{length, get_or, length-append}
 use Rattle.sheet.specs.Output.{Room, Put}
 use Rattle.sheet.specs.Puts.{ToPut}
-use Rattle.sheet.proofs.Puts.{put-none, put-behind, put-length, all-to-put, run_room, run-put}
+use Rattle.sheet.proofs.Puts.{put-none, put-behind, put-length, run_room, run-put}
 use Rattle.waveform.specs.Dump.{most_variables, variable_line, variable_lines, value_line, value_lines, tells, changes_to, changes}
 use Rattle.waveform.specs.Reading.{largest_fill}
 use Rattle.waveform.specs.DumpLaws.{change_at}
@@ -39,21 +38,14 @@ none_left i count h = ap (variable_lines i) n
 
 -- the lines before number i have been counted
 pub record Counted (count total i : ℕ) : Type 0 where
-  pub within : i ≤ count
   pub all : total + length (variable_lines i (count - i)) ≡ length (variable_lines 0 count)
-
-pub counted_none : (count : ℕ) → Counted count 0 0
-counted_none count =
-    let n : count - 0 ≡ count = omega arith in
-    let l : length (variable_lines 0 (count - 0)) ≡ length (variable_lines 0 count) = ap (λ k. length (variable_lines 0 k)) n in
-    record { within = omega arith; all = omega arith }
 
 pub counted-more : {count total i : ℕ} (n : ℕ) → Counted count total i → i < count → n ≡ length (variable_line i) → Counted count (total + n) (i + 1)
 counted-more {count} {total} {i} n c h e =
     let a = c.all in
     let l : length (variable_lines i (count - i)) ≡ length (variable_line i) + length (variable_lines (i + 1) (count - (i + 1)))
     = ap length (left i count h) ∙ length-append (variable_line i) (variable_lines (i + 1) (count - (i + 1))) in
-    record { within = omega arith; all = omega arith }
+    record { all = omega arith }
 
 -- the sum stays small, with one line more too
 pub counted-few : {count total i : ℕ} (n : ℕ) → Counted count total i → i < count → n ≡ length (variable_line i) → count ≤ most_variables
@@ -70,28 +62,22 @@ counted-all {count} {total} {i} c h =
     omega arith
 
 -- the lines before number i have been put
-pub record VariablesPut (before : List ℕ) (at count : ℕ) (page : List ℕ) (next i : ℕ) : Type 0 where
-  pub within : i ≤ count
-  pub left : ToPut before at (variable_lines 0 count) page next (variable_lines i (count - i))
-
-pub variables-none : (page : List ℕ) (at count : ℕ) → Room page at (variable_lines 0 count) → VariablesPut page at count page at 0
-variables-none page at count room =
-    let n : count - 0 ≡ count = omega arith in
-    record { within = omega arith; left = rw (ap (variable_lines 0) n) (all-to-put page at (variable_lines 0 count) room) }
+abbrev pub VariablesPut : List ℕ → ℕ → ℕ → List ℕ → ℕ → ℕ → Type 0
+VariablesPut before at count page next i = ToPut before at (variable_lines 0 count) page next (variable_lines i (count - i))
 
 module _ {before : List ℕ} {at count : ℕ} {page : List ℕ} {next i : ℕ} (v : VariablesPut before at count page next i) where
   still : i < count → ToPut before at (variable_lines 0 count) page next (variable_line i ++ variable_lines (i + 1) (count - (i + 1)))
-  still h = rw (left i count h) at v.left
+  still h = rw (left i count h) at v
 
   pub variable-room : i < count → Room page next (variable_line i)
   variable-room h = run_room (variable_line i) (variable_lines (i + 1) (count - (i + 1))) (still h)
 
   pub variables-more : {page' : List ℕ} {next' : ℕ} → i < count → Put page next (variable_line i) page' next' → VariablesPut before at count page' next' (i + 1)
-  variables-more h p = record { within = omega arith; left = run-put (variable_line i) (variable_lines (i + 1) (count - (i + 1))) (still h) p }
+  variables-more h p = run-put (variable_line i) (variable_lines (i + 1) (count - (i + 1))) (still h) p
 
   pub variables-all : count ≤ i → Put before at (variable_lines 0 count) page next
   variables-all h =
-      let l : ToPut before at (variable_lines 0 count) page next [] = rw (none_left i count h) at v.left in
+      let l : ToPut before at (variable_lines 0 count) page next [] = rw (none_left i count h) at v in
       let r = l.room in
       l.done page next (put-none page next (omega arith))
 
@@ -125,13 +111,12 @@ told_is every counts list i e f = sym e ∙ f
 
 -- the values of the variables before number i have been counted
 pub record ValuesCounted (every : Bool) (counts list : List ℕ) (total i : ℕ) : Type 0 where
-  pub within : i ≤ length counts
   pub all : total ≡ length (value_lines (changes_to every counts list i))
 
 module _ (every : Bool) (counts list : List ℕ) where
   pub values-none : ValuesCounted every counts list 0 0
   unfolding changes_to value_lines
-  values-none = record { within = omega arith; all = refl }
+  values-none = record { all = refl }
 
   told-length : (i : ℕ) → tells every counts list i ≡ true
       → length (value_lines (changes_to every counts list (i + 1))) ≡ length (value_lines (changes_to every counts list i)) + length (value_line (change_at counts i))
@@ -149,10 +134,10 @@ module _ (every : Bool) (counts list : List ℕ) where
     values-told n t e =
         let a = c.all in
         let l = told-length i t in
-        record { within = omega arith; all = omega arith }
+        record { all = omega arith }
 
     pub values-untold : tells every counts list i ≡ false → ValuesCounted every counts list total (i + 1)
-    values-untold t = record { within = omega arith; all = c.all ∙ sym (ap length (untold-lines i t)) }
+    values-untold t = record { all = c.all ∙ sym (ap length (untold-lines i t)) }
 
     pub values-few : (n : ℕ) → tells every counts list i ≡ true → n ≡ length (value_line (change_at counts i)) → length counts ≤ most_variables
         → ((j : ℕ) → get_or counts j 0 ≤ largest_fill) → total + n ≤ value_room * most_variables
@@ -161,17 +146,14 @@ module _ (every : Bool) (counts list : List ℕ) where
         let r = values-room every counts list (i + 1) (omega arith) (λ j l. small j) in
         omega arith
 
-  pub values-all : {total i : ℕ} → ValuesCounted every counts list total i → length counts ≤ i → total ≡ length (value_lines (changes every counts list))
+  pub values-all : {total i : ℕ} → ValuesCounted every counts list total i → i ≡ length counts → total ≡ length (value_lines (changes every counts list))
   unfolding changes
-  values-all {total} {i} c h =
-      let w = c.within in
-      let e : i ≡ length counts = omega arith in
+  values-all {total} {i} c e =
       c.all ∙ ap (λ k. length (value_lines (changes_to every counts list k))) e
 
 -- the values of the variables before number i have been put
-pub record ValuesPut (every : Bool) (counts list before : List ℕ) (at : ℕ) (page : List ℕ) (next i : ℕ) : Type 0 where
-  pub within : i ≤ length counts
-  pub put : Put before at (value_lines (changes_to every counts list i)) page next
+abbrev pub ValuesPut : Bool → List ℕ → List ℕ → List ℕ → ℕ → List ℕ → ℕ → ℕ → Type 0
+ValuesPut every counts list before at page next i = Put before at (value_lines (changes_to every counts list i)) page next
 
 module _ (every : Bool) (counts list before : List ℕ) (at : ℕ) (room : Room before at (value_lines (changes every counts list))) where
   room-to : (i : ℕ) → i ≤ length counts → Room before at (value_lines (changes_to every counts list i))
@@ -180,76 +162,27 @@ module _ (every : Bool) (counts list before : List ℕ) (at : ℕ) (room : Room 
 
   pub put-values-none : ValuesPut every counts list before at before at 0
   unfolding changes_to value_lines
-  put-values-none = record { within = omega arith; put = put-none before at (omega arith) }
+  put-values-none = put-none before at (omega arith)
 
   module _ {page : List ℕ} {next i : ℕ} (v : ValuesPut every counts list before at page next i) where
-    pub values_length : length page ≡ length before
-    values_length = put-length v.put (room-to i v.within)
-
     module _ (h : i < length counts) where
       pub value_line_room : tells every counts list i ≡ true → Room page next (value_line (change_at counts i))
       value_line_room t =
           let l = told-length every counts list i t in
           let r = room-to (i + 1) (omega arith) in
-          let k = values_length in
-          let n = v.put.answers in
+          let k = put-length v (room-to i (omega arith)) in
+          let n = v.answers in
           omega arith
 
       pub put-values-told : {page' : List ℕ} {next' : ℕ} → tells every counts list i ≡ true → Put page next (value_line (change_at counts i)) page' next'
           → ValuesPut every counts list before at page' next' (i + 1)
       put-values-told t p =
           let n : i + 1 ≡ suc i = omega arith in
-          record {
-            within = omega arith;
-            put =
-                rw (ap (λ k. value_lines (changes_to every counts list k)) n ∙ lines-told every counts list i t)
-                (put-behind v.put p (room-to i v.within));
-          }
+          rw (ap (λ k. value_lines (changes_to every counts list k)) n ∙ lines-told every counts list i t) (put-behind v p (room-to i (omega arith)))
 
       pub put-values-untold : tells every counts list i ≡ false → ValuesPut every counts list before at page next (i + 1)
-      put-values-untold t = record { within = omega arith; put = rw (untold-lines every counts list i t) v.put }
+      put-values-untold t = rw (untold-lines every counts list i t) v
 
-    pub put-values-all : length counts ≤ i → Put before at (value_lines (changes every counts list)) page next
+    pub put-values-all : i ≡ length counts → Put before at (value_lines (changes every counts list)) page next
     unfolding changes
-    put-values-all h =
-        let w = v.within in
-        let e : i ≡ length counts = omega arith in
-        rw e at v.put
-
--- the first i fills have been copied into the list
-pub record Copied (before counts list : List ℕ) (i : ℕ) : Type 0 where
-  pub within : i ≤ length counts
-  pub same : list ≡ take i counts ++ drop i before
-
-module _ {before counts : List ℕ} (room : length counts ≤ length before) where
-  pub copied_none : Copied before counts before 0
-  copied_none = record { within = omega arith; same = refl }
-
-  module _ {list : List ℕ} {i : ℕ} (c : Copied before counts list i) where
-    pub copied-length : length list ≡ length before
-    copied-length =
-        let a = ap length c.same ∙ length-append (take i counts) (drop i before) in
-        let t = length-take-le i counts c.within in
-        let d = length-drop i before in
-        let w = c.within in
-        omega arith
-
-    pub copied_more : i < length counts → Copied before counts (set list i (get_or counts i 0)) (i + 1)
-    copied_more h =
-        let n : suc i ≡ i + 1 = omega arith in
-        let s : drop i before ≡ get_or before i 0 ∷ drop (suc i) before = drop-cons before i 0 (omega arith) in
-        record {
-          within = omega arith;
-          same =
-              ap (λ l. set l i (get_or counts i 0)) (c.same ∙ ap (λ l. take i counts ++ l) s)
-              ∙ set_at (take i counts) (get_or before i 0) (drop (suc i) before) (get_or counts i 0) i (length-take-le i counts c.within)
-              ∙ sym (append_assoc (take i counts) (get_or counts i 0 ∷ []) (drop (suc i) before))
-              ∙ ap (λ l. l ++ drop (suc i) before) (sym (take-suc counts i 0 h))
-              ∙ ap (λ k. take k counts ++ drop k before) n;
-        }
-
-    pub copied_all : length counts ≤ i → list ≡ counts ++ drop (length counts) before
-    copied_all h =
-        let w = c.within in
-        let e : i ≡ length counts = omega arith in
-        c.same ∙ ap (λ k. take k counts ++ drop k before) e ∙ ap (λ l. l ++ drop (length counts) before) (take-length counts)
+    put-values-all e = rw e at v

@@ -1,9 +1,8 @@
 -- The fills of a node's queues read one after another, and those of the nodes. Order: the word of a queue; a node's queues; the nodes. Assumes nothing.
-use mathlib.Core.Path.{◌≡◌, refl, ap, ap₂, sym, ◌∙◌, subst}
+use mathlib.Core.Path.{◌≡◌, ap, ap₂, sym, ◌∙◌, subst}
 use mathlib.Core.List.{List}
 use Prim.Native.Nat.{ℕ, suc, ◌+◌, ◌*◌, ◌/◌, ◌%◌, ◌<◌, ◌≤◌}
 use native.Mathlib.Nat.{mul-le-mul_right, suc-mul}
-use native.Mathlib.Numerals.{add-one}
 use native.Mathlib.Omega.{arith}
 use lib.ListN.{length, get_or, set, length-set}
 use Rattle.network.specs.Sizes.{Shape, nodes, queues, capacity, largest_capacity}
@@ -14,7 +13,7 @@ use Rattle.network.specs.CheckLaws.{Network}
 use Rattle.base.specs.Sums.{sum_below}
 use Rattle.waveform.specs.Dump.{variables_of, fills}
 use Rattle.waveform.proofs.DumpLaws.{held_word}
-use Rattle.dump_writer.specs.Writing.{FirstFills, FillsAdded, filled_none, filled-length, filled_more, filled-all}
+use Rattle.dump_writer.specs.Writing.{FirstFills, filled_none, filled-length, filled_more, filled-all}
 
 -- where the number held of a queue stands, and that it is small
 pub record CountAt (S : Shape) (w : List ℕ) (n q at : ℕ) : Type 0 where
@@ -34,23 +33,14 @@ count_at S w n q at k hn hq e =
 
 -- the queues of node n before queue q have been read
 pub record NodeRead (S : Shape) (w : List ℕ) (n : ℕ) (before counts : List ℕ) (at q : ℕ) : Type 0 where
-  pub within : q ≤ queues
   pub place : at ≡ queue_start S n q
   pub same : length counts ≡ length before
   pub added : (lent : List ℕ) → FirstFills S w (n * queues) lent before → FirstFills S w (n * queues + q) lent counts
-
-pub node-none : (S : Shape) (w : List ℕ) (n : ℕ) (counts : List ℕ) (at : ℕ) → at ≡ queue_start S n 0 → NodeRead S w n counts counts at 0
-node-none S w n counts at e =
-    let z : n * queues ≡ n * queues + 0 = omega arith in
-    record { within = omega arith; place = e; same = refl; added = λ lent f. subst (λ k. FirstFills S w k lent counts) z f }
 
 module _ {S : Shape} {w : List ℕ} {n : ℕ} {before counts : List ℕ} {at q : ℕ} (r : NodeRead S w n before counts at q)
     (k : Network S w) (hn : n < nodes S) (all : length before ≡ variables_of S) where
   pub node-count : q < queues → CountAt S w n q at
   node-count hq = count_at S w n q at k hn hq r.place
-
-  pub node-place : q < queues → n * queues + q < length counts
-  node-place hq = let s = r.same in omega arith
 
   pub node-more : q < queues → (c : ℕ) → c ≡ capacity S q → NodeRead S w n before (set counts (n * queues + q) (get_or w at 0)) (at + (c + 1)) (q + 1)
   unfolding queue_end queue_length
@@ -62,7 +52,6 @@ module _ {S : Shape} {w : List ℕ} {n : ℕ} {before counts : List ℕ} {at q :
       let m : (n * queues + q) % queues ≡ q = omega arith in
       let o : n * queues + q + 1 ≡ n * queues + (q + 1) = omega arith in
       record {
-        within = omega arith;
         place = (let a : at + (c + 1) ≡ queue_start S n (suc q) = omega arith in a ∙ ap (queue_start S n) (sym s));
         same = length-set counts (n * queues + q) (get_or w at 0) ∙ r.same;
         added =
@@ -74,20 +63,13 @@ module _ {S : Shape} {w : List ℕ} {n : ℕ} {before counts : List ℕ} {at q :
             (filled_more g (omega arith) (get_or w at 0) ((node-count hq).word ∙ ap₂ (λ a b. length (held S w a b)) (sym d) (sym m)));
       }
 
-  pub node-all : queues ≤ q → FillsAdded S w n before counts
-  node-all h lent f =
-      let b = r.within in
-      let e : q ≡ queues = omega arith in
-      subst (λ j. FirstFills S w (n * queues + j) lent counts) e (r.added lent f)
-
 -- the nodes before node n have been read
 pub record NodesRead (S : Shape) (w lent counts : List ℕ) (start n : ℕ) : Type 0 where
-  pub within : n ≤ nodes S
   pub place : start ≡ header_words + n * node_words S
   pub filled : FirstFills S w (n * queues) lent counts
 
 pub nodes-none : (S : Shape) (w lent : List ℕ) → NodesRead S w lent lent header_words 0
-nodes-none S w lent = record { within = omega arith; place = omega arith; filled = filled_none S w lent }
+nodes-none S w lent = record { place = omega arith; filled = filled_none S w lent }
 
 module _ {S : Shape} {w lent counts : List ℕ} {start n : ℕ} (r : NodesRead S w lent counts start n) where
   pub nodes-start : start ≡ queue_start S n 0
@@ -104,15 +86,5 @@ module _ {S : Shape} {w lent counts : List ℕ} {start n : ℕ} (r : NodesRead S
       let long = k.long in
       omega arith
 
-  pub nodes-more : {after : List ℕ} → n < nodes S → FillsAdded S w n counts after → NodesRead S w lent after (start + node_words S) (n + 1)
-  nodes-more {after} h f =
-      let p = r.place in
-      let e : n * queues + queues ≡ (n + 1) * queues = omega arith in
-      let m : (n + 1) * node_words S ≡ n * node_words S + node_words S = ap (λ k. k * node_words S) (add-one n) ∙ suc-mul n (node_words S) in
-      record { within = omega arith; place = omega arith; filled = subst (λ j. FirstFills S w j lent after) e (f lent r.filled) }
-
-  pub nodes-all : nodes S ≤ n → length lent ≡ variables_of S → counts ≡ fills S w
-  nodes-all h l =
-      let b = r.within in
-      let e : n ≡ nodes S = omega arith in
-      filled-all r.filled (omega arith) (omega arith)
+  pub nodes-all : n ≡ nodes S → length lent ≡ variables_of S → counts ≡ fills S w
+  nodes-all e l = filled-all r.filled (omega arith) (omega arith)

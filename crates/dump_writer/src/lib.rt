@@ -32,11 +32,9 @@ fn read_node(words: &[u64], s: Sizes, n: usize, start: usize, counts: &mut [u8])
 {
     let from = n * QUEUES as usize;
     let mut at = start;
-    let mut q = 0;
-    while q < QUEUES {
+    for q in 0..QUEUES {
         counts[from + q as usize] = words[at] as u8;
         at += queue::capacity(s, q) as usize + 1;
-        q += 1;
     }
 }
 
@@ -48,11 +46,9 @@ fn read_fills(words: &[u64], s: Sizes, counts: &mut [u8])
     let nodes = torus::nodes(s) as usize;
     let node = queue::node_words(s) as usize;
     let mut start = HEADER_WORDS;
-    let mut n = 0;
-    while n < nodes {
+    for n in 0..nodes {
         read_node(words, s, n, start, counts);
         start += node;
-        n += 1;
     }
 }
 
@@ -62,10 +58,8 @@ fn variables_length(count: usize) -> usize
     ensures { result ≡ length (variable_lines 0 count) }
 {
     let mut length = 0;
-    let mut i = 0;
-    while i < count {
+    for i in 0..count {
         length += variable_length(i);
-        i += 1;
     }
     length
 }
@@ -74,10 +68,7 @@ fn variables_length(count: usize) -> usize
 fn tells(every: bool, count: u8, listed: u8) -> bool
     ensures { result ≡ (every || not (eqb count listed)) }
 {
-    if every {
-        return true;
-    }
-    count != listed
+    every || count != listed
 }
 
 fn values_length(every: bool, counts: &[u8], fills: &[u8]) -> usize
@@ -85,12 +76,10 @@ fn values_length(every: bool, counts: &[u8], fills: &[u8]) -> usize
     ensures { result ≡ length (value_lines (changes every counts.now fills.now)) }
 {
     let mut length = 0;
-    let mut i = 0;
-    while i < counts.len() {
-        if tells(every, counts[i], fills[i]) {
-            length += value_length(i, counts[i]);
+    for (i, &count) in counts.iter().enumerate() {
+        if tells(every, count, fills[i]) {
+            length += value_length(i, count);
         }
-        i += 1;
     }
     length
 }
@@ -113,10 +102,8 @@ fn put_variables(page: &mut [u8], at: usize, count: usize) -> usize
     ensures { Put page.old at (variable_lines 0 count) page.new result }
 {
     let mut next = at;
-    let mut i = 0;
-    while i < count {
+    for i in 0..count {
         next = put_variable(page, next, i);
-        i += 1;
     }
     next
 }
@@ -127,12 +114,10 @@ fn put_values(page: &mut [u8], at: usize, every: bool, counts: &[u8], fills: &[u
     ensures { Put page.old at (value_lines (changes every counts.now fills.now)) page.new result }
 {
     let mut next = at;
-    let mut i = 0;
-    while i < counts.len() {
-        if tells(every, counts[i], fills[i]) {
-            next = put_value(page, next, i, counts[i]);
+    for (i, &count) in counts.iter().enumerate() {
+        if tells(every, count, fills[i]) {
+            next = put_value(page, next, i, count);
         }
-        i += 1;
     }
     next
 }
@@ -175,18 +160,6 @@ fn put_step(first: bool, page: &mut [u8], time: u64, counts: &[u8], fills: &[u8]
     put_later(page, time, counts, fills)
 }
 
-// The list brought up to date.
-fn copy_fills(fills: &mut [u8], counts: &[u8])
-    requires { length counts.now ≤ length fills.old }
-    ensures { fills.new ≡ counts.now ++ drop (length counts.now) fills.old }
-{
-    let mut i = 0;
-    while i < counts.len() {
-        fills[i] = counts[i];
-        i += 1;
-    }
-}
-
 // A step of these fills: 15 is tested before anything is written.
 fn write_counts(first: bool, time: u64, counts: &[u8], fills: &mut [u8], page: &mut [u8]) -> Written
     requires { length counts.now ≤ most_variables }
@@ -202,7 +175,7 @@ fn write_counts(first: bool, time: u64, counts: &[u8], fills: &mut [u8], page: &
         return Written::Refused(SHORT_PAGE);
     }
     put_step(first, page, time, counts, fills);
-    copy_fills(fills, counts);
+    fills[..counts.len()].copy_from_slice(counts);
     Written::Bytes(length)
 }
 
@@ -225,26 +198,26 @@ fn write_fills(
     write_counts(first, time, counts, fills, page)
 }
 
-// The same, where the list may be longer than the network needs it.
-fn write_network(
+// The same, with a list of our own of N bytes, which may be longer than the network needs it.
+fn write_sized<const N: usize>(
     first: bool,
     words: &[u64],
     s: Sizes,
-    counts: &mut [u8],
     fills: &mut [u8],
     page: &mut [u8],
 ) -> Written
-    requires { Network (shape_of s) words.now × (variables_of (shape_of s) ≤ length counts.old) }
+    requires network { Network (shape_of s) words.now }
+    requires length { (variables_of (shape_of s) ≤ N) × (N ≤ most_variables) }
     ensures answer { result ≡ counts_answer first (moves_made words.now) (fills_of (shape_of s) words.now) fills.old page.old }
     ensures fills { fills.new ≡ counts_list first (moves_made words.now) (fills_of (shape_of s) words.now) fills.old page.old }
     ensures page { page.new ≡ counts_page first (moves_made words.now) (fills_of (shape_of s) words.now) fills.old page.old }
 {
-    let nodes = torus::nodes(s);
-    let count = (nodes * QUEUES) as usize;
+    let mut counts = [0u8; N];
+    let count = (torus::nodes(s) * QUEUES) as usize;
     write_fills(first, words, s, &mut counts[..count], fills, page)
 }
 
-// The same, with that list: it is cleared whole at each step, so a network of few nodes has a short one (D89).
+// The same: the list is cleared whole at each step, so a network of few nodes has a short one (D89).
 fn write_opened(first: bool, words: &[u64], s: Sizes, fills: &mut [u8], page: &mut [u8]) -> Written
     requires { Network (shape_of s) words.now }
     ensures answer { result ≡ counts_answer first (moves_made words.now) (fills_of (shape_of s) words.now) fills.old page.old }
@@ -252,11 +225,9 @@ fn write_opened(first: bool, words: &[u64], s: Sizes, fills: &mut [u8], page: &m
     ensures page { page.new ≡ counts_page first (moves_made words.now) (fills_of (shape_of s) words.now) fills.old page.old }
 {
     if torus::nodes(s) <= FEW_NODES {
-        let mut counts = [0u8; FEW_VARIABLES];
-        return write_network(first, words, s, &mut counts, fills, page);
+        return write_sized::<FEW_VARIABLES>(first, words, s, fills, page);
     }
-    let mut counts = [0u8; MOST_VARIABLES];
-    write_network(first, words, s, &mut counts, fills, page)
+    write_sized::<MOST_VARIABLES>(first, words, s, fills, page)
 }
 
 // A step of words, a header if it is the first.

@@ -23,27 +23,17 @@ pub fn put_bytes(out: &mut [u8], at: usize, bytes: &[u8]) -> usize
     requires { Room out.old at bytes.now }
     ensures { Put out.old at bytes.now out.new result }
 {
-    let mut next = at;
-    let mut i = 0;
-    while i < bytes.len() {
-        next = put_byte(out, next, bytes[i]);
-        i += 1;
-    }
-    next
+    let end = at + bytes.len();
+    out[at..end].copy_from_slice(bytes);
+    end
 }
 
-// How many digits a number has in a base.
+// How many digits a number has in a base; 0 has one, as 1 has.
 pub fn number_length(base: u64, n: u64) -> usize
     requires { 2 ≤ base }
     ensures { result ≡ length (numeral base n) }
 {
-    let mut rest = n;
-    let mut count = 1;
-    while base <= rest {
-        rest = rest / base;
-        count += 1;
-    }
-    count
+    n.max(1).ilog(base) as usize + 1
 }
 
 // A number's digits, the last one first: how many there are says where it stands.
@@ -53,14 +43,11 @@ pub fn put_number(out: &mut [u8], at: usize, base: u64, n: u64) -> usize
     ensures { Put out.old at (numeral base n) out.new result }
 {
     let end = at + number_length(base, n);
-    let mut i = end - 1;
     let mut rest = n;
-    while base <= rest {
+    for i in (at..end).rev() {
         out[i] = b'0' + (rest % base) as u8;
-        rest = rest / base;
-        i -= 1;
+        rest /= base;
     }
-    out[i] = b'0' + rest as u8;
     end
 }
 

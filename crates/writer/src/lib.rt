@@ -51,10 +51,8 @@ fn put_packets(out: &mut [u8], at: usize, packets: &[u64]) -> usize
     ensures { Put out.old at (packet_lines packets.now) out.new result }
 {
     let mut next = at;
-    let mut i = 0;
-    while i < packets.len() {
-        next = put_packet(out, next, packets[i]);
-        i += 1;
+    for &p in packets {
+        next = put_packet(out, next, p);
     }
     next
 }

@@ -1,5 +1,5 @@
 -- `dump_text::put_stamp` meets its contract: three runs of bytes, one behind the other. Assumes nothing.
-use Rattle.std.proofs.Common.{List, [], ◌∷◌, ◌++◌, ℕ, arith}
+use Rattle.std.proofs.Common.{List, [], ◌∷◌, ◌++◌, ℕ}
 use Rattle.sheet.specs.Text.{lf}
 use Rattle.sheet.specs.Output.{decimal}
 use Rattle.sheet.specs.Puts.{ToPut}
@@ -32,8 +32,8 @@ behind-number c = run-put (number c.before.before.before.before.before.before.be
 pub put_byte-next-requires : goal.put_byte-next-requires
 put_byte-next-requires c = run_room (35 ∷ []) (number (goal.at.put_byte-next-requires c).Start ++ end) (all (goal.at.put_byte-next-requires c).Start)
 
-pub put_number-next-requires : goal.put_number-next-requires
-put_number-next-requires c = record { le_base = (omega arith, omega arith); room = run_room (number (goal.at.put_number-next-requires c).Start) end (behind-sign (goal.at.put_number-next-requires c).After-put_byte-next) }
+pub put_number-next-requires-clause-room : goal.put_number-next-requires-clause-room
+put_number-next-requires-clause-room c = run_room (number (goal.at.put_number-next-requires-clause-room c).Start) end (behind-sign (goal.at.put_number-next-requires-clause-room c).After-put_byte-next)
 
 pub put_byte-requires : goal.put_byte-requires
 put_byte-requires c = (behind-number (goal.at.put_byte-requires c).After-put_number-next).room

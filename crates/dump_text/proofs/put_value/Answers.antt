@@ -1,5 +1,5 @@
 -- `dump_text::put_value` meets its contract: five runs of bytes, one behind the other. Assumes nothing.
-use Rattle.std.proofs.Common.{List, [], ◌∷◌, ◌++◌, ℕ, arith}
+use Rattle.std.proofs.Common.{List, [], ◌∷◌, ◌++◌, ℕ}
 use Rattle.sheet.specs.Text.{lf}
 use Rattle.sheet.specs.Output.{numeral, decimal}
 use Rattle.sheet.specs.Puts.{ToPut}
@@ -59,14 +59,14 @@ behind-code c =
 pub put_byte-next-requires : goal.put_byte-next-requires
 put_byte-next-requires c = run_room (letter (goal.at.put_byte-next-requires c).Start) (after-letter (goal.at.put_byte-next-requires c).Start) (all (goal.at.put_byte-next-requires c).Start)
 
-pub put_number-next-requires : goal.put_number-next-requires
-put_number-next-requires c = record { le_base = (omega arith, omega arith); room = run_room (bits (goal.at.put_number-next-requires c).Start) (after-bits (goal.at.put_number-next-requires c).Start) (behind-letter (goal.at.put_number-next-requires c).After-put_byte-next) }
+pub put_number-next-requires-clause-room : goal.put_number-next-requires-clause-room
+put_number-next-requires-clause-room c = run_room (bits (goal.at.put_number-next-requires-clause-room c).Start) (after-bits (goal.at.put_number-next-requires-clause-room c).Start) (behind-letter (goal.at.put_number-next-requires-clause-room c).After-put_byte-next)
 
 pub put_byte-next-requires-2 : goal.put_byte-next-requires-2
 put_byte-next-requires-2 c = run_room (blank (goal.at.put_byte-next-requires-2 c).Start) (after-blank (goal.at.put_byte-next-requires-2 c).Start) (behind-bits (goal.at.put_byte-next-requires-2 c).After-put_number-next)
 
-pub put_number-next-requires-2 : goal.put_number-next-requires-2
-put_number-next-requires-2 c = record { le_base = (omega arith, omega arith); room = run_room (code (goal.at.put_number-next-requires-2 c).Start) (end (goal.at.put_number-next-requires-2 c).Start) (behind-blank (goal.at.put_number-next-requires-2 c).After-put_byte-next-2) }
+pub put_number-next-requires-2-clause-room : goal.put_number-next-requires-2-clause-room
+put_number-next-requires-2-clause-room c = run_room (code (goal.at.put_number-next-requires-2-clause-room c).Start) (end (goal.at.put_number-next-requires-2-clause-room c).Start) (behind-blank (goal.at.put_number-next-requires-2-clause-room c).After-put_byte-next-2)
 
 pub put_byte-requires : goal.put_byte-requires
 put_byte-requires c = (behind-code (goal.at.put_byte-requires c).After-put_number-next-2).room

@@ -1,5 +1,5 @@
 -- `dump_text::put_variable` meets its contract: seven runs of bytes, one behind the other. Assumes nothing.
-use Rattle.std.proofs.Common.{List, ◌++◌, ℕ, ◌/◌, ◌%◌, arith}
+use Rattle.std.proofs.Common.{List, ◌++◌, ℕ, ◌/◌, ◌%◌}
 use Rattle.sheet.specs.Text.{text}
 use Rattle.sheet.specs.Output.{decimal, Put}
 use Rattle.sheet.specs.Puts.{ToPut}
@@ -77,30 +77,30 @@ put_bytes-next-requires c =
     let s = (goal.at.put_bytes-next-requires c).Start in
     run_room (kind s) (after-kind s) (all s)
 
-pub put_number-next-requires : goal.put_number-next-requires
-put_number-next-requires c =
-    let s = (goal.at.put_number-next-requires c).Start in
-    record { le_base = (omega arith, omega arith); room = run_room (code s) (after-code s) (behind-kind s (all s) c.put_bytes-next.ensures) }
+pub put_number-next-requires-clause-room : goal.put_number-next-requires-clause-room
+put_number-next-requires-clause-room c =
+    let s = (goal.at.put_number-next-requires-clause-room c).Start in
+    run_room (code s) (after-code s) (behind-kind s (all s) c.put_bytes-next.ensures)
 
 pub put_bytes-next-requires-2 : goal.put_bytes-next-requires-2
 put_bytes-next-requires-2 c =
     let s = (goal.at.put_bytes-next-requires-2 c).Start in
     run_room (n s) (after-n s) (behind-code s (behind-kind s (all s) c.put_bytes-next.ensures) c.put_number-next.ensures)
 
-pub put_number-next-requires-2 : goal.put_number-next-requires-2
-put_number-next-requires-2 c =
-    let s = (goal.at.put_number-next-requires-2 c).Start in
-    record { le_base = (omega arith, omega arith); room = run_room (node s) (after-node s) (behind-n s (behind-code s (behind-kind s (all s) c.put_bytes-next.ensures) c.put_number-next.ensures) c.put_bytes-next-2.ensures) }
+pub put_number-next-requires-2-clause-room : goal.put_number-next-requires-2-clause-room
+put_number-next-requires-2-clause-room c =
+    let s = (goal.at.put_number-next-requires-2-clause-room c).Start in
+    run_room (node s) (after-node s) (behind-n s (behind-code s (behind-kind s (all s) c.put_bytes-next.ensures) c.put_number-next.ensures) c.put_bytes-next-2.ensures)
 
 pub put_bytes-next-requires-3 : goal.put_bytes-next-requires-3
 put_bytes-next-requires-3 c =
     let s = (goal.at.put_bytes-next-requires-3 c).Start in
     run_room (q s) (after-q s) (behind-node s (behind-n s (behind-code s (behind-kind s (all s) c.put_bytes-next.ensures) c.put_number-next.ensures) c.put_bytes-next-2.ensures) c.put_number-next-2.ensures)
 
-pub put_number-next-requires-3 : goal.put_number-next-requires-3
-put_number-next-requires-3 c =
-    let s = (goal.at.put_number-next-requires-3 c).Start in
-    record { le_base = (omega arith, omega arith); room = run_room (queue s) (end s) (behind-q s (behind-node s (behind-n s (behind-code s (behind-kind s (all s) c.put_bytes-next.ensures) c.put_number-next.ensures) c.put_bytes-next-2.ensures) c.put_number-next-2.ensures) c.put_bytes-next-3.ensures) }
+pub put_number-next-requires-3-clause-room : goal.put_number-next-requires-3-clause-room
+put_number-next-requires-3-clause-room c =
+    let s = (goal.at.put_number-next-requires-3-clause-room c).Start in
+    run_room (queue s) (end s) (behind-q s (behind-node s (behind-n s (behind-code s (behind-kind s (all s) c.put_bytes-next.ensures) c.put_number-next.ensures) c.put_bytes-next-2.ensures) c.put_number-next-2.ensures) c.put_bytes-next-3.ensures)
 
 pub put_bytes-requires : goal.put_bytes-requires
 put_bytes-requires c =

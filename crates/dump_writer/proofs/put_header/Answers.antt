@@ -95,10 +95,10 @@ put_bytes-next-requires-3 c =
     let s = (goal.at.put_bytes-next-requires-3 c).Start in
     run_room (dumpvars s) (after-dumpvars s) (behind-stamp s (behind-middle s (behind-names s (behind-start s (all s) c.put_bytes-next.ensures) c.put_variables-next.ensures) c.put_bytes-next-2.ensures) c.put_stamp-next.ensures)
 
-pub put_values-next-requires : goal.put_values-next-requires
-put_values-next-requires c =
-    let s = (goal.at.put_values-next-requires c).Start in
-    record { counts_in_bounds = c.requires.counts_in_bounds; room = run_room (values s) (end s) (behind-dumpvars s (behind-stamp s (behind-middle s (behind-names s (behind-start s (all s) c.put_bytes-next.ensures) c.put_variables-next.ensures) c.put_bytes-next-2.ensures) c.put_stamp-next.ensures) c.put_bytes-next-3.ensures) }
+pub put_values-next-requires-clause-room : goal.put_values-next-requires-clause-room
+put_values-next-requires-clause-room c =
+    let s = (goal.at.put_values-next-requires-clause-room c).Start in
+    run_room (values s) (end s) (behind-dumpvars s (behind-stamp s (behind-middle s (behind-names s (behind-start s (all s) c.put_bytes-next.ensures) c.put_variables-next.ensures) c.put_bytes-next-2.ensures) c.put_stamp-next.ensures) c.put_bytes-next-3.ensures)
 
 pub put_bytes-requires : goal.put_bytes-requires
 put_bytes-requires c =

@@ -29,10 +29,10 @@ put_stamp-next-requires c =
     let s = (goal.at.put_stamp-next-requires c).Start in
     run_room (stamp s) (values s) (all s)
 
-pub put_values-requires : goal.put_values-requires
-put_values-requires c =
-    let s = (goal.at.put_values-requires c).Start in
-    record { counts_in_bounds = c.requires.counts_in_bounds; room = (behind-stamp s (all s) c.put_stamp-next.ensures).room }
+pub put_values-requires-clause-room : goal.put_values-requires-clause-room
+put_values-requires-clause-room c =
+    let s = (goal.at.put_values-requires-clause-room c).Start in
+    (behind-stamp s (all s) c.put_stamp-next.ensures).room
 
 pub returns : goal.returns
 returns c =

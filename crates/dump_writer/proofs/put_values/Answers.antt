@@ -1,5 +1,6 @@
 -- `dump_writer::put_values` meets its contract: the goals that the check does not find by itself. Assumes nothing.
-use Rattle.dump_writer.proofs.Loops.{told_is, put-values-none, values_length, value_line_room, put-values-told, put-values-untold, put-values-all}
+use Rattle.std.proofs.Common.{arith}
+use Rattle.dump_writer.proofs.Loops.{told_is, put-values-none, value_line_room, put-values-told, put-values-untold, put-values-all}
 use Rattle.dump_writer.proofs.put_values.Goals as goal
 use Rattle.dump_writer.proofs.put_values.Goals.{then-tells, else-tells}
 
@@ -25,12 +26,8 @@ loop-i-preserved c =
           (put-values-untold a.every a.counts.now a.fills.now a.page.now a.at c.requires.room c.loop-i.invariant h (told_is a.every a.counts.now a.fills.now c.loop-i.i c.tells.ensures w.if-tells.false))
     ]
 
-pub shape_of-page : goal.shape_of-page
-shape_of-page c =
-    let a = c.args in
-    values_length a.every a.counts.now a.fills.now a.page.now a.at c.requires.room c.loop-i.invariant
-
 pub returns : goal.returns
 returns c =
     let a = c.args in
-    put-values-all a.every a.counts.now a.fills.now a.page.now a.at c.requires.room c.loop-i.invariant c.loop-i-test.false
+    let t = c.loop-i-test.false in
+    put-values-all a.every a.counts.now a.fills.now a.page.now a.at c.requires.room c.loop-i.invariant (omega arith)

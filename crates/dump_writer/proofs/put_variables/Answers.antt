@@ -1,19 +1,12 @@
 -- `dump_writer::put_variables` meets its contract: the goals that the check does not find by itself. Assumes nothing.
-use Rattle.sheet.proofs.Puts.{put-length}
-use Rattle.dump_writer.proofs.Loops.{variables-none, variable-room, variables-more, variables-all}
+use Rattle.dump_writer.proofs.Loops.{variable-room, variables-more, variables-all}
 use Rattle.dump_writer.proofs.put_variables.Goals as goal
-
-pub loop-i-init : goal.loop-i-init
-loop-i-init c = variables-none c.args.page.now c.args.at c.args.count c.requires
 
 pub put_variable-next-requires : goal.put_variable-next-requires
 put_variable-next-requires c = variable-room c.loop-i.invariant c.loop-i-test.true
 
 pub loop-i-preserved : goal.loop-i-preserved
 loop-i-preserved c = variables-more c.loop-i.invariant c.loop-i-test.true c.put_variable-next.ensures
-
-pub shape_of-page : goal.shape_of-page
-shape_of-page c = put-length (variables-all c.loop-i.invariant c.loop-i-test.false) c.requires
 
 pub returns : goal.returns
 returns c = variables-all c.loop-i.invariant c.loop-i-test.false

@@ -1,10 +1,6 @@
 -- `dump_writer::put_variables` meets its contract. The loop's invariant is `VariablesPut`. Assumes nothing.
-use Rattle.std.proofs.Common.{◌-◌}
 use Rattle.dump_writer.proofs.Loops.{VariablesPut}
 use Rattle.dump_writer.proofs.put_variables.Given as goal
 
 abbrev pub invariant-loop-i : goal.invariant-loop-i
 invariant-loop-i l = VariablesPut l.initial.page l.at l.count l.page l.next l.i
-
-abbrev pub decreases-loop-i : goal.decreases-loop-i
-decreases-loop-i l = l.count - l.i

@@ -1,15 +1,9 @@
 -- `dump_writer::read_fills` meets its contract: the goals that the check does not find by itself. Assumes nothing.
-use Rattle.std.proofs.Common.{sym, ◌∙◌, subst, ◌+◌, arith}
+use Rattle.std.proofs.Common.{◌∙◌, arith}
 use Rattle.network.specs.Sizes.{shape_of}
 use Rattle.dump_writer.specs.Writing.{filled-length}
-use Rattle.dump_writer.proofs.Node.{NodesRead, nodes-none, nodes-start, nodes-within, nodes-more, nodes-all}
+use Rattle.dump_writer.proofs.Node.{nodes-none, nodes-start, nodes-within, nodes-all}
 use Rattle.dump_writer.proofs.read_fills.Goals as goal
-
-pub nodes-nodes-requires : goal.nodes-nodes-requires
-nodes-nodes-requires c = c.requires.0.in-range
-
-pub node_words-node-requires : goal.node_words-node-requires
-node_words-node-requires c = c.requires.0.in-range
 
 pub loop-n-init : goal.loop-n-init
 loop-n-init c = nodes-none (shape_of c.args.s) c.args.words.now c.args.counts.now
@@ -27,18 +21,6 @@ overflow_add-start c =
     let t = c.loop-n-test.true in
     let within = nodes-within c.loop-n.invariant c.requires.0 (omega arith) in
     omega arith
-
-pub loop-n-preserved : goal.loop-n-preserved
-loop-n-preserved c =
-    let e = c.nodes-nodes.ensures in
-    let t = c.loop-n-test.true in
-    subst
-    (λ m. NodesRead (shape_of c.args.s) c.args.words.now c.args.counts.now c.read_node.new.counts (c.loop-n.start + m) (c.loop-n.n + 1))
-    (sym c.node_words-node.ensures)
-    (nodes-more c.loop-n.invariant (omega arith) c.read_node.ensures)
-
-pub shape_of-counts : goal.shape_of-counts
-shape_of-counts c = filled-length c.loop-n.invariant.filled
 
 pub returns : goal.returns
 returns c =

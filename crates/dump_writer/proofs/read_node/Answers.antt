@@ -2,18 +2,8 @@
 use Rattle.std.proofs.Common.{arith}
 use Rattle.network.specs.Sizes.{shape_of}
 use Rattle.network.proofs.SizesLaws.{range-of, capacity-most}
-use Rattle.network.proofs.TorusLaws.{sizes-nodes}
-use Rattle.dump_writer.proofs.Node.{node-none, node-count, node-place, node-more, node-all}
+use Rattle.dump_writer.proofs.Node.{node-count, node-more}
 use Rattle.dump_writer.proofs.read_node.Goals as goal
-
-pub overflow_mul-from : goal.overflow_mul-from
-overflow_mul-from c =
-    let h = c.requires.1 in
-    let m = sizes-nodes c.args.s c.requires.0.in-range in
-    omega arith
-
-pub loop-q-init : goal.loop-q-init
-loop-q-init c = node-none (shape_of c.args.s) c.args.words.now c.args.n c.args.counts.now c.args.start c.requires.2
 
 pub offset_bounds-words-at : goal.offset_bounds-words-at
 offset_bounds-words-at c =
@@ -27,15 +17,6 @@ pub overflow_cast-counts : goal.overflow_cast-counts
 overflow_cast-counts c =
     let k = (node-count c.loop-q.invariant c.requires.0 c.requires.1 c.requires.3 c.loop-q-test.true).small in
     omega arith
-
-pub overflow_add-counts : goal.overflow_add-counts
-overflow_add-counts c =
-    let h = c.requires.1 in
-    let m = sizes-nodes c.args.s c.requires.0.in-range in
-    omega arith
-
-pub bounds-counts-from : goal.bounds-counts-from
-bounds-counts-from c = node-place c.loop-q.invariant c.requires.0 c.requires.1 c.requires.3 c.loop-q-test.true
 
 pub overflow_add-at : goal.overflow_add-at
 overflow_add-at c =
@@ -52,9 +33,3 @@ overflow_add-at-in-loop-q c =
 
 pub loop-q-preserved : goal.loop-q-preserved
 loop-q-preserved c = node-more c.loop-q.invariant c.requires.0 c.requires.1 c.requires.3 c.loop-q-test.true c.capacity.result c.capacity.ensures
-
-pub shape_of-counts : goal.shape_of-counts
-shape_of-counts c = c.loop-q.invariant.same
-
-pub returns : goal.returns
-returns c = node-all c.loop-q.invariant c.requires.0 c.requires.1 c.requires.3 c.loop-q-test.false

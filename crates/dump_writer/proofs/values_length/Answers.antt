@@ -29,4 +29,7 @@ loop-i-preserved c =
     ]
 
 pub returns : goal.returns
-returns c = let a = c.args in values-all a.every a.counts.now a.fills.now c.loop-i.invariant c.loop-i-test.false
+returns c =
+    let a = c.args in
+    let t = c.loop-i-test.false in
+    values-all a.every a.counts.now a.fills.now c.loop-i.invariant (omega arith)

@@ -1,11 +1,6 @@
 -- `dump_writer::values_length` meets its contract. The loop's invariant is `ValuesCounted`. Assumes nothing.
-use Rattle.std.proofs.Common.{◌-◌}
-use lib.ListN.{length as len}
 use Rattle.dump_writer.proofs.Loops.{ValuesCounted}
 use Rattle.dump_writer.proofs.values_length.Given as goal
 
 abbrev pub invariant-loop-i : goal.invariant-loop-i
 invariant-loop-i l = ValuesCounted l.every l.counts l.fills l.length l.i
-
-abbrev pub decreases-loop-i : goal.decreases-loop-i
-decreases-loop-i l = len l.counts - l.i

@@ -1,10 +1,7 @@
 -- `dump_writer::variables_length` meets its contract: the goals that the check does not find by itself. Assumes nothing.
 use Rattle.std.proofs.Common.{arith}
-use Rattle.dump_writer.proofs.Loops.{counted_none, counted-more, counted-few, counted-all}
+use Rattle.dump_writer.proofs.Loops.{counted-more, counted-few, counted-all}
 use Rattle.dump_writer.proofs.variables_length.Goals as goal
-
-pub loop-i-init : goal.loop-i-init
-loop-i-init c = counted_none c.args.count
 
 pub overflow_add-length : goal.overflow_add-length
 overflow_add-length c =

@@ -4,13 +4,7 @@ use Rattle.waveform.specs.StepAnswers.{WriteTells}
 use Rattle.waveform.proofs.StepAnswers.{write-tells}
 use Rattle.dump_writer.proofs.write_changes.Goals as goal
 
-pub returns : goal.returns
-returns c =
-    let w = c.write_step.ensures in
+pub returns-clause-told : goal.returns-clause-told
+returns-clause-told c =
     let a = c.args in
-    record {
-      answer = w.answer;
-      fills = w.fills;
-      page = w.page;
-      told = subst (WriteTells false a.words.now a.fills.now a.page.now) (sym w.answer) (write-tells false a.words.now a.fills.now a.page.now);
-    }
+    subst (WriteTells false a.words.now a.fills.now a.page.now) (sym c.write_step.ensures.answer) (write-tells false a.words.now a.fills.now a.page.now)

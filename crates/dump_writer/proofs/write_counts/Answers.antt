@@ -33,7 +33,7 @@ returns-then-page-length c =
 
 pub returns : goal.returns
 returns c =
-    let copied = c.copy_fills.ensures in
+    let copied = ap (λ l. l ++ drop (length c.args.counts.now) c.args.fills.now) c.copy_from_slice.ensures.after in
     let a = c.args in
     let n = c.step_length-length.ensures in
     let enough = subst (λ k. k ≤ length a.page.now) n c.if-page-length.false in

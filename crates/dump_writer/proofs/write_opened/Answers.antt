@@ -3,13 +3,7 @@ use Rattle.std.proofs.Common.{arith}
 use Rattle.network.proofs.TorusLaws.{sizes-nodes}
 use Rattle.dump_writer.proofs.write_opened.Goals as goal
 
-pub write_network-requires : goal.write_network-requires
-write_network-requires c =
-    let few = c.if-nodes-le-FEW_NODES.true in
-    let e = c.nodes.ensures in
-    (c.requires, omega arith)
-
-pub write_network-requires-2 : goal.write_network-requires-2
-write_network-requires-2 c =
+pub write_sized-requires-2-clause-length : goal.write_sized-requires-2-clause-length
+write_sized-requires-2-clause-length c =
     let most = sizes-nodes c.args.s c.requires.in-range in
-    (c.requires, omega arith)
+    (omega arith, omega arith)

@@ -1,23 +1,19 @@
--- `fields::number_length` meets its contract: the goals that the check does not find by itself. Assumes nothing.
-use Rattle.std.proofs.Common.{arith}
-use Rattle.sheet.proofs.Numerals.{smaller}
-use Rattle.fields.proofs.Digits.{counted_none, counted-more, counted-all}
+-- `fields::number_length` meets its contract: 0 has as many digits as 1, and another number is at least 1. Assumes nothing.
+use Rattle.std.proofs.Common.{◌≡◌, ap, sym, ◌∙◌, ℕ, zero, suc, ◌≤◌, arith, max, length}
+use Rattle.std.proofs.Math.Nat.{max-eq_left}
+use Rattle.sheet.specs.Output.{numeral}
+use Rattle.sheet.proofs.Numerals.{numeral-one}
+use Rattle.fields.proofs.Digits.{between-powers}
 use Rattle.fields.proofs.number_length.Goals as goal
 
-pub loop-rest-init : goal.loop-rest-init
-loop-rest-init c = counted_none c.args.base c.args.n
-
-pub overflow_add-count : goal.overflow_add-count
-overflow_add-count c =
-    let few = c.loop-rest.invariant.few in
-    let two = c.requires in
-    omega (arith, c.well_formed)
-
-pub loop-rest-smaller : goal.loop-rest-smaller
-loop-rest-smaller c = smaller c.args.base c.requires c.loop-rest.rest c.loop-rest-test.true
-
-pub loop-rest-preserved : goal.loop-rest-preserved
-loop-rest-preserved c = counted-more c.args.base c.args.n c.loop-rest.rest c.loop-rest.count c.requires c.loop-rest-test.true c.loop-rest.invariant
+as-long : (base n : ℕ) → 2 ≤ base → length (numeral base (max n 1)) ≡ length (numeral base n)
+as-long base zero two = ap length (numeral-one base two 1 (omega arith)) ∙ sym (ap length (numeral-one base two 0 (omega arith)))
+as-long base (suc n) two = ap (λ m. length (numeral base m)) (max-eq_left {n = suc n} {m = 1} (omega arith))
 
 pub returns : goal.returns
-returns c = counted-all c.args.base c.args.n c.loop-rest.rest c.loop-rest.count c.requires c.loop-rest-test.false c.loop-rest.invariant
+returns c =
+    let a = c.args in
+    let log = c.ilog.ensures in
+    sym (between-powers a.base c.requires c.ilog.result c.max.result log.power_le log.next_power_gt)
+    ∙ ap (λ m. length (numeral a.base m)) c.max.ensures
+    ∙ as-long a.base a.n c.requires

@@ -1,5 +1,5 @@
 -- `writer::put_drained` meets its contract: the packets, which are the first words of the ledger, then the line. Assumes nothing.
-use Rattle.std.proofs.Common.{sym, ℕ, ◌≤◌, ◌^◌, ◌<◌, arith, length, get_or, take, length-take-le}
+use Rattle.std.proofs.Common.{sym, ℕ, ◌≤◌, ◌^◌, ◌<◌, arith, length, get_or, take}
 use Rattle.sheet.specs.Output.{packet_lines, drained_lines, Room}
 use Rattle.sheet.proofs.Puts.{put-behind}
 use Rattle.writer.proofs.DrainRoom.{packets-room, drain-room}
@@ -17,9 +17,6 @@ room : (d : After-drained_delivered-delivered)
     → Room d.args.out.now d.args.at (packet_lines (take d.drained_delivered-delivered.result d.args.ledger.now))
 room d =
     packets-room d.args.out.now d.args.at d.args.ledger.now d.drained_delivered-delivered.result (words d) (within d) d.requires.drain_room_in_bounds
-
-pub slice_bounds-put_packets-end : goal.slice_bounds-put_packets-end
-slice_bounds-put_packets-end c = sym (length-take-le c.drained_delivered-delivered.result c.args.ledger.now (within (goal.at.slice_bounds-put_packets-end c).After-drained_delivered-delivered))
 
 pub put_packets-next-requires : goal.put_packets-next-requires
 put_packets-next-requires c = room (goal.at.put_packets-next-requires c).After-drained_delivered-delivered

@@ -9,7 +9,3 @@ returns-in-Refused c = rw c.in-Refused.is c.put_answer.ensures
 pub returns-in-Passed : goal.returns-in-Passed
 unfolding moved_lines
 returns-in-Passed c = rw c.in-Passed.is c.put_answer-in-Passed.ensures
-
-pub returns-in-Delivered : goal.returns-in-Delivered
-unfolding moved_lines
-returns-in-Delivered c = rw c.in-Delivered.is c.put_delivery.ensures

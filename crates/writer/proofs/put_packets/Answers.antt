@@ -1,7 +1,7 @@
 -- `writer::put_packets` meets its contract: the goals that the check does not find by itself. Assumes nothing.
 use Rattle.std.proofs.Common.{◌≡◌, refl, List, [], ◌∷◌, ◌++◌, ℕ}
 use Rattle.sheet.specs.Output.{packet_line, packet_lines}
-use Rattle.sheet.proofs.Puts.{putting-none, putting-room, putting-more, putting-all, put-length}
+use Rattle.sheet.proofs.Puts.{putting-none, putting-room, putting-more}
 use Rattle.writer.proofs.put_packets.Goals as goal
 
 none : packet_lines [] ≡ []
@@ -12,17 +12,11 @@ behind : (p : ℕ) (ps : List ℕ) → packet_lines (p ∷ ps) ≡ packet_line p
 unfolding packet_lines
 behind p ps = refl
 
-pub loop-i-init : goal.loop-i-init
-loop-i-init c = putting-none packet_line packet_lines none behind c.requires
+pub loop-p-init : goal.loop-p-init
+loop-p-init c = putting-none packet_line packet_lines none behind c.requires
 
 pub put_packet-next-requires : goal.put_packet-next-requires
-put_packet-next-requires c = putting-room packet_line packet_lines none behind c.requires c.loop-i.invariant c.loop-i-test.true
+put_packet-next-requires c = putting-room packet_line packet_lines none behind c.requires c.loop-p.invariant c.loop-p-test.true
 
-pub loop-i-preserved : goal.loop-i-preserved
-loop-i-preserved c = putting-more packet_line packet_lines none behind c.requires c.loop-i.invariant c.loop-i-test.true c.put_packet-next.ensures
-
-pub shape_of-out : goal.shape_of-out
-shape_of-out c = put-length (putting-all packet_line packet_lines none behind c.requires c.loop-i.invariant c.loop-i-test.false) c.requires
-
-pub returns : goal.returns
-returns c = putting-all packet_line packet_lines none behind c.requires c.loop-i.invariant c.loop-i-test.false
+pub loop-p-preserved : goal.loop-p-preserved
+loop-p-preserved c = putting-more packet_line packet_lines none behind c.requires c.loop-p.invariant c.loop-p-test.true c.put_packet-next.ensures
