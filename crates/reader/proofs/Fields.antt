@@ -1,41 +1,50 @@
--- Fields of a line: the loop that looks for the byte where one ends, and the fields behind the first. The laws of one field are those of `sheet`,
--- specs/Fields.antt. Order: the loop; what stands where a field ends; the fields behind it. Assumes nothing.
+-- Fields of a line: the byte where one ends, and the fields behind the first. The laws of one field are those of `sheet`,
+-- specs/Fields.antt. Order: where it stands; what stands where a field ends; the fields behind it. Assumes nothing.
 use mathlib.Core.Path.{◌≡◌, refl, ap, ap₂, sym, ◌∙◌}
 use mathlib.Core.Logic.{◌≢◌}
+use mathlib.Core.Bool.{Bool, true, false, not, cond}
 use mathlib.Core.List.{List, [], ◌∷◌}
+use Rattle.std.specs.Prelude.{Option, Some, None, is_some, ltb, eqb}
+use Rattle.std.specs.List.{position_or_len}
+use Rattle.std.proofs.Common.{ltb-false}
+use Rattle.std.proofs.lemmas.Option.{cond_some}
 use Prim.Native.Nat.{ℕ, suc, ◌+◌, ◌<◌, ◌≤◌}
 use native.Mathlib.Decide.{ℕ_discrete}
 use native.Mathlib.Numerals.{add-one}
 use native.Mathlib.Omega.{arith}
 use lib.ListN.{length, get_or, drop}
-use lib.Seq.{drop-cons, drop-length, drop-drop}
+use lib.Seq.{drop-cons, drop-drop}
 use borrow.Author.Tests.{eq-eqb, ne_eqb}
 use Rattle.sheet.specs.Text.{comma}
 use Rattle.sheet.specs.Commands.{up_to, first_field, later_fields}
 use Rattle.sheet.specs.Fields.{end_from, field_at}
-use Rattle.sheet.proofs.Fields.{up_to-stop, up_to-other, field-up_to, end-within, end-stops}
-use Rattle.reader.specs.Reading.{Separator}
+use Rattle.sheet.proofs.Fields.{up_to-length, up_to-stop, up_to-other, field-up_to, end-within, end-stops}
+use Rattle.reader.specs.Reading.{number-there, Separator}
 
--- the end of the field that starts at a place is the end seen from a later place in it
-module _ (stop : ℕ) (line : List ℕ) (at : ℕ) where
-  pub end-stop : at < length line → get_or line at 0 ≡ stop → at ≡ end_from stop line at
-  end-stop h e =
-      let l : length (up_to stop (drop at line)) ≡ 0
-      = ap (λ s. length (up_to stop s)) (drop-cons line at 0 h) ∙ ap length (up_to-stop stop (get_or line at 0) (drop (suc at) line) e) in
-      omega arith
+-- the field that bytes begin with ends where the byte that ends it stands first, or with them
+stops-at : (stop : ℕ) (bs : List ℕ) → position_or_len (λ b. eqb b stop) bs ≡ length (up_to stop bs)
+unfolding up_to
+stops-at stop [] = refl
+stops-at stop (b ∷ bs) = go (eqb b stop) (stops-at stop bs)
+  where
+    go : (t : Bool) → position_or_len (λ b. eqb b stop) bs ≡ length (up_to stop bs)
+        → cond (not t) (1 + position_or_len (λ b. eqb b stop) bs) 0 ≡ length (cond t [] (b ∷ up_to stop bs))
+    go true e = refl
+    go false e = omega arith
 
-  pub end-other : at < length line → get_or line at 0 ≢ stop → end_from stop line at ≡ end_from stop line (at + 1)
-  end-other h f =
-      let l : length (up_to stop (drop at line)) ≡ suc (length (up_to stop (drop (suc at) line)))
-      = ap (λ s. length (up_to stop s)) (drop-cons line at 0 h) ∙ ap length (up_to-other stop (get_or line at 0) (drop (suc at) line) f) in
-      let m : length (up_to stop (drop (at + 1) line)) ≡ length (up_to stop (drop (suc at) line)) = ap (λ n. length (up_to stop (drop n line))) (add-one at) in
-      omega arith
+abbrev pub Found : ℕ → List ℕ → Option ℕ → Type 0
+Found stop bs r = r ≡ cond (ltb (position_or_len (λ b. eqb b stop) bs) (length bs)) (Some (position_or_len (λ b. eqb b stop) bs)) None
 
-  pub end_line : at ≡ length line → at ≡ end_from stop line at
-  unfolding up_to
-  end_line e =
-      let l : length (up_to stop (drop at line)) ≡ 0
-      = ap (λ n. length (up_to stop (drop n line))) e ∙ ap (λ s. length (up_to stop s)) (drop-length line) in
+module _ (stop : ℕ) (bs : List ℕ) {r : Option ℕ} (f : Found stop bs r) where
+  pub found-at : (n : ℕ) → r ≡ Some n → n ≡ length (up_to stop bs)
+  found-at n e = sym (cond_some _ _ n (sym f ∙ e)).1 ∙ stops-at stop bs
+
+  pub found-none : r ≡ None → length bs ≡ length (up_to stop bs)
+  found-none e =
+      let none : ltb (position_or_len (λ b. eqb b stop) bs) (length bs) ≡ false = sym (number-there _ _) ∙ ap is_some (sym f ∙ e) in
+      let h = ltb-false _ _ none in
+      let l = up_to-length stop bs in
+      let s = stops-at stop bs in
       omega arith
 
 -- a comma or the end of the line stands behind a field, and the later fields begin there

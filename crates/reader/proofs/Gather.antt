@@ -8,11 +8,11 @@ use native.Mathlib.Omega.{arith}
 use lib.ListN.{length, set, take, drop, length-append, length-map, drop_of_length-le}
 use lib.Seq.{set_out}
 use Rattle.base.specs.Tests.{all_of}
-use Rattle.reader.specs.declared.Number.{Number}
+use Rattle.std.specs.Prelude.{Option, Some, None}
 use Rattle.sheet.specs.Text.{comma}
 use Rattle.sheet.specs.Commands.{later_fields, ten, largest_number, is_number, value}
 use Rattle.sheet.specs.Fields.{end_from, field_at}
-use Rattle.reader.specs.Reading.{number_of, is-number, number_is, not-number, Separator, first_numbers, NumbersOf}
+use Rattle.reader.specs.Reading.{number_of, is-number, number_is, not-number, Separator, first_numbers, numbers_of}
 use Rattle.reader.proofs.Fields.{end-separator, next_field}
 
 -- what is appended to numbers, and their values
@@ -59,7 +59,7 @@ module _ {line : List ℕ} {start : ℕ} {values : List ℕ} {count at : ℕ} (g
   fields-next : later_fields (drop start line) ≡ g.done ++ field_at comma line (at + 1) ∷ later_fields (drop (end_from comma line (at + 1)) line)
   fields-next = g.fields ∙ ap (λ fs. g.done ++ fs) (next_field line at g.separator h)
 
-  one_more : (n : ℕ) → Number.Value n ≡ number_of ten largest_number (field_at comma line (at + 1))
+  one_more : (n : ℕ) → Some n ≡ number_of ten largest_number (field_at comma line (at + 1))
       → Gathered line start (set values count n) (count + 1) (end_from comma line (at + 1))
   unfolding all_of
   one_more n e =
@@ -79,7 +79,7 @@ module _ {line : List ℕ} {start : ℕ} {values : List ℕ} {count at : ℕ} (g
             ∙ ap first_numbers (sym (map_snoc (value ten) g.done f));
       }
 
-  not-all : Number.Nothing ≡ number_of ten largest_number (field_at comma line (at + 1))
+  not-all : None ≡ number_of ten largest_number (field_at comma line (at + 1))
       → false ≡ all_of (is_number ten largest_number) (later_fields (drop start line))
   unfolding all_of
   not-all e =
@@ -90,32 +90,29 @@ module _ {line : List ℕ} {start : ℕ} {values : List ℕ} {count at : ℕ} (g
       ∙ all_append (is_number ten largest_number) g.done (f ∷ fs) g.valid
       ∙ ap (λ b. b && all_of (is_number ten largest_number) fs) (not-number ten largest_number f e))
 
-  module _ (end : ℕ) (q : end ≡ end_from comma line (at + 1)) (read : Number)
+  module _ (end : ℕ) (q : end ≡ end_from comma line (at + 1)) (read : Option ℕ)
       (r : read ≡ number_of ten largest_number (take (end - (at + 1)) (drop (at + 1) line))) where
     read_at : read ≡ number_of ten largest_number (field_at comma line (at + 1))
     read_at = r ∙ ap (λ k. number_of ten largest_number (take (k - (at + 1)) (drop (at + 1) line))) q
 
-    pub more : (n : ℕ) → read ≡ Number.Value n → Gathered line start (set values count n) (count + 1) end
+    pub more : (n : ℕ) → read ≡ Some n → Gathered line start (set values count n) (count + 1) end
     more n e = rw q (one_more n (sym e ∙ read_at))
 
     -- the number is left out where there are as many already
-    pub left_out : (n : ℕ) → 6 ≤ count → read ≡ Number.Value n → Gathered line start values (count + 1) end
+    pub left_out : (n : ℕ) → 6 ≤ count → read ≡ Some n → Gathered line start values (count + 1) end
     unfolding first_numbers
     left_out n many e =
         let l : length values ≡ 6 = ap length g.stored in
         rw (set_out values count n (omega arith)) at (more n e)
 
-    pub broken : read ≡ Number.Nothing → NumbersOf (later_fields (drop start line)) (record { valid = false; count = 0; values = 0 ∷ 0 ∷ 0 ∷ 0 ∷ 0 ∷ 0 ∷ [] })
-    broken e = record { valid = not-all (sym e ∙ read_at); count = λ v. absurd (false≢true v); values = λ v. absurd (false≢true v) }
+    pub broken : read ≡ None → None ≡ numbers_of (later_fields (drop start line))
+    unfolding numbers_of
+    broken e = rw (sym (not-all (sym e ∙ read_at))) refl
 
 pub all : {line : List ℕ} {start : ℕ} {values : List ℕ} {count at : ℕ} → Gathered line start values count at → length line ≤ at
-    → NumbersOf (later_fields (drop start line)) (record { valid = true; count = count; values = values })
-unfolding later_fields
+    → Some (record { count = count; values = values }) ≡ numbers_of (later_fields (drop start line))
+unfolding later_fields numbers_of
 all {line} {start} {values} {count} {at} g h =
     let d : drop at line ≡ [] = drop_of_length-le line h in
     let e : later_fields (drop start line) ≡ g.done = g.fields ∙ ap (λ s. g.done ++ later_fields s) d ∙ append-nil g.done in
-    record {
-      valid = sym (ap (all_of (is_number ten largest_number)) e ∙ g.valid);
-      count = λ v. g.counted ∙ ap length (sym e);
-      values = λ v. g.stored ∙ ap (λ fs. first_numbers (map (value ten) fs)) (sym e);
-    }
+    rw (e, g.valid, g.counted, g.stored) refl

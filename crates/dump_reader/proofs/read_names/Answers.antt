@@ -8,7 +8,7 @@ use Rattle.dump_reader.proofs.read_names.Goals as goal
 use Rattle.dump_reader.proofs.read_names.Goals.{Else-not-starts_with}
 
 pub returns-then-not-starts_with : goal.returns-then-not-starts_with
-returns-then-not-starts_with c = c.no_names.ensures ∙ names-first c.args.bytes.now (sym c.starts_with.ensures ∙ c.if-not-starts_with.true)
+returns-then-not-starts_with c = names-first c.args.bytes.now (sym c.starts_with.ensures ∙ c.if-not-starts_with.true)
 
 -- the bytes before the variables stand there
 begun : (c : Else-not-starts_with) → starts_with variables_begin c.args.bytes.now ≡ true
@@ -18,19 +18,13 @@ pub count_variables-counted-requires : goal.count_variables-counted-requires
 count_variables-counted-requires c = starts-long variables_begin c.args.bytes.now (begun (goal.at.count_variables-counted-requires c).Else-not-starts_with)
 
 pub returns-then-counted-eq0 : goal.returns-then-counted-eq0
-returns-then-counted-eq0 c =
-    c.no_names-then-counted-eq0.ensures
-    ∙ names-none c.args.bytes.now c.count_variables-counted.ensures c.if-counted-eq0.true
+returns-then-counted-eq0 c = names-none c.args.bytes.now c.count_variables-counted.ensures c.if-counted-eq0.true
 
 pub returns-then-counted-ne0 : goal.returns-then-counted-ne0
-returns-then-counted-ne0 c =
-    c.no_names-then-counted-ne0.ensures
-    ∙ names-part c.args.bytes.now c.count_variables-counted.ensures c.if-counted-ne0.true
+returns-then-counted-ne0 c = names-part c.args.bytes.now c.count_variables-counted.ensures c.if-counted-ne0.true
 
 pub returns-then-not-starts_with-2 : goal.returns-then-not-starts_with-2
-returns-then-not-starts_with-2 c =
-    c.no_names-then-not-starts_with-2.ensures
-    ∙ names-last c.args.bytes.now c.count_variables-counted.ensures
+returns-then-not-starts_with-2 c = names-last c.args.bytes.now c.count_variables-counted.ensures
     (sym c.starts_with-2.ensures ∙ c.if-not-starts_with-2.true)
 
 pub returns : goal.returns

@@ -15,22 +15,23 @@ pub slice_bounds-read_number-end : goal.slice_bounds-read_number-end
 slice_bounds-read_number-end c = omega (arith, end-within comma c.args.line.now (c.loop-at.at + 1) (omega arith))
 
 pub overflow_cast-values : goal.overflow_cast-values
-overflow_cast-values c = omega (arith, number_fits ten largest_number _ _ (sym c.in-Value.is ∙ c.read_number.ensures))
+overflow_cast-values c = omega (arith, number_fits ten largest_number _ _ (sym c.in_ok-n.was ∙ c.read_number.ensures))
 
-pub returns-in-Nothing : goal.returns-in-Nothing
-returns-in-Nothing c =
-    broken c.loop-at.invariant c.loop-at-test.true c.field_end-end.result c.field_end-end.ensures
-    c.read_number.result c.read_number.ensures c.in-Nothing.is
+pub returns-in_err-n : goal.returns-in_err-n
+returns-in_err-n c =
+    c.from_residual.ensures
+    ∙ broken c.loop-at.invariant c.loop-at-test.true c.field_end-end.result c.field_end-end.ensures
+    c.read_number.result c.read_number.ensures c.in_err-n.was
 
 pub loop-at-preserved : goal.loop-at-preserved
 loop-at-preserved c =
     elim c.if-count-lt-MOST_NUMBERS.branch [
       | then-count-lt-MOST_NUMBERS w ↦
           rw w.values-is
-          (more c.loop-at.invariant c.loop-at-test.true c.field_end-end.result c.field_end-end.ensures c.read_number.result c.read_number.ensures _ c.in-Value.is)
+          (more c.loop-at.invariant c.loop-at-test.true c.field_end-end.result c.field_end-end.ensures c.read_number.result c.read_number.ensures _ c.in_ok-n.was)
       | else-count-lt-MOST_NUMBERS w ↦
           rw w.values-is
-          (left_out c.loop-at.invariant c.loop-at-test.true c.field_end-end.result c.field_end-end.ensures c.read_number.result c.read_number.ensures _ w.if-count-lt-MOST_NUMBERS.false c.in-Value.is)
+          (left_out c.loop-at.invariant c.loop-at-test.true c.field_end-end.result c.field_end-end.ensures c.read_number.result c.read_number.ensures _ w.if-count-lt-MOST_NUMBERS.false c.in_ok-n.was)
     ]
 
 pub returns : goal.returns
