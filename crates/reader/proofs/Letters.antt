@@ -6,7 +6,7 @@ use mathlib.Core.List.{List, map}
 use Prim.Native.Nat.{ℕ, ◌+◌, ◌<◌, ◌≤◌}
 use native.Mathlib.Omega.{arith}
 use lib.Dec.{leb, eqb}
-use lib.ListN.{length, get_or, take, drop, length-map}
+use lib.ListN.{length, get_or, take, length-map}
 use lib.Seq.{get_or-take}
 use borrow.Author.Tests.{le-leb, lt-leb, eq-eqb, ne_eqb}
 use Rattle.base.specs.Tests.{all_of}
@@ -16,10 +16,9 @@ use Rattle.sheet.specs.Lines.{line_limit}
 use Rattle.sheet.specs.Commands.{first_field, later_fields, ten, largest_number, value, is_number, command_with, well_formed, command_of}
 use Rattle.sheet.specs.Text.{comma}
 use Rattle.sheet.proofs.Fields.{up_to-length, up_to-take}
-use Rattle.reader.specs.Reading.{number-there, Separator, first_numbers, numbers_of}
+use Rattle.reader.specs.Reading.{number-there, first_numbers, numbers_of}
 use Rattle.std.specs.Prelude.{Option, Some, None, is_some}
 use Rattle.std.proofs.lemmas.Option.{cond_some}
-use Rattle.reader.proofs.Fields.{later-behind, end-separator}
 
 pub too_long : (line : List ℕ) → line_limit < length line → Command.Bad ≡ command_of line
 unfolding command_of well_formed
@@ -29,9 +28,6 @@ module _ (line : List ℕ) {end : ℕ} (q : end ≡ 0 + length (first_field line
   first-length-is : length (first_field line) ≡ end
   first-length-is = omega arith
 
-  pub first-separator : Separator line end
-  first-separator = rw q (end-separator line 0 (omega arith))
-
   pub not-empty : end ≡ 1 → 0 < length line
   not-empty one = let h = up_to-length comma line in omega arith
 
@@ -40,19 +36,11 @@ module _ (line : List ℕ) {end : ℕ} (q : end ≡ 0 + length (first_field line
   no-first-letter f =
       rw (ne_eqb (length (first_field line)) 1 (λ one. f (sym first-length-is ∙ one)), and-false (leb (length line) line_limit)) refl
 
-  -- the fields behind the first are those behind its end
-  behind : later_fields (drop end line) ≡ later_fields line
-  behind = ap (λ k. later_fields (drop k line)) (sym first-length-is) ∙ sym (later-behind line)
-
-  -- the numbers are those of the fields behind the first
-  module _ {r : Option Numbers} (read : r ≡ numbers_of (later_fields (drop end line))) where
-    numbers-are : r ≡ numbers_of (later_fields line)
-    numbers-are = read ∙ ap numbers_of behind
-
+  module _ {r : Option Numbers} (read : r ≡ numbers_of (later_fields line)) where
     pub no-numbers : r ≡ None → Command.Bad ≡ command_of line
     unfolding numbers_of command_of well_formed
     no-numbers e =
-        let v : false ≡ all_of (is_number ten largest_number) (later_fields line) = ap is_some (sym e ∙ numbers-are) ∙ number-there _ _ in
+        let v : false ≡ all_of (is_number ten largest_number) (later_fields line) = ap is_some (sym e ∙ read) ∙ number-there _ _ in
         rw (sym v, and-false (eqb (length (first_field line)) 1), and-false (leb (length line) line_limit)) refl
 
     pub letter-and-numbers : (n : Numbers) (answer : Command)
@@ -62,7 +50,7 @@ module _ (line : List ℕ) {end : ℕ} (q : end ≡ 0 + length (first_field line
     letter-and-numbers n answer is h one e =
         let first : get_or (first_field line) 0 0 ≡ get_or line 0 0
         = ap (λ s. get_or s 0 0) (sym (up_to-take comma line) ∙ ap (λ k. take k line) (first-length-is ∙ one)) ∙ get_or-take 1 line 0 0 (omega arith) in
-        let (valid, numbers) = cond_some _ _ n (sym numbers-are ∙ e) in
+        let (valid, numbers) = cond_some _ _ n (sym read ∙ e) in
         let ns : List ℕ = map (value ten) (later_fields line) in
         is ns (sym (ap (λ (m : Numbers). m.count) numbers) ∙ sym (length-map (later_fields line) (value ten))) (sym (ap (λ (m : Numbers). m.values) numbers))
         ∙ rw (le-leb (length line) line_limit h, eq-eqb (length (first_field line)) 1 (first-length-is ∙ one), valid, first) refl

@@ -1,7 +1,7 @@
 -- What the functions of the reader answer, in terms of the definitions of `sheet`, specs/Commands.antt. Nothing here has to be believed: the contract of
 -- `read_command` does not name it. Order: a field; what its answer shows of it; the fields behind the first. Assumes nothing.
 use Rattle.std.proofs.Math.Path.{◌≡◌, refl, ap, sym, ◌∙◌}
-use Rattle.std.specs.Prelude.{Bool, ◌&&◌, cond, is_some, List, [], ◌∷◌, map, ℕ, ◌<◌, ◌≤◌, leb, length, get_or, Option, Some, None}
+use Rattle.std.specs.Prelude.{Bool, ◌&&◌, cond, is_some, List, [], ◌∷◌, map, ℕ, ◌≤◌, leb, length, get_or, Option, Some, None}
 use Rattle.std.proofs.Math.Bool.{true, false}
 use Rattle.std.proofs.Common.{leb-true}
 use Rattle.std.proofs.Math.Dec.{T}
@@ -9,7 +9,6 @@ use Rattle.std.proofs.lemmas.Option.{cond_some}
 use Rattle.base.specs.Tests.{all_of}
 use Rattle.base.proofs.Tests.{and_r, T_true, true-T}
 use Rattle.reader.specs.declared.Numbers.{Numbers}
-use Rattle.sheet.specs.Text.{comma}
 use Rattle.sheet.specs.Commands.{is_digit, value_from, value, ten, largest_number, no_leading_zero, is_number}
 
 unfoldable pub number_of : ℕ → ℕ → List ℕ → Option ℕ
@@ -46,11 +45,6 @@ module _ (base most : ℕ) (field : List ℕ) where
   pub not-number : None ≡ number_of base most field → is_number base most field ≡ false
   unfolding number_of
   not-number e = sym (number-there (is_number base most field) (value base field)) ∙ ap is_some (sym e)
-
--- a place where a field has ended: a comma, or the end of the line
-pub record Separator (line : List ℕ) (at : ℕ) : Type 0 where
-  pub within : at ≤ length line
-  pub comma : at < length line → get_or line at 0 ≡ comma
 
 -- the first of some numbers, as many as a command can take, 0 for those that are missing
 unfoldable pub first_numbers : List ℕ → List ℕ

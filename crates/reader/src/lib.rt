@@ -2,7 +2,7 @@
 #![tactic(auto)]
 
 ghost use Rattle.std.specs.Prelude.{◌≡◌, List, ℕ, ◌+◌, ◌≤◌, length, drop};
-ghost use Rattle.reader.specs.Reading.{number_of, digits_from, Separator, first_numbers, numbers_of};
+ghost use Rattle.reader.specs.Reading.{number_of, digits_from, first_numbers, numbers_of};
 ghost use Rattle.sheet.specs.Commands.{up_to, later_fields, command_with, command_of};
 
 use lines::LINE_LIMIT;
@@ -74,23 +74,18 @@ pub struct Numbers {
     pub values: [u32; MOST_NUMBERS],
 }
 
-// The numbers of the fields behind the comma at `start`, of no field where the line ends there. It stops at a field that is no number.
-fn read_numbers(line: &[u8], start: usize) -> Option<Numbers>
-    requires { Separator line.now start }
-    ensures { result ≡ numbers_of (later_fields (drop start line.now)) }
+// The numbers of the fields behind the first. It stops at a field that is no number.
+fn read_numbers(line: &[u8]) -> Option<Numbers>
+    ensures { result ≡ numbers_of (later_fields line.now) }
 {
     let mut values = [0u32; MOST_NUMBERS];
     let mut count: usize = 0;
-    let mut at = start;
-    while at < line.len() {
-        let from = at + 1;
-        let end = field_end(line, from, b',');
-        let n = read_number(&line[from..end], TEN, LARGEST_NUMBER)?;
+    for field in line.split(|&b| b == b',').skip(1) {
+        let n = read_number(field, TEN, LARGEST_NUMBER)?;
         if count < MOST_NUMBERS {
             values[count] = n as u32;
         }
         count += 1;
-        at = end;
     }
     Some(Numbers { count, values })
 }
@@ -137,7 +132,7 @@ pub fn read_command(line: &[u8]) -> Command
     if end != 1 {
         return Command::Bad;
     }
-    let Some(numbers) = read_numbers(line, end) else {
+    let Some(numbers) = read_numbers(line) else {
         return Command::Bad;
     };
     command_with(line[0], numbers)

@@ -1,5 +1,5 @@
 -- `reader::read_command` meets its contract: each way out is a law of proofs/Letters.antt. Assumes nothing.
-use Rattle.reader.proofs.Letters.{too_long, first-separator, not-empty, no-first-letter, no-numbers, letter-and-numbers}
+use Rattle.reader.proofs.Letters.{too_long, not-empty, no-first-letter, no-numbers, letter-and-numbers}
 use Rattle.reader.proofs.read_command.Goals as goal
 
 pub returns-then-line-gt-LINE_LIMIT : goal.returns-then-line-gt-LINE_LIMIT
@@ -7,9 +7,6 @@ returns-then-line-gt-LINE_LIMIT c = too_long c.args.line.now c.if-line-gt-LINE_L
 
 pub returns-then-end-ne1 : goal.returns-then-end-ne1
 returns-then-end-ne1 c = no-first-letter c.args.line.now c.field_end-end.ensures c.if-end-ne1.true
-
-pub read_numbers-requires : goal.read_numbers-requires
-read_numbers-requires c = first-separator c.args.line.now c.field_end-end.ensures
 
 pub bounds-line-0 : goal.bounds-line-0
 bounds-line-0 c = not-empty c.args.line.now c.field_end-end.ensures c.if-end-ne1.false
