@@ -1,13 +1,12 @@
--- The names of a header: the line of a variable, the lines one after another, and the header up to its time stamp by the tests of the code. Order: a line put
--- at the start of a buffer; the loop of `count_variables`; the names, test by test; how long they are. Assumes nothing.
+-- The names of a header: the line of a variable, and the lines one after another. Order: a line put at the start of a buffer; the loop of
+-- `count_variables`; how long the names are. Assumes nothing.
 use mathlib.Core.Path.{◌≡◌, refl, ap, ap₂, sym, subst, ◌∙◌}
 use Rattle.std.specs.Prelude.{Option, Some, None, is_some}
 use Rattle.std.specs.Bool.{then_some}
 use Rattle.std.proofs.lemmas.Option.{cond_some}
 use Rattle.reader.specs.Reading.{number-there}
 use Rattle.waveform.specs.declared.Names.{Names}
-use mathlib.Core.Logic.{◌≢◌}
-use mathlib.Core.Bool.{Bool, true, false, not, cond, ◌&&◌, and-false}
+use mathlib.Core.Bool.{Bool, true, false, not, cond, ◌&&◌}
 use mathlib.Core.List.{List}
 use Prim.Native.Nat.{ℕ, zero, suc, ◌+◌, ◌-◌, ◌%◌, ◌<◌, ◌≤◌}
 use native.Mathlib.Nat.{zero-add}
@@ -16,7 +15,6 @@ use native.Mathlib.Omega.{arith}
 use lib.Dec.{eqb}
 use lib.ListN.{length, take, drop, length-append, length-drop}
 use lib.Seq.{take_at, length-take-le, drop-drop}
-use borrow.Author.Tests.{eq-eqb, ne_eqb}
 use Rattle.base.proofs.Tests.{and_r, T_true, true-T}
 use Rattle.network.specs.Sizes.{queues}
 use Rattle.sheet.specs.Output.{written, Room, Put}
@@ -25,7 +23,6 @@ use Rattle.waveform.specs.Dump.{most_variables, variables_begin, variables_end, 
 use Rattle.waveform.proofs.DumpLaws.{variable_lines-more}
 use Rattle.waveform.specs.Reading.{starts_with, variables_from, variables_in, behind_variables, are_names, read_names}
 use Rattle.waveform.proofs.StartLaws.{starts-long}
-use Rattle.dump_reader.specs.declared.Counted.{Counted}
 use Rattle.dump_reader.specs.Parsing.{CountedOf}
 
 -- bytes that were put at the start of a buffer are its front
@@ -118,47 +115,7 @@ module _ {bs : List ℕ} {start count at : ℕ} (p : Counting bs start count at)
               (drop-drop (length (variable_line count)) at bs ∙ ap (λ n. drop (at + n) bs) q);
         }
 
--- the names, test by test
-module _ (bs : List ℕ) where
-  names-missing : are_names bs ≡ false → None ≡ read_names bs
-  unfolding read_names
-  names-missing e = rw e refl
-
-  pub names-first : starts_with variables_begin bs ≡ false → None ≡ read_names bs
-  unfolding are_names
-  names-first e = names-missing (rw e refl)
-
-  module _ {counted : Counted} (k : CountedOf bs (length variables_begin) counted) where
-    names-by : are_names bs
-        ≡ (starts_with variables_begin bs && (not (eqb counted.count 0) && (eqb (counted.count % queues) 0 && starts_with variables_end (drop counted.end bs))))
-    unfolding are_names
-    names-by =
-        let e : behind_variables bs ≡ counted.end = ap (λ n. length variables_begin + length (variable_lines 0 n)) (sym k.count) ∙ sym k.end in
-        ap₂ (λ n m. starts_with variables_begin bs && (not (eqb n 0) && (eqb (n % queues) 0 && starts_with variables_end (drop m bs)))) (sym k.count) e
-
-    pub names-none : counted.count ≡ 0 → None ≡ read_names bs
-    names-none e = names-missing (names-by ∙ rw (eq-eqb counted.count 0 e) (and-false (starts_with variables_begin bs)))
-
-    pub names-part : counted.count % queues ≢ 0 → None ≡ read_names bs
-    names-part f =
-        names-missing
-        (names-by
-        ∙ rw (ne_eqb (counted.count % queues) 0 f, and-false (not (eqb counted.count 0))) (and-false (starts_with variables_begin bs)))
-
-    pub names-last : starts_with variables_end (drop counted.end bs) ≡ false → None ≡ read_names bs
-    names-last e =
-        names-missing
-        (names-by
-        ∙ rw (e, and-false (eqb (counted.count % queues) 0), and-false (not (eqb counted.count 0))) (and-false (starts_with variables_begin bs)))
-
-    pub names-found : starts_with variables_begin bs ≡ true → counted.count ≢ 0 → counted.count % queues ≡ 0 → starts_with variables_end (drop counted.end bs) ≡ true
-        → Some (record { count = counted.count; length = counted.end + length variables_end }) ≡ read_names bs
-    unfolding read_names
-    names-found s some whole e =
-        let t : are_names bs ≡ true = names-by ∙ rw (s, ne_eqb counted.count 0 some, eq-eqb (counted.count % queues) 0 whole, e) refl in
-        let n : counted.end ≡ behind_variables bs = k.end ∙ ap (λ n. length variables_begin + length (variable_lines 0 n)) k.count in
-        rw (t, k.count, n) refl
-
+-- how long the names are
 pub names-within : (bs : List ℕ) (n : Names) → read_names bs ≡ Some n → n.length ≤ length bs
 unfolding read_names are_names
 names-within bs n e =

@@ -1,16 +1,16 @@
--- A field, a time stamp and a value by the tests of the code, and what their lengths are. Order: bytes from a place on; the first byte; a field; a time
--- stamp; a value; how long they are. Assumes nothing.
+-- A field, a time stamp and a value by the tests of the code, and what their lengths are. Order: bytes from a place on; a field; a time stamp; a
+-- value; how long they are. Assumes nothing.
 use mathlib.Core.Path.{◌≡◌, refl, ap, ap₂, sym, ◌∙◌}
 use mathlib.Core.Logic.{◌≢◌}
 use mathlib.Core.Bool.{Bool, true, false, ◌&&◌, and_assoc, and-false}
-use mathlib.Core.List.{List, [], ◌∷◌}
+use mathlib.Core.List.{List}
 use Prim.Native.Nat.{ℕ, suc, ◌+◌, ◌-◌, ◌<◌, ◌≤◌}
 use Prim.Native.Char.{code}
 use native.Mathlib.Omega.{arith}
 use lib.Dec.{T, leb, eqb}
 use lib.ListN.{length, get_or, take, drop, length-drop}
 use lib.Seq.{take_all, drop-drop}
-use borrow.Author.Tests.{lt-ltb, le-ltb, ne_eqb, eqb-true, ltb-true, leb-true}
+use borrow.Author.Tests.{lt-ltb, le-ltb, ltb-true, leb-true}
 use Rattle.base.specs.Tests.{all_of}
 use Rattle.base.proofs.Tests.{and_l, and_r, T_true, true-T}
 use Rattle.std.specs.Prelude.{Option, Some, None, cond, option_map, option_and_then}
@@ -34,15 +34,6 @@ onward bs at = take (length bs - at) (drop at bs)
 
 pub onward-drop : (bs : List ℕ) (at : ℕ) → onward bs at ≡ drop at bs
 onward-drop bs at = take_all (length bs - at) (drop at bs) (omega (arith, length-drop at bs))
-
--- the first byte of no bytes counts as 0, so bytes that begin with another have one
-pub begins-empty : (bs : List ℕ) (byte : ℕ) → 0 < byte → length bs ≡ 0 → false ≡ eqb (get_or bs 0 0) byte
-begins-empty [] byte h e = sym (ne_eqb 0 byte (λ z. omega arith))
-begins-empty (b ∷ bs) byte h e = absurd (omega arith)
-
-pub begins-some : (bs : List ℕ) (byte : ℕ) → 0 < byte → true ≡ eqb (get_or bs 0 0) byte → 1 ≤ length bs
-begins-some [] byte h e = absurd (omega (arith, eqb-true 0 byte (sym e)))
-begins-some (b ∷ bs) byte h e = omega arith
 
 -- a field, by where it ends and what was read in it
 module _ (stop base most : ℕ) (bs : List ℕ) (from : ℕ) (w : from ≤ length bs) where
@@ -90,9 +81,9 @@ module _ (stop base most : ℕ) (bs : List ℕ) (from : ℕ) (w : from ≤ lengt
 abbrev stamp_of : Field → TimeStamp
 stamp_of f = record { time = f.value; length = f.next }
 
-pub stamp-by : (bs : List ℕ) → read_stamp bs ≡ cond (eqb (get_or bs 0 0) (code "#")) (option_map stamp_of (field_from lf ten largest_time bs 1)) None
+pub stamp_by : (bs : List ℕ) → read_stamp bs ≡ cond (eqb (get_or bs 0 0) (code "#")) (option_map stamp_of (field_from lf ten largest_time bs 1)) None
 unfolding read_stamp is_stamp field_from
-stamp-by bs = go (eqb (get_or bs 0 0) (code "#")) (is_field lf ten largest_time (drop 1 bs))
+stamp_by bs = go (eqb (get_or bs 0 0) (code "#")) (is_field lf ten largest_time (drop 1 bs))
   where
     stamp : ℕ → TimeStamp
     stamp n = record { time = value ten (up_to lf (drop 1 bs)); length = n }
@@ -145,13 +136,13 @@ module _ (least : ℕ) (bs : List ℕ) where
       (λ k. cond (is_field lf ten (most_variables - 1) (behind blank (drop 1 bs))) (Some (record { value = value ten (variable_field bs); next = k })) None)
       n
 
-  pub value-by : next_value least bs
+  pub value_by : next_value least bs
       ≡ cond (eqb (get_or bs 0 0) (code "b"))
       (option_and_then (λ f. option_and_then (λ v. not_before least (line_by f v)) (field_from lf ten (most_variables - 1) bs f.next))
       (field_from blank two largest_fill bs 1))
       None
   unfolding next_value read_value field_from fill_is variable_is
-  value-by =
+  value_by =
       ap (λ t. option_and_then (not_before least) (cond t (Some (line_by fill_is variable_is)) None)) is-value
       ∙ go (eqb (get_or bs 0 0) (code "b")) (is_field blank two largest_fill (drop 1 bs)) (is_field lf ten (most_variables - 1) (behind blank (drop 1 bs)))
       (λ f. field_from lf ten (most_variables - 1) bs f.next)

@@ -1,16 +1,15 @@
--- A step by the tests of the code, and the answer of the call. Order: values that tell every variable; no step; a later step; a header; a step; what the call
+-- A step as the code finds it, and the answer of the call. Order: values that tell every variable; no step; a later step; a header; what the call
 -- answers and leaves. Assumes nothing.
 use mathlib.Core.Path.{◌≡◌, refl, ap, ap₂, sym, subst, ◌∙◌}
 use Rattle.std.specs.Prelude.{Option, Some, None, is_some}
 use Rattle.std.proofs.lemmas.Option.{none-some, same_Some}
 use mathlib.Core.Logic.{◌≢◌}
-use mathlib.Core.Bool.{Bool, true, false, ◌&&◌, and-false}
+use mathlib.Core.Bool.{Bool, true, false, ◌&&◌}
 use mathlib.Core.List.{List}
 use Prim.Native.Nat.{ℕ, ◌+◌, ◌-◌, ◌<◌, ◌≤◌}
-use Prim.Native.Char.{code}
 use native.Mathlib.Omega.{arith}
 use lib.Dec.{eqb, ltb}
-use lib.ListN.{length, get_or, drop, length-drop}
+use lib.ListN.{length, drop, length-drop}
 use lib.Seq.{drop-drop}
 use borrow.Author.Tests.{lt-ltb, le-ltb, eq-eqb, ne_eqb, eqb-true}
 use Rattle.base.proofs.Tests.{and_l, and_r, T_true, true-T}
@@ -31,26 +30,6 @@ use Rattle.dump_reader.specs.Parsing.{RunOf, IsStep, ParsedOf, LaterOf, HeaderOf
 use Rattle.dump_reader.proofs.Lines.{onward, onward-drop, stamp-within}
 use Rattle.dump_reader.proofs.Headers.{names-within}
 
--- values that tell every variable, test by test
-module _ (count : ℕ) (bs : List ℕ) {r : ValueRun} (f : RunOf bs r) where
-  tells-by : tells_all count bs
-      ≡ (eqb r.named count && (eqb r.needed count && (starts_with values_end (drop r.length bs) && eqb (r.length + length values_end) (length bs))))
-  unfolding tells_all
-  tells-by = rw (f.named, f.needed, f.length) refl
-
-  pub tells-named : r.named ≢ count → false ≡ tells_all count bs
-  tells-named n = sym (tells-by ∙ rw (ne_eqb r.named count n) refl)
-
-  pub tells-needed : r.needed ≢ count → false ≡ tells_all count bs
-  tells-needed n = sym (tells-by ∙ rw (ne_eqb r.needed count n) (and-false (eqb r.named count)))
-
-  pub tells-end : starts_with values_end (drop r.length bs) ≡ false → false ≡ tells_all count bs
-  tells-end e = sym (tells-by ∙ rw (e, and-false (eqb r.needed count)) (and-false (eqb r.named count)))
-
-  pub tells-last : r.named ≡ count → r.needed ≡ count → starts_with values_end (drop r.length bs) ≡ true
-      → eqb (r.length + length values_end) (length bs) ≡ tells_all count bs
-  tells-last n m e = sym (tells-by ∙ rw (eq-eqb r.named count n, eq-eqb r.needed count m, e) refl)
-
 -- so many changes, and a list as long
 tells-count : (count : ℕ) (bs : List ℕ) → tells_all count bs ≡ true → (length (value_run bs).changes ≡ count) × (needed (value_run bs).changes ≡ count)
 unfolding tells_all
@@ -70,12 +49,8 @@ step-missing bs s e = record { good = sym e; step = λ p n. absurd (none-some p 
 step-found : (bs : List ℕ) (s : Step) (p : Parsed) → s.good ≡ true → IsStep bs s p → ParsedOf bs s (Some p)
 step-found bs s p e i = record { good = sym e; step = λ q n. subst (IsStep bs s) (same_Some p q n) i }
 
--- a later step, test by test
+-- a later step
 module _ (bs : List ℕ) {read : Option TimeStamp} (s : read ≡ read_stamp bs) where
-  pub later-stamp : read ≡ None → LaterOf bs None
-  unfolding read_later
-  later-stamp e = step-missing bs (read_later bs) (rw (sym s ∙ e) refl)
-
   module _ (stamp : TimeStamp) (e : read ≡ Some stamp) where
     pub later-place : stamp.length ≤ length bs
     later-place = stamp-within bs stamp (sym s ∙ e)
@@ -92,9 +67,6 @@ module _ (bs : List ℕ) {read : Option TimeStamp} (s : read ≡ read_stamp bs) 
       unfolding later_step
       later-good = ap₂ eqb (sym told.length) (length-drop stamp.length bs)
 
-      pub later-rest : r.length ≢ length bs - stamp.length → LaterOf bs None
-      later-rest n = rw later-is (step-missing bs (later_step stamp (drop stamp.length bs)) (later-good ∙ ne_eqb r.length (length bs - stamp.length) n))
-
       pub later-found : r.length ≡ length bs - stamp.length
           → LaterOf bs (Some (record { header = false; time = stamp.time; named = r.named; needed = r.needed; values = stamp.length }))
       unfolding later_step
@@ -103,12 +75,8 @@ module _ (bs : List ℕ) {read : Option TimeStamp} (s : read ≡ read_stamp bs) 
           (step-found bs (later_step stamp (drop stamp.length bs)) _ (later-good ∙ eq-eqb r.length (length bs - stamp.length) n)
           (record { header = refl; time = refl; named = told.named; needed = told.needed; values = refl; within = later-place }))
 
--- a header, test by test
+-- a header
 module _ (bs : List ℕ) {found : Option Names} (n : found ≡ read_names bs) where
-  pub header-names : found ≡ None → HeaderOf bs None
-  unfolding read_header
-  header-names e = step-missing bs (read_header bs) (rw (sym n ∙ e) refl)
-
   module _ (names : Names) (e : found ≡ Some names) where
     pub names-place : names.length ≤ length bs
     names-place = names-within bs names (sym n ∙ e)
@@ -120,10 +88,6 @@ module _ (bs : List ℕ) {found : Option Names} (n : found ≡ read_names bs) wh
     module _ {read : Option TimeStamp} (s : read ≡ read_stamp (onward bs names.length)) where
       stamp-there : read_stamp (drop names.length bs) ≡ read
       stamp-there = sym (s ∙ ap read_stamp (onward-drop bs names.length))
-
-      pub header-stamp : read ≡ None → HeaderOf bs None
-      unfolding read_stamped
-      header-stamp z = rw stamped-is (step-missing bs (read_stamped names (drop names.length bs)) (rw (stamp-there ∙ z) refl))
 
       module _ (stamp : TimeStamp) (z : read ≡ Some stamp) where
         pub stamp-place : names.length + stamp.length ≤ length bs
@@ -154,10 +118,6 @@ module _ (bs : List ℕ) {found : Option Names} (n : found ≡ read_names bs) wh
         header-good : (header_step names stamp begin).good ≡ (starts_with values_begin begin && tells_all names.count values)
         unfolding header_step
         header-good = ap (λ l. starts_with values_begin begin && tells_all names.count l) values-there
-
-        pub header-dumpvars : starts_with values_begin (drop (names.length + stamp.length) bs) ≡ false → HeaderOf bs None
-        unfolding begin
-        header-dumpvars b = rw header-is (step-missing bs (header_step names stamp begin) (header-good ∙ rw b refl))
 
         module _ (o : starts_with values_begin (drop (names.length + stamp.length) bs) ≡ true) where
           pub values-place : names.length + stamp.length + length values_begin ≤ length bs
@@ -202,16 +162,6 @@ module _ (bs : List ℕ) {found : Option Names} (n : found ≡ read_names bs) wh
                   values = ap (λ s. (value_run s).changes) v;
                   within = values-place;
                 }))
-
--- a step
-module _ (bs : List ℕ) {p : Option Parsed} where
-  pub step-later : eqb (get_or bs 0 0) (code "#") ≡ true → LaterOf bs p → StepOf bs p
-  unfolding read_step
-  step-later e f = rw e f
-
-  pub step-header : eqb (get_or bs 0 0) (code "#") ≡ false → HeaderOf bs p → StepOf bs p
-  unfolding read_step
-  step-header e f = rw e f
 
 -- what the call answers and leaves in the list
 abbrev Answered : List ℕ → List ℕ → List ℕ → StepRead → Type 0

@@ -16,9 +16,9 @@ use sheet::TEN;
 use waveform::{MOST_VARIABLES, Names, StepRead, TimeStamp, ValueLine};
 
 // R404, R405: the largest numbers of a step.
-const LARGEST_TIME: u64 = 18446744073709551615;
+const LARGEST_TIME: u64 = u64::MAX;
 
-const LARGEST_FILL: u64 = 255;
+const LARGEST_FILL: u64 = u8::MAX as u64;
 
 const LARGEST_VARIABLE: u64 = MOST_VARIABLES as u64 - 1;
 
@@ -39,10 +39,7 @@ fn begins(bytes: &[u8], byte: u8) -> bool
     requires { 0 < byte }
     ensures { result ≡ eqb (get_or bytes.now 0 0) byte }
 {
-    if bytes.len() == 0 {
-        return false;
-    }
-    bytes[0] == byte
+    bytes.first() == Some(&byte)
 }
 
 // A field that is a number and is ended by its stop, and the place behind that.
@@ -71,6 +68,7 @@ fn read_field(bytes: &[u8], from: usize, stop: u8, base: u64, most: u64) -> Opti
 }
 
 // The time stamp that the bytes begin with.
+#[tactic(auto, using(crate::proofs::Lines::stamp_by))]
 fn read_stamp(bytes: &[u8]) -> Option<TimeStamp>
     ensures { result ≡ read_stamp bytes.now }
 {
@@ -85,6 +83,7 @@ fn read_stamp(bytes: &[u8]) -> Option<TimeStamp>
 }
 
 // The value that the bytes begin with, if its variable is `least` or a later one.
+#[tactic(auto, using(crate::proofs::Lines::value_by))]
 fn read_value(bytes: &[u8], least: usize) -> Option<ValueLine>
     ensures { result ≡ next_value least bytes.now }
 {
@@ -180,6 +179,7 @@ fn count_variables(bytes: &[u8], start: usize) -> Counted
 }
 
 // A header up to its time stamp.
+#[tactic(auto, unfolding(waveform::specs::Reading::read_names, waveform::specs::Reading::are_names))]
 fn read_names(bytes: &[u8]) -> Option<Names>
     ensures { result ≡ read_names bytes.now }
 {
@@ -207,6 +207,7 @@ fn read_names(bytes: &[u8]) -> Option<Names>
 }
 
 // Whether values that tell each of so many variables begin the bytes, and "$end" ends them.
+#[tactic(auto, unfolding(waveform::specs::Reading::tells_all))]
 fn tells_all(bytes: &[u8], count: usize) -> bool
     ensures { result ≡ tells_all count bytes.now }
 {
@@ -234,6 +235,7 @@ pub struct Parsed {
 }
 
 // A time stamp, and values to the end.
+#[tactic(auto, unfolding(waveform::specs::Reading::read_later, waveform::specs::Reading::later_step))]
 fn read_later(bytes: &[u8]) -> Option<Parsed>
     ensures { LaterOf bytes.now result }
 {
@@ -253,6 +255,7 @@ fn read_later(bytes: &[u8]) -> Option<Parsed>
 }
 
 // Names, a time stamp, and a value for each variable.
+#[tactic(auto, unfolding(waveform::specs::Reading::read_header, waveform::specs::Reading::read_stamped, waveform::specs::Reading::header_step))]
 fn read_header(bytes: &[u8]) -> Option<Parsed>
     ensures { HeaderOf bytes.now result }
 {
@@ -277,6 +280,7 @@ fn read_header(bytes: &[u8]) -> Option<Parsed>
 }
 
 // A time stamp begins a later step; whatever begins otherwise is a header or no step.
+#[tactic(auto, unfolding(waveform::specs::Reading::read_step))]
 fn parse(bytes: &[u8]) -> Option<Parsed>
     ensures { StepOf bytes.now result }
 {

@@ -8,7 +8,8 @@ ghost use Rattle.sheet.specs.Commands.{up_to, later_fields, command_with, comman
 use lines::LINE_LIMIT;
 use sheet::{Command, TEN};
 
-const LARGEST_NUMBER: u64 = 4294967295;
+// R247: the largest number of a sheet.
+const LARGEST_NUMBER: u64 = u32::MAX as u64;
 
 // The number of a field that may have leading zeros, in digits of the base, if it is at most `most`. Before it takes a digit in it sees
 // whether the number stays within, so that nothing wraps even where `most` is the largest u64.
@@ -122,6 +123,7 @@ fn command_with(letter: u8, numbers: Numbers) -> Command
 }
 
 // The command of a line without its end.
+#[tactic(auto, unfolding(crate::specs::Reading::numbers_of, sheet::specs::Commands::command_of, sheet::specs::Commands::well_formed))]
 pub fn read_command(line: &[u8]) -> Command
     ensures { result ≡ command_of line.now }
 {

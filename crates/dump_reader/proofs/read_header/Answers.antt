@@ -1,11 +1,8 @@
 -- `dump_reader::read_header` meets its contract, by the laws of a header in proofs/Steps.antt. Assumes nothing.
 use Rattle.std.proofs.Common.{sym, ◌∙◌, ◌+◌, ◌≤◌, length, arith}
-use Rattle.dump_reader.proofs.Steps.{header-names, names-place, header-stamp, stamp-place, header-dumpvars, values-place, header-values, header-found}
+use Rattle.dump_reader.proofs.Steps.{names-place, stamp-place, values-place, header-values, header-found}
 use Rattle.dump_reader.proofs.read_header.Goals as goal
 use Rattle.dump_reader.proofs.read_header.Goals.{In_ok-names, In_ok-stamp, Else-not-starts_with}
-
-pub returns-in_err-names : goal.returns-in_err-names
-returns-in_err-names c = rw c.from_residual.ensures (header-names c.args.bytes.now c.read_names.ensures c.in_err-names.was)
 
 -- the names end among the bytes, and so do the time stamp and the bytes before the values
 named : (c : In_ok-names) → c.in_ok-names.names.length ≤ length c.args.bytes.now
@@ -13,16 +10,6 @@ named c = names-place c.args.bytes.now c.read_names.ensures _ c.in_ok-names.was
 
 stamped : (c : In_ok-stamp) → c.in_ok-names.names.length + c.in_ok-stamp.stamp.length ≤ length c.args.bytes.now
 stamped c = stamp-place c.args.bytes.now c.read_names.ensures _ c.in_ok-names.was c.read_stamp.ensures _ c.in_ok-stamp.was
-
-pub returns-in_err-stamp : goal.returns-in_err-stamp
-returns-in_err-stamp c =
-    rw c.from_residual-in_err-stamp.ensures
-    (header-stamp c.args.bytes.now c.read_names.ensures _ c.in_ok-names.was c.read_stamp.ensures c.in_err-stamp.was)
-
-pub returns-then-not-starts_with : goal.returns-then-not-starts_with
-returns-then-not-starts_with c =
-    header-dumpvars c.args.bytes.now c.read_names.ensures _ c.in_ok-names.was c.read_stamp.ensures _ c.in_ok-stamp.was
-    (sym c.starts_with.ensures ∙ c.if-not-starts_with.true)
 
 begun : (c : Else-not-starts_with) → c.in_ok-names.names.length + c.in_ok-stamp.stamp.length + 10 ≤ length c.args.bytes.now
 begun c =

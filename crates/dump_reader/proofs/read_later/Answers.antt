@@ -1,18 +1,12 @@
 -- `dump_reader::read_later` meets its contract, by the laws of a later step in proofs/Steps.antt. Assumes nothing.
 use Rattle.std.proofs.Common.{◌≤◌, length}
-use Rattle.dump_reader.proofs.Steps.{later-stamp, later-place, later-rest, later-found}
+use Rattle.dump_reader.proofs.Steps.{later-place, later-found}
 use Rattle.dump_reader.proofs.read_later.Goals as goal
 use Rattle.dump_reader.proofs.read_later.Goals.{In_ok-stamp}
-
-pub returns-in_err-stamp : goal.returns-in_err-stamp
-returns-in_err-stamp c = rw c.from_residual.ensures (later-stamp c.args.bytes.now c.read_stamp.ensures c.in_err-stamp.was)
 
 -- the time stamp ends among the bytes
 place : (c : In_ok-stamp) → c.in_ok-stamp.stamp.length ≤ length c.args.bytes.now
 place c = later-place c.args.bytes.now c.read_stamp.ensures _ c.in_ok-stamp.was
-
-pub returns-then-run-bytes : goal.returns-then-run-bytes
-returns-then-run-bytes c = later-rest c.args.bytes.now c.read_stamp.ensures _ c.in_ok-stamp.was c.read_run-run.ensures c.if-run-bytes.true
 
 pub returns : goal.returns
 returns c = later-found c.args.bytes.now c.read_stamp.ensures _ c.in_ok-stamp.was c.read_run-run.ensures c.if-run-bytes.false
