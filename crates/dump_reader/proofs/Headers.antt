@@ -1,8 +1,12 @@
--- The names of a header: the line of a variable, the lines one after another, and the header up to its time stamp by the tests of the code. Order: a line put
--- at the start of a buffer; the loop of `count_variables`; the names, test by test; how long they are. Assumes nothing.
-use mathlib.Core.Path.{◌≡◌, refl, ap, ap₂, sym, ◌∙◌}
-use mathlib.Core.Logic.{◌≢◌}
-use mathlib.Core.Bool.{Bool, true, false, not, cond, ◌&&◌, and-false}
+-- The names of a header: the line of a variable, and the lines one after another. Order: a line put at the start of a buffer; the loop of
+-- `count_variables`; how long the names are. Assumes nothing.
+use mathlib.Core.Path.{◌≡◌, refl, ap, ap₂, sym, subst, ◌∙◌}
+use Rattle.std.specs.Prelude.{Option, Some, None, is_some}
+use Rattle.std.specs.Bool.{then_some}
+use Rattle.std.proofs.lemmas.Option.{cond_some}
+use Rattle.reader.specs.Reading.{number-there}
+use Rattle.waveform.specs.declared.Names.{Names}
+use mathlib.Core.Bool.{Bool, true, false, not, cond, ◌&&◌}
 use mathlib.Core.List.{List}
 use Prim.Native.Nat.{ℕ, zero, suc, ◌+◌, ◌-◌, ◌%◌, ◌<◌, ◌≤◌}
 use native.Mathlib.Nat.{zero-add}
@@ -11,18 +15,15 @@ use native.Mathlib.Omega.{arith}
 use lib.Dec.{eqb}
 use lib.ListN.{length, take, drop, length-append, length-drop}
 use lib.Seq.{take_at, length-take-le, drop-drop}
-use borrow.Author.Tests.{eq-eqb, ne_eqb}
 use Rattle.base.proofs.Tests.{and_r, T_true, true-T}
 use Rattle.network.specs.Sizes.{queues}
 use Rattle.sheet.specs.Output.{written, Room, Put}
 use Rattle.sheet.proofs.Puts.{put-length}
 use Rattle.waveform.specs.Dump.{most_variables, variables_begin, variables_end, variable_line, variable_lines}
 use Rattle.waveform.proofs.DumpLaws.{variable_lines-more}
-use Rattle.waveform.proofs.Lengths.{variable-length}
 use Rattle.waveform.specs.Reading.{starts_with, variables_from, variables_in, behind_variables, are_names, read_names}
 use Rattle.waveform.proofs.StartLaws.{starts-long}
-use Rattle.dump_reader.specs.declared.Counted.{Counted}
-use Rattle.dump_reader.specs.Parsing.{CountedOf, no_names}
+use Rattle.dump_reader.specs.Parsing.{CountedOf}
 
 -- bytes that were put at the start of a buffer are its front
 module _ {out bytes after : List ℕ} {next : ℕ} (p : Put out 0 bytes after next) (room : Room out 0 bytes) where
@@ -41,13 +42,13 @@ module _ {out bytes after : List ℕ} {next : ℕ} (p : Put out 0 bytes after ne
   pub front_length : next ≡ length (take next after)
   front_length = sym (length-take-le next after front-within)
 
-  -- whether it stands at the start of others
-  module _ (bs : List ℕ) {r : Bool} (e : r ≡ starts_with (take next after) bs) where
-    pub front-there : r ≡ true → next ≡ cond (starts_with bytes bs) (length bytes) 0
-    front-there t = p.answers ∙ zero-add (length bytes) ∙ ap (λ b. cond b (length bytes) 0) (sym (ap (λ l. starts_with l bs) (sym front) ∙ sym e ∙ t))
-
-    pub front-missing : r ≡ false → 0 ≡ cond (starts_with bytes bs) (length bytes) 0
-    front-missing f = ap (λ b. cond b (length bytes) 0) (sym (ap (λ l. starts_with l bs) (sym front) ∙ sym e ∙ f))
+  -- how long it is, if it stands at the start of others
+  pub front-there : (bs : List ℕ) {r : Bool} → r ≡ starts_with (take next after) bs → then_some r next ≡ cond (starts_with bytes bs) (Some (length bytes)) None
+  front-there bs {r} e = go r ∙ ap₂ (λ b n. cond b (Some n) None) (e ∙ ap (λ l. starts_with l bs) front) (p.answers ∙ zero-add (length bytes))
+    where
+      go : (b : Bool) → then_some b next ≡ cond b (Some next) None
+      go true = refl
+      go false = refl
 
 -- one line more, or none
 from-stop : (more i : ℕ) (bs : List ℕ) → starts_with (variable_line i) bs ≡ false → variables_from more i bs ≡ i
@@ -75,103 +76,54 @@ module _ {bs : List ℕ} {start count at : ℕ} (p : Counting bs start count at)
   counting-done : variables_from (most_variables - count) count (drop at bs) ≡ count → CountedOf bs start (record { count = count; end = at })
   counting-done e = record { count = sym (p.left ∙ e); end = p.place; within = p.within }
 
-  pub counting-end : most_variables ≤ count → CountedOf bs start (record { count = count; end = at })
+  pub counting-end : most_variables ≤ count → CountedOf bs start (record { count = most_variables; end = at })
   unfolding variables_from
   counting-end h =
+      let w = p.few in
+      let c : count ≡ most_variables = omega arith in
       let z : most_variables - count ≡ 0 = omega arith in
-      counting-done (ap (λ m. variables_from m count (drop at bs)) z)
+      subst (λ n. CountedOf bs start (record { count = n; end = at })) c (counting-done (ap (λ m. variables_from m count (drop at bs)) z))
 
-  module _ (h : count < most_variables) {r : ℕ} (e : r ≡ cond (starts_with (variable_line count) (drop at bs)) (length (variable_line count)) 0) where
-    pub counting-stop : r ≡ 0 → CountedOf bs start (record { count = count; end = at })
-    counting-stop z = go (starts_with (variable_line count) (drop at bs)) refl e
-      where
-        go : (b : Bool) → starts_with (variable_line count) (drop at bs) ≡ b → r ≡ cond b (length (variable_line count)) 0
-            → CountedOf bs start (record { count = count; end = at })
-        go true s q = absurd (omega (arith, variable-length count))
-        go false s q = counting-done (from-stop (most_variables - count) count (drop at bs) s)
+  module _ (h : count < most_variables) {r : Option ℕ}
+      (e : r ≡ cond (starts_with (variable_line count) (drop at bs)) (Some (length (variable_line count))) None) where
+    pub counting-stop : r ≡ None → CountedOf bs start (record { count = count; end = at })
+    counting-stop z = counting-done (from-stop (most_variables - count) count (drop at bs) (sym (number-there _ _) ∙ ap is_some (sym e ∙ z)))
 
-    pub counting_more : r ≢ 0 → Counting bs start (count + 1) (at + r)
-    counting_more f = go (starts_with (variable_line count) (drop at bs)) refl e
-      where
-        go : (b : Bool) → starts_with (variable_line count) (drop at bs) ≡ b → r ≡ cond b (length (variable_line count)) 0
-            → Counting bs start (count + 1) (at + r)
-        go true s q =
-            let l = starts-long (variable_line count) (drop at bs) s in
-            let d = length-drop at bs in
-            let w = p.within in
-            let m : most_variables - count ≡ suc (most_variables - (count + 1)) = omega arith in
-            let lines : length (variable_lines 0 (count + 1)) ≡ length (variable_lines 0 count) + length (variable_line count)
-            = ap (λ n. length (variable_lines 0 n)) (add-one count)
-            ∙ ap length (variable_lines-more 0 count)
-            ∙ length-append (variable_lines 0 count) (variable_line (0 + count))
-            ∙ ap (λ n. length (variable_lines 0 count) + length (variable_line n)) (zero-add count) in
-            let at-is = p.place in
-            record {
-              within = omega arith;
-              few = omega arith;
-              place = omega arith;
-              left =
-                  p.left
-                  ∙ ap (λ n. variables_from n count (drop at bs)) m
-                  ∙ from_more (most_variables - (count + 1)) count (drop at bs) s
-                  ∙ ap₂ (λ n s. variables_from (most_variables - (count + 1)) n s)
-                  (sym (add-one count))
-                  (drop-drop (length (variable_line count)) at bs ∙ ap (λ n. drop (at + n) bs) (sym q));
-            }
-        go false s q = absurd (f q)
+    pub counting_more : (n : ℕ) → r ≡ Some n → Counting bs start (count + 1) (at + n)
+    counting_more n z =
+        let (s, q) = cond_some _ _ n (sym e ∙ z) in
+        let l = starts-long (variable_line count) (drop at bs) s in
+        let d = length-drop at bs in
+        let w = p.within in
+        let m : most_variables - count ≡ suc (most_variables - (count + 1)) = omega arith in
+        let lines : length (variable_lines 0 (count + 1)) ≡ length (variable_lines 0 count) + length (variable_line count)
+        = ap (λ n. length (variable_lines 0 n)) (add-one count)
+        ∙ ap length (variable_lines-more 0 count)
+        ∙ length-append (variable_lines 0 count) (variable_line (0 + count))
+        ∙ ap (λ n. length (variable_lines 0 count) + length (variable_line n)) (zero-add count) in
+        let at-is = p.place in
+        record {
+          within = omega arith;
+          few = omega arith;
+          place = omega arith;
+          left =
+              p.left
+              ∙ ap (λ n. variables_from n count (drop at bs)) m
+              ∙ from_more (most_variables - (count + 1)) count (drop at bs) s
+              ∙ ap₂ (λ n s. variables_from (most_variables - (count + 1)) n s)
+              (sym (add-one count))
+              (drop-drop (length (variable_line count)) at bs ∙ ap (λ n. drop (at + n) bs) q);
+        }
 
--- the names, test by test
-module _ (bs : List ℕ) where
-  names-missing : are_names bs ≡ false → no_names ≡ read_names bs
-  unfolding read_names
-  names-missing e = rw e refl
-
-  pub names-first : starts_with variables_begin bs ≡ false → no_names ≡ read_names bs
-  unfolding are_names
-  names-first e = names-missing (rw e refl)
-
-  module _ {counted : Counted} (k : CountedOf bs (length variables_begin) counted) where
-    names-by : are_names bs
-        ≡ (starts_with variables_begin bs && (not (eqb counted.count 0) && (eqb (counted.count % queues) 0 && starts_with variables_end (drop counted.end bs))))
-    unfolding are_names
-    names-by =
-        let e : behind_variables bs ≡ counted.end = ap (λ n. length variables_begin + length (variable_lines 0 n)) (sym k.count) ∙ sym k.end in
-        ap₂ (λ n m. starts_with variables_begin bs && (not (eqb n 0) && (eqb (n % queues) 0 && starts_with variables_end (drop m bs)))) (sym k.count) e
-
-    pub names-none : counted.count ≡ 0 → no_names ≡ read_names bs
-    names-none e = names-missing (names-by ∙ rw (eq-eqb counted.count 0 e) (and-false (starts_with variables_begin bs)))
-
-    pub names-part : counted.count % queues ≢ 0 → no_names ≡ read_names bs
-    names-part f =
-        names-missing
-        (names-by
-        ∙ rw (ne_eqb (counted.count % queues) 0 f, and-false (not (eqb counted.count 0))) (and-false (starts_with variables_begin bs)))
-
-    pub names-last : starts_with variables_end (drop counted.end bs) ≡ false → no_names ≡ read_names bs
-    names-last e =
-        names-missing
-        (names-by
-        ∙ rw (e, and-false (eqb (counted.count % queues) 0), and-false (not (eqb counted.count 0))) (and-false (starts_with variables_begin bs)))
-
-    pub names-found : starts_with variables_begin bs ≡ true → counted.count ≢ 0 → counted.count % queues ≡ 0 → starts_with variables_end (drop counted.end bs) ≡ true
-        → record { good = true; count = counted.count; length = counted.end + length variables_end } ≡ read_names bs
-    unfolding read_names
-    names-found s some whole e =
-        let t : are_names bs ≡ true = names-by ∙ rw (s, ne_eqb counted.count 0 some, eq-eqb (counted.count % queues) 0 whole, e) refl in
-        let n : counted.end ≡ behind_variables bs = k.end ∙ ap (λ n. length variables_begin + length (variable_lines 0 n)) k.count in
-        rw (t, k.count, n) refl
-
-pub names-within : (bs : List ℕ) → (read_names bs).length ≤ length bs
+-- how long the names are
+pub names-within : (bs : List ℕ) (n : Names) → read_names bs ≡ Some n → n.length ≤ length bs
 unfolding read_names are_names
-names-within bs = go (are_names bs) refl
-  where
-    go : (b : Bool) → are_names bs ≡ b → (read_names bs).length ≤ length bs
-    go true e =
-        let last = starts_with variables_end (drop (behind_variables bs) bs) in
-        let whole = eqb (variables_in bs % queues) 0 in
-        let some = not (eqb (variables_in bs) 0) in
-        let t = and_r whole last (and_r some (whole && last) (and_r (starts_with variables_begin bs) (some && (whole && last)) (true-T (are_names bs) e))) in
-        let l = starts-long variables_end (drop (behind_variables bs) bs) (T_true last t) in
-        let d = length-drop (behind_variables bs) bs in
-        rw e (omega arith)
-    go false e = rw e (omega arith)
+names-within bs n e =
+    let (is, same) = cond_some (are_names bs) _ n e in
+    let last = starts_with variables_end (drop (behind_variables bs) bs) in
+    let whole = eqb (variables_in bs % queues) 0 in
+    let some = not (eqb (variables_in bs) 0) in
+    let t = and_r whole last (and_r some (whole && last) (and_r (starts_with variables_begin bs) (some && (whole && last)) (true-T (are_names bs) is))) in
+    let l = starts-long variables_end (drop (behind_variables bs) bs) (T_true last t) in
+    let d = length-drop (behind_variables bs) bs in
+    rw (sym same) (omega arith)

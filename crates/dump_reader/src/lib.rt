@@ -2,24 +2,23 @@
 // as it was. Order: a field; a time stamp; a value; values one after another; the names of a header, and its values; the two kinds of step; the call.
 #![tactic(auto)]
 
-ghost use Rattle.std.specs.Prelude.{◌≡◌, cond, ◌<◌, ◌≤◌, eqb, length, get_or, drop};
+ghost use Rattle.std.specs.Prelude.{◌≡◌, cond, Some, None, IfSome, ◌<◌, ◌≤◌, eqb, length, get_or, drop};
 ghost use Rattle.waveform.specs.Dump.{most_variables, variable_line};
-ghost use Rattle.waveform.specs.Reading.{starts_with, read_stamp, value_run, needed, read_names, tells_all, applied};
+ghost use Rattle.waveform.specs.Reading.{starts_with, read_stamp, next_value, value_run, needed, read_names, tells_all, applied};
 ghost use Rattle.waveform.specs.Calls.{read_answer, read_list};
 ghost use Rattle.waveform.specs.StepAnswers.{ReadTells};
-ghost use Rattle.dump_reader.specs.Parsing.{no_field, no_stamp, no_value, no_names, no_step};
-ghost use Rattle.dump_reader.specs.Parsing.{FieldOf, ValueFrom, RunOf, CountedOf, LaterOf, HeaderOf, StepOf};
+ghost use Rattle.dump_reader.specs.Parsing.{field_from, RunOf, CountedOf, LaterOf, HeaderOf, StepOf};
 
 use dump_text::{TWO, put_variable, starts_with};
 use network::{BAD_LINE, QUEUES, SHORT_PAGE};
-use reader::{Number, field_end, read_number};
+use reader::{field_end, read_number};
 use sheet::TEN;
 use waveform::{MOST_VARIABLES, Names, StepRead, TimeStamp, ValueLine};
 
 // R404, R405: the largest numbers of a step.
-const LARGEST_TIME: u64 = 18446744073709551615;
+const LARGEST_TIME: u64 = u64::MAX;
 
-const LARGEST_FILL: u64 = 255;
+const LARGEST_FILL: u64 = u8::MAX as u64;
 
 const LARGEST_VARIABLE: u64 = MOST_VARIABLES as u64 - 1;
 
@@ -40,115 +39,67 @@ fn begins(bytes: &[u8], byte: u8) -> bool
     requires { 0 < byte }
     ensures { result ≡ eqb (get_or bytes.now 0 0) byte }
 {
-    if bytes.len() == 0 {
-        return false;
-    }
-    bytes[0] == byte
+    bytes.first() == Some(&byte)
 }
 
 // A field that is a number and is ended by its stop, and the place behind that.
 #[derive(Clone, Copy)]
 pub struct Field {
-    pub good: bool,
     pub value: u64,
     pub next: usize,
 }
 
-// Where no such field stands.
-fn no_field() -> Field
-    ensures { result ≡ no_field }
-{
-    Field {
-        good: false,
-        value: 0,
-        next: 0,
-    }
-}
-
-fn read_field(bytes: &[u8], from: usize, stop: u8, base: u64, most: u64) -> Field
+fn read_field(bytes: &[u8], from: usize, stop: u8, base: u64, most: u64) -> Option<Field>
     requires from_in_bounds { from ≤ length bytes.now }
     requires le_base { 2 ≤ base }
-    ensures { FieldOf stop base most bytes.now from result }
+    ensures field { result ≡ field_from stop base most bytes.now from }
+    ensures fits { IfSome result (λ f. f.value ≤ most) }
+    ensures within { IfSome result (λ f. f.next ≤ length bytes.now) }
 {
     let end = field_end(bytes, from, stop);
     if end == bytes.len() {
-        return no_field();
+        return None;
     }
-    match read_number(&bytes[from..end], base, most) {
-        Number::Value(value) => Field {
-            good: true,
-            value,
-            next: end + 1,
-        },
-        Number::Nothing => no_field(),
-    }
-}
-
-// Where no time stamp stands.
-fn no_stamp() -> TimeStamp
-    ensures { result ≡ no_stamp }
-{
-    TimeStamp {
-        good: false,
-        time: 0,
-        length: 0,
-    }
+    let value = read_number(&bytes[from..end], base, most)?;
+    Some(Field {
+        value,
+        next: end + 1,
+    })
 }
 
 // The time stamp that the bytes begin with.
-fn read_stamp(bytes: &[u8]) -> TimeStamp
+#[tactic(auto, using(crate::proofs::Lines::stamp_by))]
+fn read_stamp(bytes: &[u8]) -> Option<TimeStamp>
     ensures { result ≡ read_stamp bytes.now }
 {
     if !begins(bytes, b'#') {
-        return no_stamp();
+        return None;
     }
-    let time = read_field(bytes, 1, b'\n', TEN, LARGEST_TIME);
-    if !time.good {
-        return no_stamp();
-    }
-    TimeStamp {
-        good: true,
+    let time = read_field(bytes, 1, b'\n', TEN, LARGEST_TIME)?;
+    Some(TimeStamp {
         time: time.value,
         length: time.next,
-    }
-}
-
-// Where no such value stands.
-fn no_value() -> ValueLine
-    ensures { result ≡ no_value }
-{
-    ValueLine {
-        good: false,
-        variable: 0,
-        fill: 0,
-        length: 0,
-    }
+    })
 }
 
 // The value that the bytes begin with, if its variable is `least` or a later one.
-fn read_value(bytes: &[u8], least: usize) -> ValueLine
-    ensures { ValueFrom least bytes.now result }
+#[tactic(auto, using(crate::proofs::Lines::value_by))]
+fn read_value(bytes: &[u8], least: usize) -> Option<ValueLine>
+    ensures { result ≡ next_value least bytes.now }
 {
     if !begins(bytes, b'b') {
-        return no_value();
+        return None;
     }
-    let fill = read_field(bytes, 1, b' ', TWO, LARGEST_FILL);
-    if !fill.good {
-        return no_value();
-    }
-    let variable = read_field(bytes, fill.next, b'\n', TEN, LARGEST_VARIABLE);
-    if !variable.good {
-        return no_value();
-    }
+    let fill = read_field(bytes, 1, b' ', TWO, LARGEST_FILL)?;
+    let variable = read_field(bytes, fill.next, b'\n', TEN, LARGEST_VARIABLE)?;
     if variable.value < least as u64 {
-        return no_value();
+        return None;
     }
-    ValueLine {
-        good: true,
+    Some(ValueLine {
         variable: variable.value as usize,
         fill: fill.value as u8,
         length: variable.next,
-    }
+    })
 }
 
 // Values one after another: how many there are, how long a list they need, and how many bytes they have.
@@ -165,15 +116,7 @@ fn read_run(bytes: &[u8]) -> ValueRun
     let mut at = 0;
     let mut from = 0;
     let mut named = 0;
-    while at < bytes.len() {
-        let line = read_value(&bytes[at..], from);
-        if !line.good {
-            return ValueRun {
-                named,
-                needed: from,
-                length: at,
-            };
-        }
+    while let Some(line) = read_value(&bytes[at..], from) {
         at += line.length;
         from = line.variable + 1;
         named += 1;
@@ -192,11 +135,7 @@ fn apply_run(bytes: &[u8], fills: &mut [u8])
 {
     let mut at = 0;
     let mut from = 0;
-    while at < bytes.len() {
-        let line = read_value(&bytes[at..], from);
-        if !line.good {
-            return;
-        }
+    while let Some(line) = read_value(&bytes[at..], from) {
         let variable = line.variable;
         fills[variable] = line.fill;
         at += line.length;
@@ -204,18 +143,15 @@ fn apply_run(bytes: &[u8], fills: &mut [u8])
     }
 }
 
-// The bytes of the line of variable i, if it stands there, else 0.
-fn variable_at(bytes: &[u8], at: usize, i: usize) -> usize
+// The bytes of the line of variable i, if it stands there.
+fn variable_at(bytes: &[u8], at: usize, i: usize) -> Option<usize>
     requires at_in_bounds { at ≤ length bytes.now }
     requires i_lt_most_variables { i < most_variables }
-    ensures { result ≡ cond (starts_with (variable_line i) (drop at bytes.now)) (length (variable_line i)) 0 }
+    ensures { result ≡ cond (starts_with (variable_line i) (drop at bytes.now)) (Some (length (variable_line i))) None }
 {
     let mut line = [0u8; LINE_ROOM];
     let length = put_variable(&mut line, 0, i);
-    if starts_with(bytes, at, &line[..length]) {
-        return length;
-    }
-    0
+    starts_with(bytes, at, &line[..length]).then_some(length)
 }
 
 // The lines of variables from a place on: how many there are, and where they end.
@@ -229,32 +165,22 @@ fn count_variables(bytes: &[u8], start: usize) -> Counted
     requires { start ≤ length bytes.now }
     ensures { CountedOf bytes.now start result }
 {
-    let mut count = 0;
     let mut at = start;
-    while count < MOST_VARIABLES {
-        let length = variable_at(bytes, at, count);
-        if length == 0 {
+    for count in 0..MOST_VARIABLES {
+        let Some(length) = variable_at(bytes, at, count) else {
             return Counted { count, end: at };
-        }
+        };
         at += length;
-        count += 1;
     }
-    Counted { count, end: at }
-}
-
-// Where no names stand.
-fn no_names() -> Names
-    ensures { result ≡ no_names }
-{
-    Names {
-        good: false,
-        count: 0,
-        length: 0,
+    Counted {
+        count: MOST_VARIABLES,
+        end: at,
     }
 }
 
 // A header up to its time stamp.
-fn read_names(bytes: &[u8]) -> Names
+#[tactic(auto, unfolding(waveform::specs::Reading::read_names, waveform::specs::Reading::are_names))]
+fn read_names(bytes: &[u8]) -> Option<Names>
     ensures { result ≡ read_names bytes.now }
 {
     if !starts_with(
@@ -262,26 +188,26 @@ fn read_names(bytes: &[u8]) -> Names
         0,
         b"$timescale 1 ns $end\n$scope module network $end\n",
     ) {
-        return no_names();
+        return None;
     }
     let counted = count_variables(bytes, VARIABLES_BEGIN_BYTES);
     if counted.count == 0 {
-        return no_names();
+        return None;
     }
     if counted.count % QUEUES as usize != 0 {
-        return no_names();
+        return None;
     }
     if !starts_with(bytes, counted.end, b"$upscope $end\n$enddefinitions $end\n") {
-        return no_names();
+        return None;
     }
-    Names {
-        good: true,
+    Some(Names {
         count: counted.count,
         length: counted.end + VARIABLES_END_BYTES,
-    }
+    })
 }
 
 // Whether values that tell each of so many variables begin the bytes, and "$end" ends them.
+#[tactic(auto, unfolding(waveform::specs::Reading::tells_all))]
 fn tells_all(bytes: &[u8], count: usize) -> bool
     ensures { result ≡ tells_all count bytes.now }
 {
@@ -301,7 +227,6 @@ fn tells_all(bytes: &[u8], count: usize) -> bool
 // A step as it was parsed, and where its values begin.
 #[derive(Clone, Copy)]
 pub struct Parsed {
-    pub good: bool,
     pub header: bool,
     pub time: u64,
     pub named: usize,
@@ -309,76 +234,54 @@ pub struct Parsed {
     pub values: usize,
 }
 
-// Where the bytes are no step.
-fn no_step() -> Parsed
-    ensures { result ≡ no_step }
-{
-    Parsed {
-        good: false,
-        header: false,
-        time: 0,
-        named: 0,
-        needed: 0,
-        values: 0,
-    }
-}
-
 // A time stamp, and values to the end.
-fn read_later(bytes: &[u8]) -> Parsed
+#[tactic(auto, unfolding(waveform::specs::Reading::read_later, waveform::specs::Reading::later_step))]
+fn read_later(bytes: &[u8]) -> Option<Parsed>
     ensures { LaterOf bytes.now result }
 {
-    let stamp = read_stamp(bytes);
-    if !stamp.good {
-        return no_step();
-    }
+    let stamp = read_stamp(bytes)?;
     let values = stamp.length;
     let run = read_run(&bytes[values..]);
     if run.length != bytes.len() - values {
-        return no_step();
+        return None;
     }
-    Parsed {
-        good: true,
+    Some(Parsed {
         header: false,
         time: stamp.time,
         named: run.named,
         needed: run.needed,
         values,
-    }
+    })
 }
 
 // Names, a time stamp, and a value for each variable.
-fn read_header(bytes: &[u8]) -> Parsed
+#[tactic(auto, unfolding(waveform::specs::Reading::read_header, waveform::specs::Reading::read_stamped, waveform::specs::Reading::header_step))]
+fn read_header(bytes: &[u8]) -> Option<Parsed>
     ensures { HeaderOf bytes.now result }
 {
-    let names = read_names(bytes);
-    if !names.good {
-        return no_step();
-    }
+    let names = read_names(bytes)?;
     let start = names.length;
-    let stamp = read_stamp(&bytes[start..]);
-    if !stamp.good {
-        return no_step();
-    }
+    let stamp = read_stamp(&bytes[start..])?;
     let dumpvars = start + stamp.length;
     if !starts_with(bytes, dumpvars, b"$dumpvars\n") {
-        return no_step();
+        return None;
     }
     let values = dumpvars + VALUES_BEGIN_BYTES;
     if !tells_all(&bytes[values..], names.count) {
-        return no_step();
+        return None;
     }
-    Parsed {
-        good: true,
+    Some(Parsed {
         header: true,
         time: stamp.time,
         named: names.count,
         needed: names.count,
         values,
-    }
+    })
 }
 
 // A time stamp begins a later step; whatever begins otherwise is a header or no step.
-fn parse(bytes: &[u8]) -> Parsed
+#[tactic(auto, unfolding(waveform::specs::Reading::read_step))]
+fn parse(bytes: &[u8]) -> Option<Parsed>
     ensures { StepOf bytes.now result }
 {
     if begins(bytes, b'#') {
@@ -393,10 +296,9 @@ pub fn read_step(bytes: &[u8], fills: &mut [u8]) -> StepRead
     ensures fills { fills.new ≡ read_list bytes.now fills.old }
     ensures told { ReadTells bytes.now fills.old result }
 {
-    let step = parse(bytes);
-    if !step.good {
+    let Some(step) = parse(bytes) else {
         return StepRead::Refused(BAD_LINE);
-    }
+    };
     if fills.len() < step.needed {
         return StepRead::Refused(SHORT_PAGE);
     }

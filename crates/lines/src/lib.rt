@@ -15,6 +15,7 @@ pub const LINE_LIMIT: usize = 64;
 pub const HELD_BYTES: usize = 65;
 
 // An LF after so many bytes.
+#[tactic(auto, unfolding(sheet::specs::Cutting::ended_answer))]
 fn ended(buf: &[u8], count: usize) -> Fed
     requires { held_bytes ≤ length buf.now }
     ensures { result ≡ ended_answer buf.now count }
@@ -36,6 +37,7 @@ fn ended(buf: &[u8], count: usize) -> Fed
 }
 
 // One byte more. After the end of a line nothing is pending.
+#[tactic(auto, unfolding(sheet::specs::Cutting::fed_buffer, sheet::specs::Cutting::fed_answer))]
 pub fn feed(buf: &mut [u8], pending: Pending, b: u8) -> Fed
     requires { held_bytes ≤ length buf.old }
     ensures { ByteFed buf.old pending.count b buf.new result }
@@ -54,6 +56,7 @@ pub fn feed(buf: &mut [u8], pending: Pending, b: u8) -> Fed
 }
 
 // The end of the input.
+#[tactic(auto, unfolding(sheet::specs::Cutting::finished_answer))]
 pub fn finish(pending: Pending) -> Fed
     ensures { result ≡ finished_answer pending.count }
 {

@@ -1,46 +1,49 @@
--- Fields of a line: the loop that looks for the byte where one ends, and the fields behind the first. The laws of one field are those of `sheet`,
--- specs/Fields.antt. Order: the loop; what stands where a field ends; the fields behind it. Assumes nothing.
+-- Fields of a line: the byte where one ends, and the fields behind the first. The laws of one field are those of `sheet`,
+-- specs/Fields.antt. Order: where it stands; what stands where a field ends; the fields behind it. Assumes nothing.
 use mathlib.Core.Path.{◌≡◌, refl, ap, ap₂, sym, ◌∙◌}
 use mathlib.Core.Logic.{◌≢◌}
+use mathlib.Core.Bool.{Bool, true, false, not, cond}
 use mathlib.Core.List.{List, [], ◌∷◌}
-use Prim.Native.Nat.{ℕ, suc, ◌+◌, ◌<◌, ◌≤◌}
+use Rattle.std.specs.Prelude.{Option, Some, None, is_some, ltb, eqb}
+use Rattle.std.specs.List.{position_or_len, onto_first, slice_split}
+use Rattle.std.proofs.lemmas.List.Splits.{slice_split-cons_yes, slice_split-cons_no}
+use Rattle.std.proofs.Common.{ltb-false}
+use Rattle.std.proofs.lemmas.Option.{cond_some}
+use Prim.Native.Nat.{ℕ, ◌+◌, ◌<◌}
 use native.Mathlib.Decide.{ℕ_discrete}
-use native.Mathlib.Numerals.{add-one}
 use native.Mathlib.Omega.{arith}
 use lib.ListN.{length, get_or, drop}
-use lib.Seq.{drop-cons, drop-length, drop-drop}
 use borrow.Author.Tests.{eq-eqb, ne_eqb}
 use Rattle.sheet.specs.Text.{comma}
 use Rattle.sheet.specs.Commands.{up_to, first_field, later_fields}
-use Rattle.sheet.specs.Fields.{end_from, field_at}
-use Rattle.sheet.proofs.Fields.{up_to-stop, up_to-other, field-up_to, end-within, end-stops}
-use Rattle.reader.specs.Reading.{Separator}
+use Rattle.sheet.proofs.Fields.{up_to-length, up_to-stop, up_to-other}
+use Rattle.reader.specs.Reading.{number-there}
 
--- the end of the field that starts at a place is the end seen from a later place in it
-module _ (stop : ℕ) (line : List ℕ) (at : ℕ) where
-  pub end-stop : at < length line → get_or line at 0 ≡ stop → at ≡ end_from stop line at
-  end-stop h e =
-      let l : length (up_to stop (drop at line)) ≡ 0
-      = ap (λ s. length (up_to stop s)) (drop-cons line at 0 h) ∙ ap length (up_to-stop stop (get_or line at 0) (drop (suc at) line) e) in
+-- the field that bytes begin with ends where the byte that ends it stands first, or with them
+stops-at : (stop : ℕ) (bs : List ℕ) → position_or_len (λ b. eqb b stop) bs ≡ length (up_to stop bs)
+unfolding up_to
+stops-at stop [] = refl
+stops-at stop (b ∷ bs) = go (eqb b stop) (stops-at stop bs)
+  where
+    go : (t : Bool) → position_or_len (λ b. eqb b stop) bs ≡ length (up_to stop bs)
+        → cond (not t) (1 + position_or_len (λ b. eqb b stop) bs) 0 ≡ length (cond t [] (b ∷ up_to stop bs))
+    go true e = refl
+    go false e = omega arith
+
+abbrev pub Found : ℕ → List ℕ → Option ℕ → Type 0
+Found stop bs r = r ≡ cond (ltb (position_or_len (λ b. eqb b stop) bs) (length bs)) (Some (position_or_len (λ b. eqb b stop) bs)) None
+
+module _ (stop : ℕ) (bs : List ℕ) {r : Option ℕ} (f : Found stop bs r) where
+  pub found-at : (n : ℕ) → r ≡ Some n → n ≡ length (up_to stop bs)
+  found-at n e = sym (cond_some _ _ n (sym f ∙ e)).1 ∙ stops-at stop bs
+
+  pub found-none : r ≡ None → length bs ≡ length (up_to stop bs)
+  found-none e =
+      let none : ltb (position_or_len (λ b. eqb b stop) bs) (length bs) ≡ false = sym (number-there _ _) ∙ ap is_some (sym f ∙ e) in
+      let h = ltb-false _ _ none in
+      let l = up_to-length stop bs in
+      let s = stops-at stop bs in
       omega arith
-
-  pub end-other : at < length line → get_or line at 0 ≢ stop → end_from stop line at ≡ end_from stop line (at + 1)
-  end-other h f =
-      let l : length (up_to stop (drop at line)) ≡ suc (length (up_to stop (drop (suc at) line)))
-      = ap (λ s. length (up_to stop s)) (drop-cons line at 0 h) ∙ ap length (up_to-other stop (get_or line at 0) (drop (suc at) line) f) in
-      let m : length (up_to stop (drop (at + 1) line)) ≡ length (up_to stop (drop (suc at) line)) = ap (λ n. length (up_to stop (drop n line))) (add-one at) in
-      omega arith
-
-  pub end_line : at ≡ length line → at ≡ end_from stop line at
-  unfolding up_to
-  end_line e =
-      let l : length (up_to stop (drop at line)) ≡ 0
-      = ap (λ n. length (up_to stop (drop n line))) e ∙ ap (λ s. length (up_to stop s)) (drop-length line) in
-      omega arith
-
--- a comma or the end of the line stands behind a field, and the later fields begin there
-pub end-separator : (line : List ℕ) (from : ℕ) → from ≤ length line → Separator line (end_from comma line from)
-end-separator line from h = record { within = end-within comma line from h; comma = end-stops comma line from }
 
 later-comma : (b : ℕ) (bs : List ℕ) → b ≡ comma → later_fields (b ∷ bs) ≡ first_field bs ∷ later_fields bs
 unfolding later_fields
@@ -50,23 +53,32 @@ later-other : (b : ℕ) (bs : List ℕ) → b ≢ comma → later_fields (b ∷ 
 unfolding later_fields
 later-other b bs f = rw (ne_eqb b comma f) refl
 
-pub later-behind : (line : List ℕ) → later_fields line ≡ later_fields (drop (length (first_field line)) line)
-unfolding up_to
-later-behind [] = refl
-later-behind (b ∷ bs) = go (ℕ_discrete b comma) (later-behind bs)
+-- cut at its commas, a line is its first field and the later ones
+pub cut-fields : (line : List ℕ) → slice_split (λ b. eqb b comma) line ≡ first_field line ∷ later_fields line
+unfolding up_to later_fields
+cut-fields [] = refl
+cut-fields (b ∷ bs) = go (ℕ_discrete b comma) (cut-fields bs)
   where
-    go : Dec (b ≡ comma) → later_fields bs ≡ later_fields (drop (length (first_field bs)) bs)
-        → later_fields (b ∷ bs) ≡ later_fields (drop (length (first_field (b ∷ bs))) (b ∷ bs))
-    go (yes e) h = rw (up_to-stop comma b bs e) refl
-    go (no f) h = rw (up_to-other comma b bs f) (later-other b bs f ∙ h)
+    go : Dec (b ≡ comma) → slice_split (λ b. eqb b comma) bs ≡ first_field bs ∷ later_fields bs
+        → slice_split (λ b. eqb b comma) (b ∷ bs) ≡ first_field (b ∷ bs) ∷ later_fields (b ∷ bs)
+    go (yes e) h =
+        slice_split-cons_yes (λ b. eqb b comma) b bs (eq-eqb b comma e)
+        ∙ ap (λ fs. [] ∷ fs) h
+        ∙ sym (ap₂ (λ f fs. f ∷ fs) (up_to-stop comma b bs e) (later-comma b bs e))
+    go (no f) h =
+        slice_split-cons_no (λ b. eqb b comma) b bs (ne_eqb b comma f)
+        ∙ ap (onto_first b) h
+        ∙ sym (ap₂ (λ f fs. f ∷ fs) (up_to-other comma b bs f) (later-other b bs f))
 
-pub next_field : (line : List ℕ) (at : ℕ) → Separator line at → at < length line
-    → later_fields (drop at line) ≡ field_at comma line (at + 1) ∷ later_fields (drop (end_from comma line (at + 1)) line)
-next_field line at s h =
-    ap later_fields (drop-cons line at 0 h)
-    ∙ later-comma (get_or line at 0) (drop (suc at) line) (s.comma h)
-    ∙ ap (λ n. first_field (drop n line) ∷ later_fields (drop n line)) (sym (add-one at))
-    ∙ ap₂ (λ f fs. f ∷ fs) (sym (field-up_to comma line (at + 1))) (behind (at + 1))
-  where
-    behind : (from : ℕ) → later_fields (drop from line) ≡ later_fields (drop (end_from comma line from) line)
-    behind from = later-behind (drop from line) ∙ ap later_fields (drop-drop (length (first_field (drop from line))) from line)
+-- the field that comes when so many have come, of all behind the first
+module _ (line : List ℕ) where
+  rest-fields : drop 1 (slice_split (λ b. eqb b comma) line) ≡ later_fields line
+  rest-fields = ap (drop 1) (cut-fields line)
+
+  pub next_field : (n m : ℕ) (f : List ℕ) → n ≡ m
+      → (m < length (drop 1 (slice_split (λ b. eqb b comma) line))) × (f ≡ get_or (drop 1 (slice_split (λ b. eqb b comma) line)) m f)
+      → (n < length (later_fields line)) × (f ≡ get_or (later_fields line) n f)
+  next_field n m f e h = rw e (rw rest-fields at h)
+
+  pub last_field : (n m : ℕ) → n ≡ m → m ≡ length (drop 1 (slice_split (λ b. eqb b comma) line)) → n ≡ length (later_fields line)
+  last_field n m e h = e ∙ h ∙ ap length rest-fields

@@ -2,18 +2,18 @@
 -- Order: one more number; one more of the first; the invariant. Assumes nothing.
 use mathlib.Core.Path.{◌≡◌, refl, ap, ap₂, sym, ◌∙◌}
 use mathlib.Core.Bool.{Bool, true, false, ◌&&◌, false≢true}
-use mathlib.Core.List.{List, [], ◌∷◌, ◌++◌, map, append_assoc, append-nil}
-use Prim.Native.Nat.{ℕ, ◌+◌, ◌-◌, ◌<◌, ◌≤◌}
+use mathlib.Core.List.{List, [], ◌∷◌, ◌++◌, map}
+use Prim.Native.Nat.{ℕ, suc, ◌+◌, ◌<◌, ◌≤◌}
 use native.Mathlib.Omega.{arith}
-use lib.ListN.{length, set, take, drop, length-append, length-map, drop_of_length-le}
-use lib.Seq.{set_out}
+use lib.ListN.{length, get_or, set, take, drop, length-map}
+use lib.Seq.{set_out, take_all, drop-cons}
+use Rattle.std.proofs.Common.{take-suc, length-take-le}
+use Rattle.std.proofs.lemmas.List.{take-append-drop}
+use native.Mathlib.Numerals.{add-one}
 use Rattle.base.specs.Tests.{all_of}
-use Rattle.reader.specs.declared.Number.{Number}
-use Rattle.sheet.specs.Text.{comma}
-use Rattle.sheet.specs.Commands.{later_fields, ten, largest_number, is_number, value}
-use Rattle.sheet.specs.Fields.{end_from, field_at}
-use Rattle.reader.specs.Reading.{number_of, is-number, number_is, not-number, Separator, first_numbers, NumbersOf}
-use Rattle.reader.proofs.Fields.{end-separator, next_field}
+use Rattle.std.specs.Prelude.{Option, Some, None}
+use Rattle.sheet.specs.Commands.{ten, largest_number, is_number, value}
+use Rattle.reader.specs.Reading.{number_of, is-number, number_is, not-number, first_numbers, numbers_of}
 
 -- what is appended to numbers, and their values
 all_append : (f : List ℕ → Bool) (xs ys : List (List ℕ)) → all_of f xs ≡ true → all_of f (xs ++ ys) ≡ all_of f ys
@@ -40,82 +40,70 @@ first-snoc (a ∷ b ∷ c ∷ d ∷ []) n = refl
 first-snoc (a ∷ b ∷ c ∷ d ∷ e ∷ []) n = refl
 first-snoc (a ∷ b ∷ c ∷ d ∷ e ∷ f ∷ ns) n = refl
 
--- the fields `done` have been read as numbers, and `at` is where the last of them ends
-pub record Gathered (line : List ℕ) (start : ℕ) (values : List ℕ) (count at : ℕ) : Type 0 where
-  pub done : List (List ℕ)
-  pub separator : Separator line at
-  pub fields : later_fields (drop start line) ≡ done ++ later_fields (drop at line)
-  pub valid : all_of (is_number ten largest_number) done ≡ true
-  pub counted : count ≡ length done
-  pub few : count ≤ at
-  pub stored : values ≡ first_numbers (map (value ten) done)
+-- so many of the fields have been read as numbers
+pub record Gathered (fields : List (List ℕ)) (values : List ℕ) (count : ℕ) : Type 0 where
+  pub within : count ≤ length fields
+  pub valid : all_of (is_number ten largest_number) (take count fields) ≡ true
+  pub stored : values ≡ first_numbers (map (value ten) (take count fields))
 
-pub none : (line : List ℕ) (start : ℕ) → Separator line start → Gathered line start (0 ∷ 0 ∷ 0 ∷ 0 ∷ 0 ∷ 0 ∷ []) 0 start
+pub none : (fields : List (List ℕ)) → Gathered fields (0 ∷ 0 ∷ 0 ∷ 0 ∷ 0 ∷ 0 ∷ []) 0
 unfolding all_of first_numbers
-none line start s = record { done = []; separator = s; fields = refl; valid = refl; counted = refl; few = omega arith; stored = refl }
+none fields = record { within = omega arith; valid = refl; stored = refl }
 
--- the next field is the part of the line from behind the separator to `end`
-module _ {line : List ℕ} {start : ℕ} {values : List ℕ} {count at : ℕ} (g : Gathered line start values count at) (h : at < length line) where
-  fields-next : later_fields (drop start line) ≡ g.done ++ field_at comma line (at + 1) ∷ later_fields (drop (end_from comma line (at + 1)) line)
-  fields-next = g.fields ∙ ap (λ fs. g.done ++ fs) (next_field line at g.separator h)
+-- the next field, and what is read in it
+module _ {fields : List (List ℕ)} {values : List ℕ} {count : ℕ} (g : Gathered fields values count) (field : List ℕ)
+    (h : (count < length fields) × (field ≡ get_or fields count field)) {read : Option ℕ} (r : read ≡ number_of ten largest_number field) where
+  done-next : take (count + 1) fields ≡ take count fields ++ (field ∷ [])
+  done-next =
+      ap (λ n. take n fields) (add-one count)
+      ∙ take-suc fields count field h.0
+      ∙ ap (λ f. take count fields ++ (f ∷ [])) (sym h.1)
 
-  one_more : (n : ℕ) → Number.Value n ≡ number_of ten largest_number (field_at comma line (at + 1))
-      → Gathered line start (set values count n) (count + 1) (end_from comma line (at + 1))
+  done_length : count ≡ length (map (value ten) (take count fields))
+  done_length = sym (length-map (take count fields) (value ten) ∙ length-take-le count fields g.within)
+
+  pub more : (n : ℕ) → read ≡ Some n → Gathered fields (set values count n) (count + 1)
   unfolding all_of
-  one_more n e =
-      let f : List ℕ = field_at comma line (at + 1) in
-      let few : count ≤ at = g.few in
+  more n e =
+      let s : Some n ≡ number_of ten largest_number field = sym e ∙ r in
+      let l = h.0 in
       record {
-        done = g.done ++ (f ∷ []);
-        separator = end-separator line (at + 1) (omega arith);
-        fields = fields-next ∙ sym (append_assoc g.done (f ∷ []) (later_fields (drop (end_from comma line (at + 1)) line)));
-        valid = all_append (is_number ten largest_number) g.done (f ∷ []) g.valid ∙ ap (λ b. b && true) (is-number ten largest_number f n e);
-        counted = ap (λ k. k + 1) g.counted ∙ sym (length-append g.done (f ∷ []));
-        few = omega arith;
+        within = omega arith;
+        valid =
+            ap (all_of (is_number ten largest_number)) done-next
+            ∙ all_append (is_number ten largest_number) (take count fields) (field ∷ []) g.valid
+            ∙ ap (λ b. b && true) (is-number ten largest_number field n s);
         stored =
-            ap₂ (λ vs k. set vs k n) g.stored (g.counted ∙ sym (length-map g.done (value ten)))
-            ∙ sym (first-snoc (map (value ten) g.done) n)
-            ∙ ap (λ v. first_numbers (map (value ten) g.done ++ (v ∷ []))) (number_is ten largest_number f n e)
-            ∙ ap first_numbers (sym (map_snoc (value ten) g.done f));
+            ap₂ (λ vs k. set vs k n) g.stored done_length
+            ∙ sym (first-snoc (map (value ten) (take count fields)) n)
+            ∙ ap (λ v. first_numbers (map (value ten) (take count fields) ++ (v ∷ []))) (number_is ten largest_number field n s)
+            ∙ ap first_numbers (sym (map_snoc (value ten) (take count fields) field) ∙ ap (map (value ten)) (sym done-next));
       }
 
-  not-all : Number.Nothing ≡ number_of ten largest_number (field_at comma line (at + 1))
-      → false ≡ all_of (is_number ten largest_number) (later_fields (drop start line))
-  unfolding all_of
-  not-all e =
-      let f : List ℕ = field_at comma line (at + 1) in
-      let fs : List (List ℕ) = later_fields (drop (end_from comma line (at + 1)) line) in
-      sym
-      (ap (all_of (is_number ten largest_number)) fields-next
-      ∙ all_append (is_number ten largest_number) g.done (f ∷ fs) g.valid
-      ∙ ap (λ b. b && all_of (is_number ten largest_number) fs) (not-number ten largest_number f e))
+  -- the number is left out where there are as many already
+  pub left_out : (n : ℕ) → 6 ≤ count → read ≡ Some n → Gathered fields values (count + 1)
+  unfolding first_numbers
+  left_out n many e =
+      let l : length values ≡ 6 = ap length g.stored in
+      rw (set_out values count n (omega arith)) at (more n e)
 
-  module _ (end : ℕ) (q : end ≡ end_from comma line (at + 1)) (read : Number)
-      (r : read ≡ number_of ten largest_number (take (end - (at + 1)) (drop (at + 1) line))) where
-    read_at : read ≡ number_of ten largest_number (field_at comma line (at + 1))
-    read_at = r ∙ ap (λ k. number_of ten largest_number (take (k - (at + 1)) (drop (at + 1) line))) q
+  pub broken : read ≡ None → None ≡ numbers_of fields
+  unfolding numbers_of all_of
+  broken e =
+      let rest : List (List ℕ) = drop (suc count) fields in
+      let parts : fields ≡ take count fields ++ (field ∷ rest)
+      = sym (take-append-drop count fields) ∙ ap (λ fs. take count fields ++ fs) (drop-cons fields count field h.0 ∙ ap (λ f. f ∷ rest) (sym h.1)) in
+      let bad : all_of (is_number ten largest_number) fields ≡ false
+      = ap (all_of (is_number ten largest_number)) parts
+      ∙ all_append (is_number ten largest_number) (take count fields) (field ∷ rest) g.valid
+      ∙ ap (λ b. b && all_of (is_number ten largest_number) rest) (not-number ten largest_number field (sym e ∙ r)) in
+      rw bad refl
 
-    pub more : (n : ℕ) → read ≡ Number.Value n → Gathered line start (set values count n) (count + 1) end
-    more n e = rw q (one_more n (sym e ∙ read_at))
-
-    -- the number is left out where there are as many already
-    pub left_out : (n : ℕ) → 6 ≤ count → read ≡ Number.Value n → Gathered line start values (count + 1) end
-    unfolding first_numbers
-    left_out n many e =
-        let l : length values ≡ 6 = ap length g.stored in
-        rw (set_out values count n (omega arith)) at (more n e)
-
-    pub broken : read ≡ Number.Nothing → NumbersOf (later_fields (drop start line)) (record { valid = false; count = 0; values = 0 ∷ 0 ∷ 0 ∷ 0 ∷ 0 ∷ 0 ∷ [] })
-    broken e = record { valid = not-all (sym e ∙ read_at); count = λ v. absurd (false≢true v); values = λ v. absurd (false≢true v) }
-
-pub all : {line : List ℕ} {start : ℕ} {values : List ℕ} {count at : ℕ} → Gathered line start values count at → length line ≤ at
-    → NumbersOf (later_fields (drop start line)) (record { valid = true; count = count; values = values })
-unfolding later_fields
-all {line} {start} {values} {count} {at} g h =
-    let d : drop at line ≡ [] = drop_of_length-le line h in
-    let e : later_fields (drop start line) ≡ g.done = g.fields ∙ ap (λ s. g.done ++ later_fields s) d ∙ append-nil g.done in
-    record {
-      valid = sym (ap (all_of (is_number ten largest_number)) e ∙ g.valid);
-      count = λ v. g.counted ∙ ap length (sym e);
-      values = λ v. g.stored ∙ ap (λ fs. first_numbers (map (value ten) fs)) (sym e);
-    }
+pub all : {fields : List (List ℕ)} {values : List ℕ} {count : ℕ} → Gathered fields values count → count ≡ length fields
+    → Some (record { count = count; values = values }) ≡ numbers_of fields
+unfolding numbers_of
+all {fields} {values} {count} g l =
+    let e : take count fields ≡ fields = take_all count fields (omega arith) in
+    let valid = rw e at g.valid in
+    let stored = rw e at g.stored in
+    rw (valid, l, stored) refl

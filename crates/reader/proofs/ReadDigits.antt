@@ -13,7 +13,7 @@ use lib.ListN.{length, get_or, drop}
 use lib.Seq.{drop-cons, drop-length}
 use borrow.Author.Tests.{le-leb, lt-leb, le-ltb, lt-ltb, eq-eqb}
 use Rattle.base.specs.Tests.{all_of}
-use Rattle.reader.specs.declared.Number.{Number}
+use Rattle.std.specs.Prelude.{Some, None}
 use Rattle.sheet.specs.Commands.{is_digit, value_from, value, no_leading_zero, is_number}
 use Rattle.reader.specs.Reading.{number_of, digits_from}
 
@@ -56,7 +56,7 @@ value_grows base n two (b ∷ bs) =
 
 -- one byte of the field
 module _ (base most : ℕ) where
-  digits-bad : (n b : ℕ) (bs : List ℕ) → is_digit base b ≡ false → digits_from base most n (b ∷ bs) ≡ Number.Nothing
+  digits-bad : (n b : ℕ) (bs : List ℕ) → is_digit base b ≡ false → digits_from base most n (b ∷ bs) ≡ None
   unfolding digits_from all_of
   digits-bad n b bs e = rw e refl
 
@@ -64,13 +64,13 @@ module _ (base most : ℕ) where
   unfolding digits_from all_of value_from
   digits-next n b bs e = rw e refl
 
-  digits-large : (n : ℕ) (field : List ℕ) → 2 ≤ base → most < n → digits_from base most n field ≡ Number.Nothing
+  digits-large : (n : ℕ) (field : List ℕ) → 2 ≤ base → most < n → digits_from base most n field ≡ None
   unfolding digits_from
   digits-large n field two h =
       let g = value_grows base n two field in
       rw (lt-leb (value_from base n field) most (omega arith), and-false (all_of (is_digit base) field)) refl
 
-  digits-end : (n : ℕ) → n ≤ most → digits_from base most n [] ≡ Number.Value n
+  digits-end : (n : ℕ) → n ≤ most → digits_from base most n [] ≡ Some n
   unfolding digits_from all_of value_from
   digits-end n h = rw (le-leb n most h) refl
 
@@ -84,7 +84,7 @@ pub none : (base most : ℕ) (field : List ℕ) → Reading base most field 0 0
 none base most field = record { within = omega arith; fits = omega arith; left = refl }
 
 module _ {base most : ℕ} {field : List ℕ} {value i : ℕ} (r : Reading base most field value i) (h : i < length field) where
-  reading-bad : is_digit base (get_or field i 0) ≡ false → Number.Nothing ≡ digits_from base most 0 field
+  reading-bad : is_digit base (get_or field i 0) ≡ false → None ≡ digits_from base most 0 field
   reading-bad e =
       sym
       (r.left
@@ -99,24 +99,24 @@ module _ {base most : ℕ} {field : List ℕ} {value i : ℕ} (r : Reading base 
       ∙ digits-next base most value (get_or field i 0) (drop (suc i) field) e
       ∙ ap (λ n. digits_from base most (value * base + (get_or field i 0 - 48)) (drop n field)) (sym (add-one i))
 
-  pub low : get_or field i 0 < 48 → Number.Nothing ≡ digits_from base most 0 field
+  pub low : get_or field i 0 < 48 → None ≡ digits_from base most 0 field
   low l = reading-bad (digit_low base (get_or field i 0) l)
 
   module _ (l : 48 ≤ get_or field i 0) where
-    pub high : base ≤ get_or field i 0 - 48 → Number.Nothing ≡ digits_from base most 0 field
+    pub high : base ≤ get_or field i 0 - 48 → None ≡ digits_from base most 0 field
     high u = reading-bad (digit-high base (get_or field i 0) u l)
 
     module _ (two : 2 ≤ base) (u : get_or field i 0 - 48 < base) where
       -- the number with this digit is too large: the digit alone is, or the digits before it are too many
-      large : most < value * base + (get_or field i 0 - 48) → Number.Nothing ≡ digits_from base most 0 field
+      large : most < value * base + (get_or field i 0 - 48) → None ≡ digits_from base most 0 field
       large b =
           sym (reading-next (digit-within base (get_or field i 0) l u) ∙ digits-large base most (value * base + (get_or field i 0 - 48)) (drop (i + 1) field) two b)
 
-      pub large-digit : most < get_or field i 0 - 48 → Number.Nothing ≡ digits_from base most 0 field
+      pub large-digit : most < get_or field i 0 - 48 → None ≡ digits_from base most 0 field
       large-digit d = large (omega arith)
 
       module _ (d : get_or field i 0 - 48 ≤ most) where
-        pub large-value : (most - (get_or field i 0 - 48)) / base < value → Number.Nothing ≡ digits_from base most 0 field
+        pub large-value : (most - (get_or field i 0 - 48)) / base < value → None ≡ digits_from base most 0 field
         large-value q = large (next-large base most value (get_or field i 0 - 48) two d q)
 
         pub next : value ≤ (most - (get_or field i 0 - 48)) / base → Reading base most field (value * base + (get_or field i 0 - 48)) (i + 1)
@@ -128,7 +128,7 @@ module _ {base most : ℕ} {field : List ℕ} {value i : ℕ} (r : Reading base 
             }
 
 pub end : {base most : ℕ} {field : List ℕ} {value i : ℕ} → Reading base most field value i → length field ≤ i
-    → Number.Value value ≡ digits_from base most 0 field
+    → Some value ≡ digits_from base most 0 field
 end {base} {most} {field} {value} {i} r h =
     let w : i ≤ length field = r.within in
     let e : i ≡ length field = omega arith in
@@ -144,7 +144,7 @@ module _ (base most : ℕ) (field : List ℕ) where
   unfolding number_of is_number digits_from value
   number-of-digits e = rw e refl
 
-  pub no_number : no_leading_zero field ≡ false → Number.Nothing ≡ number_of base most field
+  pub no_number : no_leading_zero field ≡ false → None ≡ number_of base most field
   unfolding number_of is_number
   no_number e = rw e refl
 

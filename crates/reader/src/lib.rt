@@ -2,62 +2,53 @@
 #![tactic(auto)]
 
 ghost use Rattle.std.specs.Prelude.{◌≡◌, List, ℕ, ◌+◌, ◌≤◌, length, drop};
-ghost use Rattle.reader.specs.Reading.{number_of, digits_from, Separator, first_numbers, NumbersOf};
+ghost use Rattle.reader.specs.Reading.{number_of, digits_from, first_numbers, numbers_of};
 ghost use Rattle.sheet.specs.Commands.{up_to, later_fields, command_with, command_of};
 
 use lines::LINE_LIMIT;
 use sheet::{Command, TEN};
 
-// What stands in a field: a number, or no number.
-#[derive(Clone, Copy)]
-pub enum Number {
-    Value(u64),
-    Nothing,
-}
-
-const LARGEST_NUMBER: u64 = 4294967295;
+// R247: the largest number of a sheet.
+const LARGEST_NUMBER: u64 = u32::MAX as u64;
 
 // The number of a field that may have leading zeros, in digits of the base, if it is at most `most`. Before it takes a digit in it sees
 // whether the number stays within, so that nothing wraps even where `most` is the largest u64.
-fn read_digits(field: &[u8], base: u64, most: u64) -> Number
+fn read_digits(field: &[u8], base: u64, most: u64) -> Option<u64>
     requires { 2 ≤ base }
     ensures { result ≡ digits_from base most 0 field.now }
 {
     let mut value: u64 = 0;
-    let mut i = 0;
-    while i < field.len() {
-        let b = field[i];
+    for &b in field {
         if b < b'0' {
-            return Number::Nothing;
+            return None;
         }
         let digit = (b - b'0') as u64;
         if base <= digit {
-            return Number::Nothing;
+            return None;
         }
         if most < digit {
-            return Number::Nothing;
+            return None;
         }
         if (most - digit) / base < value {
-            return Number::Nothing;
+            return None;
         }
         value = value * base + digit;
-        i += 1;
     }
-    Number::Value(value)
+    Some(value)
 }
 
 // The number of a field, in digits of the base, if it is at most `most`.
-pub fn read_number(field: &[u8], base: u64, most: u64) -> Number
+pub fn read_number(field: &[u8], base: u64, most: u64) -> Option<u64>
     requires { 2 ≤ base }
     ensures { result ≡ number_of base most field.now }
 {
     let n = field.len();
     if n == 0 {
-        return Number::Nothing;
+        return None;
     }
     if 1 < n {
         if field[0] == b'0' {
-            return Number::Nothing;
+            return None;
         }
     }
     read_digits(field, base, most)
@@ -68,111 +59,71 @@ pub fn field_end(line: &[u8], at: usize, stop: u8) -> usize
     requires { at ≤ length line.now }
     ensures { result ≡ at + length (up_to stop (drop at line.now)) }
 {
-    let mut i = at;
-    while i < line.len() {
-        if line[i] == stop {
-            return i;
-        }
-        i += 1;
+    match line[at..].iter().position(|&b| b == stop) {
+        Some(n) => at + n,
+        None => line.len(),
     }
-    i
 }
 
 // No command takes more numbers.
 const MOST_NUMBERS: usize = 6;
 
-// The fields behind the first: how many there are, whether each is a number, and the first numbers, as many as a command can take.
+// The fields behind the first, each of them a number: how many there are, and the first of them, as many as a command can take.
 #[derive(Clone, Copy)]
 pub struct Numbers {
-    pub valid: bool,
     pub count: usize,
     pub values: [u32; MOST_NUMBERS],
 }
 
-// The fields behind the comma at `start`, or none where the line ends there. It stops at a field that is no number.
-fn read_numbers(line: &[u8], start: usize) -> Numbers
-    requires { Separator line.now start }
-    ensures { NumbersOf (later_fields (drop start line.now)) result }
+// The numbers of the fields behind the first. It stops at a field that is no number.
+fn read_numbers(line: &[u8]) -> Option<Numbers>
+    ensures { result ≡ numbers_of (later_fields line.now) }
 {
     let mut values = [0u32; MOST_NUMBERS];
     let mut count: usize = 0;
-    let mut at = start;
-    while at < line.len() {
-        let from = at + 1;
-        let end = field_end(line, from, b',');
-        match read_number(&line[from..end], TEN, LARGEST_NUMBER) {
-            Number::Value(n) => {
-                if count < MOST_NUMBERS {
-                    values[count] = n as u32;
-                }
-            }
-            Number::Nothing => {
-                return Numbers {
-                    valid: false,
-                    count: 0,
-                    values: [0u32; MOST_NUMBERS],
-                };
-            }
+    for field in line.split(|&b| b == b',').skip(1) {
+        let n = read_number(field, TEN, LARGEST_NUMBER)?;
+        if count < MOST_NUMBERS {
+            values[count] = n as u32;
         }
         count += 1;
-        at = end;
     }
-    Numbers {
-        valid: true,
-        count,
-        values,
-    }
+    Some(Numbers { count, values })
 }
 
 // The command of a letter and the numbers behind it.
+#[tactic(auto, unfolding(sheet::specs::Commands::command_with, crate::specs::Reading::first_numbers))]
 fn command_with(letter: u8, numbers: Numbers) -> Command
     ensures { (n : List ℕ) → numbers.count ≡ length n → numbers.values ≡ first_numbers n → result ≡ command_with letter n }
 {
-    let count = numbers.count;
     let v = numbers.values;
-    if letter == b'T' {
-        if count == 6 {
-            return Command::Make {
-                x: v[0],
-                y: v[1],
-                z: v[2],
-                e: v[3],
-                a: v[4],
-                j: v[5],
-            };
-        }
-        return Command::Bad;
+    match (letter, numbers.count) {
+        (b'T', 6) => Command::Make {
+            x: v[0],
+            y: v[1],
+            z: v[2],
+            e: v[3],
+            a: v[4],
+            j: v[5],
+        },
+        (b'O', 4) => Command::Offer {
+            node: v[0],
+            destination: v[1],
+            tag: v[2],
+            chunks: v[3],
+        },
+        (b'M', 3) => Command::Move {
+            node: v[0],
+            queue: v[1],
+            output: v[2],
+        },
+        (b'D', 1) => Command::Drain { budget: v[0] },
+        _ => Command::Bad,
     }
-    if letter == b'O' {
-        if count == 4 {
-            return Command::Offer {
-                node: v[0],
-                destination: v[1],
-                tag: v[2],
-                chunks: v[3],
-            };
-        }
-        return Command::Bad;
-    }
-    if letter == b'M' {
-        if count == 3 {
-            return Command::Move {
-                node: v[0],
-                queue: v[1],
-                output: v[2],
-            };
-        }
-        return Command::Bad;
-    }
-    if letter == b'D' {
-        if count == 1 {
-            return Command::Drain { budget: v[0] };
-        }
-    }
-    Command::Bad
 }
 
 // The command of a line without its end.
+#[tactic(auto, unfolding(crate::specs::Reading::numbers_of, sheet::specs::Commands::command_of, sheet::specs::Commands::well_formed))]
 pub fn read_command(line: &[u8]) -> Command
     ensures { result ≡ command_of line.now }
 {
@@ -183,10 +134,8 @@ pub fn read_command(line: &[u8]) -> Command
     if end != 1 {
         return Command::Bad;
     }
-    let numbers = read_numbers(line, end);
-    let valid = numbers.valid;
-    if valid {
-        return command_with(line[0], numbers);
-    }
-    Command::Bad
+    let Some(numbers) = read_numbers(line) else {
+        return Command::Bad;
+    };
+    command_with(line[0], numbers)
 }

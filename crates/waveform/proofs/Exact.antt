@@ -1,9 +1,11 @@
 -- R417: the reader takes nothing but the subset. Order: the bytes of a step; what holds of its time and its changes; the theorem; then its proof: bytes that
 -- begin with others; a byte and a field; a time stamp; a value line; value lines one after another; the header's names; its values; a step. Assumes nothing.
-use Rattle.std.specs.Prelude.{◌≡◌, refl, ◌≢◌, Bool, true, false, not, cond, ◌&&◌, List, [], ◌∷◌, ◌++◌, ℕ, zero, suc, ◌+◌, ◌-◌, ◌%◌, ◌≤◌, eqb, leb, length, get_or, drop}
-use Rattle.std.proofs.Common.{ap, ap₂, sym, ◌∙◌, subst, true≢false, append-nil, append_assoc, arith, ltb-true, leb-true, eqb-true, length-append, drop_of_length-le, drop-drop}
+use Rattle.std.specs.Prelude.{◌≡◌, refl, ◌≢◌, Bool, true, false, not, cond, Option, Some, None, List, [], ◌∷◌, ◌++◌, ℕ, zero, suc, ◌+◌, ◌-◌, ◌%◌, ◌≤◌, eqb, leb, length, get_or, drop}
+use Rattle.std.proofs.Common.{ap, ap₂, sym, ◌∙◌, subst, append-nil, append_assoc, arith, ltb-true, leb-true, eqb-true, length-append, drop_of_length-le, drop-drop}
 use Rattle.std.proofs.Math.Bool.{and-eq-true_iff}
 use Rattle.std.proofs.lemmas.Bool.{false≢true, eqb-false, not-true}
+use Rattle.std.specs.Option.{option_map_or}
+use Rattle.std.proofs.lemmas.Option.{cond_some, option_and_then_some}
 use Prim.Native.Char.{code}
 use Rattle.std.proofs.Math.Seq.{append_snoc}
 use Rattle.network.specs.Sizes.{queues}
@@ -16,7 +18,7 @@ use Rattle.waveform.specs.declared.ValueLine.{ValueLine}
 use Rattle.waveform.specs.declared.TimeStamp.{TimeStamp}
 use Rattle.waveform.specs.declared.Names.{Names}
 use Rattle.waveform.specs.Dump.{most_variables, variables_begin, variables_end, values_begin, values_end, variable_line, variable_lines, stamp_line, Change, two, value_line, value_lines}
-use Rattle.waveform.specs.Reading.{is_ended, behind, largest_time, is_stamp, read_stamp, largest_fill, blank, fill_field, variable_field, is_value_line, read_value, ValueRun, one_more, run_within, value_run, starts_with, variables_from, variables_in, behind_variables, are_names, read_names, needed_from, needed, behind_names, behind_stamp, read_later, header_stamp, header_values, tells_all, read_header, read_step}
+use Rattle.waveform.specs.Reading.{is_ended, behind, largest_time, is_stamp, read_stamp, largest_fill, blank, fill_field, variable_field, is_value_line, read_value, not_before, next_value, ValueRun, one_more, no_run, run_within, value_run, starts_with, variables_from, variables_in, behind_variables, are_names, read_names, needed_from, needed, Step, no_step, later_step, read_later, tells_all, header_step, read_stamped, read_header, read_step}
 use Rattle.waveform.proofs.StartLaws.{starts-split}
 use Rattle.waveform.specs.ReadingLaws.{Rising, names_of, step_of, header_of}
 use Rattle.waveform.proofs.ReadingLaws.{later-read, header_read}
@@ -46,20 +48,18 @@ field-begins base stop most bs two ended number =
     ∙ ap (λ f. f ++ (stop ∷ behind stop bs)) (sym (number-is-numeral base two most (up_to stop bs) number))
     ∙ sym (append_snoc (numeral base (value base (up_to stop bs))) stop (behind stop bs))
 
--- what a reader makes of bytes is the first of two where its test passes: if the second is not good, what is good is the first
-good-only : {A : Type 0} (P : A → Type 0) (good : A → Bool) (test : Bool) (x y : A) → good y ≡ false → (test ≡ true → P x) → good (cond test x y) ≡ true
-    → P (cond test x y)
-good-only P good true x y f p e = p refl
-good-only P good false x y f p e = absurd (true≢false (sym e ∙ f))
+-- what a reader makes of bytes where its test passes
+some-only : {A : Type 0} (P : A → Type 0) (test : Bool) (x y : A) → (test ≡ true → P x) → cond test (Some x) None ≡ Some y → P y
+some-only P test x y p e = let (t, same) = cond_some test x y e in subst P same (p t)
 
-stamp-only : (bs : List ℕ) → (read_stamp bs).good ≡ true → IsStamp bs (read_stamp bs)
+stamp-only : (bs : List ℕ) (s : TimeStamp) → read_stamp bs ≡ Some s → IsStamp bs s
 unfolding read_stamp is_stamp stamp_line
-stamp-only bs = good-only (IsStamp bs) (λ (s : TimeStamp). s.good) (is_stamp bs) _ _ refl stamp
+stamp-only bs s = some-only (IsStamp bs) (is_stamp bs) _ s stamp
   where
     field : List ℕ
     field = up_to lf (drop 1 bs)
 
-    stamp : is_stamp bs ≡ true → IsStamp bs (record { good = true; time = value ten field; length = length field + 2 })
+    stamp : is_stamp bs ≡ true → IsStamp bs (record { time = value ten field; length = length field + 2 })
     stamp t =
         let (first, t₁) = (and-eq-true_iff (eqb (get_or bs 0 0) (code "#")) _).0 t in
         let (ended, number) = (and-eq-true_iff (is_ended lf (drop 1 bs)) (is_number ten largest_time field)).0 t₁ in
@@ -73,9 +73,9 @@ stamp-only bs = good-only (IsStamp bs) (λ (s : TimeStamp). s.good) (is_stamp bs
           early = (number-parts ten largest_time field number).small;
         }
 
-value-only : (bs : List ℕ) → (read_value bs).good ≡ true → IsValue bs (read_value bs)
+value-only : (bs : List ℕ) (l : ValueLine) → read_value bs ≡ Some l → IsValue bs l
 unfolding read_value is_value_line value_line
-value-only bs = good-only (IsValue bs) (λ (l : ValueLine). l.good) (is_value_line bs) _ _ refl line
+value-only bs l = some-only (IsValue bs) (is_value_line bs) _ l line
   where
     middle : List ℕ
     middle = behind blank (drop 1 bs)
@@ -89,7 +89,7 @@ value-only bs = good-only (IsValue bs) (λ (l : ValueLine). l.good) (is_value_li
     m : ℕ
     m = length (variable_field bs)
 
-    line : is_value_line bs ≡ true → IsValue bs (record { good = true; variable = c.variable; fill = c.fill; length = n + m + 3 })
+    line : is_value_line bs ≡ true → IsValue bs (record { variable = c.variable; fill = c.fill; length = n + m + 3 })
     line t =
         let (first, t₁) = (and-eq-true_iff (eqb (get_or bs 0 0) (code "b")) _).0 t in
         let (fill_ended, t₂) = (and-eq-true_iff (is_ended blank (drop 1 bs)) _).0 t₁ in
@@ -111,28 +111,34 @@ value-only bs = good-only (IsValue bs) (λ (l : ValueLine). l.good) (is_value_li
           small = record { variable = omega arith; fill = (number-parts two largest_fill (fill_field bs) fill_number).small };
         }
 
+-- one that goes on with a run
+from-only : (from : ℕ) (bs : List ℕ) (l : ValueLine) → next_value from bs ≡ Some l → IsValue bs l × (from ≤ l.variable)
+unfolding next_value
+from-only from bs l e =
+    option_and_then_some (not_before from) (read_value bs) l e
+    (λ m is e. let (t, same) = cond_some (leb from m.variable) m l e in
+    subst (λ (k : ValueLine). IsValue bs k × (from ≤ k.variable)) same (value-only bs m is, leb-true from m.variable t))
+
 runs-only : (lines from : ℕ) (bs : List ℕ) → IsRun from bs (run_within lines from bs)
 unfolding run_within one_more value_lines Rising
 runs-only zero from bs = record { begins = refl; rising = tt }
 runs-only (suc lines) from bs =
-    go (l.good && leb from l.variable) refl (runs-only lines (suc l.variable) (drop l.length bs))
+    go (next_value from bs) (from-only from bs) (λ l. runs-only lines (suc l.variable) (drop l.length bs))
   where
-    l : ValueLine
-    l = read_value bs
+    rest : ValueLine → ValueRun
+    rest l = run_within lines (suc l.variable) (drop l.length bs)
 
-    rest : ValueRun
-    rest = run_within lines (suc l.variable) (drop l.length bs)
-
-    go : (t : Bool) → l.good && leb from l.variable ≡ t → IsRun (suc l.variable) (drop l.length bs) rest
-        → IsRun from bs (cond t (one_more l rest) (record { changes = []; length = 0 }))
-    go true t r =
-        let (good, rises) = (and-eq-true_iff l.good (leb from l.variable)).0 t in
-        let v : IsValue bs l = value-only bs good in
+    go : (o : Option ValueLine) → ((l : ValueLine) → o ≡ Some l → IsValue bs l × (from ≤ l.variable))
+        → ((l : ValueLine) → IsRun (suc l.variable) (drop l.length bs) (rest l))
+        → IsRun from bs (option_map_or (λ l. one_more l (rest l)) o no_run)
+    go (Some l) only next =
+        let (v, rises) = only l refl in
+        let r = next l in
         record {
-          begins = begins-more bs (value_line (change_of l)) (value_lines rest.changes) l.length rest.length v.begins r.begins;
-          rising = (v.small, leb-true from l.variable rises, r.rising);
+          begins = begins-more bs (value_line (change_of l)) (value_lines (rest l).changes) l.length (rest l).length v.begins r.begins;
+          rising = (v.small, rises, r.rising);
         }
-    go false t r = record { begins = refl; rising = tt }
+    go None only next = record { begins = refl; rising = tt }
 
 run_only : (bs : List ℕ) → IsRun 0 bs (value_run bs)
 unfolding value_run
@@ -163,9 +169,9 @@ count-only (suc more) i bs = go (starts_with (variable_line i) bs) refl (count-o
         }
     go false t c = record { count = 0; is = omega arith; few = omega arith; begins = refl }
 
-names-only : (bs : List ℕ) → (read_names bs).good ≡ true → IsNames bs (read_names bs)
+names-only : (bs : List ℕ) (n : Names) → read_names bs ≡ Some n → IsNames bs n
 unfolding read_names are_names
-names-only bs = good-only (IsNames bs) (λ (n : Names). n.good) (are_names bs) _ _ refl names
+names-only bs n = some-only (IsNames bs) (are_names bs) _ n names
   where
     count : ℕ
     count = variables_in bs
@@ -173,7 +179,7 @@ names-only bs = good-only (IsNames bs) (λ (n : Names). n.good) (are_names bs) _
     lines : List ℕ
     lines = variable_lines 0 count
 
-    names : are_names bs ≡ true → IsNames bs (record { good = true; count = variables_in bs; length = behind_variables bs + length variables_end })
+    names : are_names bs ≡ true → IsNames bs (record { count = variables_in bs; length = behind_variables bs + length variables_end })
     names t =
         let (opened, t₁) = (and-eq-true_iff (starts_with variables_begin bs) _).0 t in
         let (some, t₂) = (and-eq-true_iff (not (eqb count 0)) _).0 t₁ in
@@ -234,54 +240,65 @@ values-only count bs t =
     }
 
 -- R415: a later step, and a header
-later-only : (bs : List ℕ) → (read_later bs).good ≡ true → StepIn bs (read_later bs)
-unfolding read_later bytes_of
-later-only bs t =
-    let rest : List ℕ = behind_stamp bs in
-    let (good, end) = (and-eq-true_iff (read_stamp bs).good (eqb (value_run rest).length (length rest))).0 t in
-    let s : IsStamp bs (read_stamp bs) = stamp-only bs good in
+later-step : (bs : List ℕ) (s : TimeStamp) → IsStamp bs s → (later_step s (drop s.length bs)).good ≡ true → StepIn bs (later_step s (drop s.length bs))
+unfolding later_step bytes_of
+later-step bs s i end =
+    let rest : List ℕ = drop s.length bs in
     let r : IsRun 0 rest (value_run rest) = run_only rest in
     record {
       bytes =
-          s.begins
-          ∙ ap (λ l. stamp_line (read_stamp bs).time ++ l)
+          i.begins
+          ∙ ap (λ l. stamp_line s.time ++ l)
           (begins-all rest (value_lines (value_run rest).changes) (value_run rest).length (eqb-true (value_run rest).length (length rest) end) r.begins);
-      early = s.early;
+      early = i.early;
       rising = r.rising;
       all = λ h. absurd (false≢true h);
     }
 
-header-only : (bs : List ℕ) → (read_header bs).good ≡ true → StepIn bs (read_header bs)
-unfolding read_header header_stamp header_values bytes_of
-header-only bs t =
-    let middle : List ℕ = behind_names bs in
-    let rest : List ℕ = behind_stamp middle in
+header-step : (bs : List ℕ) (n : Names) (s : TimeStamp) → IsNames bs n → IsStamp (drop n.length bs) s
+    → (header_step n s (drop s.length (drop n.length bs))).good ≡ true
+    → StepIn bs (header_step n s (drop s.length (drop n.length bs)))
+unfolding header_step bytes_of
+header-step bs n s i j t =
+    let rest : List ℕ = drop s.length (drop n.length bs) in
     let values : List ℕ = drop (length values_begin) rest in
-    let time : ℕ = (read_stamp middle).time in
-    let count : ℕ = (read_names bs).count in
-    let (named, t₁) = (and-eq-true_iff (read_names bs).good _).0 t in
-    let (stamped, t₂) = (and-eq-true_iff (read_stamp middle).good _).0 t₁ in
-    let (opened, told) = (and-eq-true_iff (starts_with values_begin rest) (tells_all count values)).0 t₂ in
-    let n : IsNames bs (read_names bs) = names-only bs named in
-    let s : IsStamp middle (read_stamp middle) = stamp-only middle stamped in
-    let v : AreValues count values (value_run values).changes = values-only count values told in
-    let e : count ≡ length (value_run values).changes = v.long in
+    let (opened, told) = (and-eq-true_iff (starts_with values_begin rest) (tells_all n.count values)).0 t in
+    let v : AreValues n.count values (value_run values).changes = values-only n.count values told in
+    let e : n.count ≡ length (value_run values).changes = v.long in
     record {
       bytes =
-          n.begins
-          ∙ ap (names_of count)
-          (s.begins ∙ ap (λ l. stamp_line time ++ l) (starts-split values_begin rest opened ∙ ap (λ l. values_begin ++ l) v.bytes))
-          ∙ ap (λ k. header_of k time (value_run values).changes) e;
-      early = s.early;
+          i.begins
+          ∙ ap (names_of n.count)
+          (j.begins ∙ ap (λ l. stamp_line s.time ++ l) (starts-split values_begin rest opened ∙ ap (λ l. values_begin ++ l) v.bytes))
+          ∙ ap (λ k. header_of k s.time (value_run values).changes) e;
+      early = j.early;
       rising = v.rising;
       all =
           λ h. record {
-            some = subst (λ k. 1 ≤ k) e n.some;
-            few = subst (λ k. k ≤ most_variables) e n.few;
-            whole = subst (λ k. k % queues ≡ 0) e n.whole;
+            some = subst (λ k. 1 ≤ k) e i.some;
+            few = subst (λ k. k ≤ most_variables) e i.few;
+            whole = subst (λ k. k % queues ≡ 0) e i.whole;
             ordered = v.ordered;
           };
     }
+
+-- what is made of what was read, or no step: if it is good, something was read, and made good
+good-only : {A : Type 0} (bs : List ℕ) (step : A → Step) (o : Option A) → ((x : A) → o ≡ Some x → (step x).good ≡ true → StepIn bs (step x))
+    → (option_map_or step o no_step).good ≡ true
+    → StepIn bs (option_map_or step o no_step)
+good-only bs step (Some x) made g = made x refl g
+good-only bs step None made g = absurd (false≢true g)
+
+later-only : (bs : List ℕ) → (read_later bs).good ≡ true → StepIn bs (read_later bs)
+unfolding read_later
+later-only bs = good-only bs (λ s. later_step s (drop s.length bs)) (read_stamp bs) (λ s e. later-step bs s (stamp-only bs s e))
+
+header-only : (bs : List ℕ) → (read_header bs).good ≡ true → StepIn bs (read_header bs)
+unfolding read_header read_stamped
+header-only bs =
+    good-only bs (λ n. read_stamped n (drop n.length bs)) (read_names bs)
+    (λ n e. good-only bs (λ s. header_step n s (drop s.length (drop n.length bs))) (read_stamp (drop n.length bs))
+    (λ s f. header-step bs n s (names-only bs n e) (stamp-only (drop n.length bs) s f)))
 
 -- R417
 pub only-steps : OnlySteps

@@ -1,6 +1,6 @@
 -- Laws of what the reader makes of bytes: of a step's bytes it makes that step. Order: a field that holds a number; a time stamp; a value line; value lines
 -- one after another; the changes of a step; what they leave in a list; the header's names; a step. Assumes nothing.
-use Rattle.std.specs.Prelude.{◌≡◌, refl, Bool, true, false, cond, List, [], ◌∷◌, ◌++◌, ℕ, zero, suc, ◌+◌, ◌-◌, ◌%◌, ◌<◌, ◌≤◌, eqb, ltb, length, get_or, take, drop, set}
+use Rattle.std.specs.Prelude.{◌≡◌, refl, Bool, true, false, cond, Some, None, List, [], ◌∷◌, ◌++◌, ℕ, zero, suc, ◌+◌, ◌-◌, ◌%◌, ◌<◌, ◌≤◌, eqb, ltb, length, get_or, take, drop, set}
 use Rattle.std.proofs.Common.{ap, sym, ◌∙◌, true≢false, append-nil, append_assoc, not-suc-le-zero, add-one, arith, lt-ltb, le-leb, eq-eqb, ne_eqb, eqb-true, length-append, drop-drop, drop-cons, take-suc, length-take-le}
 use Prim.Native.Char.{code}
 use Rattle.std.proofs.lemmas.Bool.{not-false}
@@ -13,7 +13,7 @@ use Rattle.sheet.specs.Output.{numeral, decimal}
 use Rattle.sheet.proofs.Fields.{up_to-before, digits-lack}
 use Rattle.sheet.proofs.Numerals.{numeral-digits, numeral-is-number, value-numeral}
 use Rattle.waveform.specs.Dump.{most_variables, variables_begin, variables_end, values_begin, values_end, variable_line, variable_lines, stamp_line, Change, two, value_line, value_lines, tells, changes_to, changes, step_bytes}
-use Rattle.waveform.specs.Reading.{behind, largest_time, is_stamp, read_stamp, largest_fill, blank, is_value_line, read_value, ValueRun, one_more, run_within, value_run, starts_with, variables_from, variables_in, are_names, read_names, needed_from, needed, read_later, header_stamp, header_values, tells_all, read_header, read_step, applied}
+use Rattle.waveform.specs.Reading.{behind, largest_time, is_stamp, read_stamp, largest_fill, blank, is_value_line, read_value, next_value, ValueRun, one_more, run_within, value_run, starts_with, variables_from, variables_in, are_names, read_names, needed_from, needed, later_step, read_later, tells_all, header_step, read_stamped, read_header, read_step, applied}
 use Rattle.waveform.proofs.Lengths.{stamp-length, value-length}
 use Rattle.waveform.specs.DumpLaws.{change_at}
 use Rattle.waveform.proofs.StartLaws.{starts-append}
@@ -44,16 +44,16 @@ unfolding stamp_line
 stamp-front time rest = ap (λ l. code "#" ∷ l) (append_snoc (decimal time) lf rest)
 
 stamp-field : (bs : List ℕ) (time : ℕ) (rest : List ℕ) → Field ten lf largest_time bs time rest
-    → read_stamp (code "#" ∷ bs) ≡ record { good = true; time = time; length = length (decimal time) + 2 }
+    → read_stamp (code "#" ∷ bs) ≡ Some (record { time = time; length = length (decimal time) + 2 })
 unfolding read_stamp is_stamp
 stamp-field bs time rest f = rw (f.ended, f.number, f.tells, f.long) refl
 
 pub stamp-read : (time : ℕ) (rest : List ℕ) → time ≤ largest_time
-    → read_stamp (stamp_line time ++ rest) ≡ record { good = true; time = time; length = length (stamp_line time) }
+    → read_stamp (stamp_line time ++ rest) ≡ Some (record { time = time; length = length (stamp_line time) })
 stamp-read time rest h =
     ap read_stamp (stamp-front time rest)
     ∙ stamp-field (decimal time ++ (lf ∷ rest)) time rest (numeral-field ten lf largest_time time rest (omega arith) (omega arith) h)
-    ∙ ap (λ n. record { good = true; time = time; length = n }) (sym (stamp-length time))
+    ∙ ap (λ n. Some (record { time = time; length = n })) (sym (stamp-length time))
 
 -- R405: a value line, whatever stands behind it
 value-front : (c : Change) (rest : List ℕ) → value_line c ++ rest ≡ code "b" ∷ (numeral two c.fill ++ (blank ∷ (decimal c.variable ++ (lf ∷ rest))))
@@ -66,44 +66,39 @@ value-front c rest =
 value-fields : (bs : List ℕ) (c : Change) (middle rest : List ℕ) → Field two blank largest_fill bs c.fill middle
     → Field ten lf (most_variables - 1) middle c.variable rest
     → read_value (code "b" ∷ bs)
-    ≡ record {
-      good = true;
-      variable = c.variable;
-      fill = c.fill;
-      length = length (numeral two c.fill) + length (decimal c.variable) + 3;
-    }
+    ≡ Some (record { variable = c.variable; fill = c.fill; length = length (numeral two c.fill) + length (decimal c.variable) + 3 })
 unfolding read_value is_value_line
 value-fields bs c middle rest f g =
     rw (f.leaves, f.ended, f.number, f.tells, f.long, g.ended, g.number, g.tells, g.long) refl
 
-pub value_read : (c : Change) (rest : List ℕ) → Small c → read_value (value_line c ++ rest) ≡ line_of c
+pub value_read : (c : Change) (rest : List ℕ) → Small c → read_value (value_line c ++ rest) ≡ Some (line_of c)
 value_read c rest s =
     let v : c.variable < most_variables = s.variable in
     ap read_value (value-front c rest)
     ∙ value-fields (numeral two c.fill ++ (blank ∷ (decimal c.variable ++ (lf ∷ rest)))) c (decimal c.variable ++ (lf ∷ rest)) rest
     (numeral-field two blank largest_fill c.fill (decimal c.variable ++ (lf ∷ rest)) (omega arith) (omega arith) s.fill)
     (numeral-field ten lf (most_variables - 1) c.variable rest (omega arith) (omega arith) (omega arith))
-    ∙ ap (λ n. record { good = true; variable = c.variable; fill = c.fill; length = n }) (sym (value-length c))
+    ∙ ap (λ n. Some (record { variable = c.variable; fill = c.fill; length = n })) (sym (value-length c))
 
 -- no value line stands where the bytes begin otherwise, or there are none
-pub value-missing : (bs : List ℕ) → eqb (get_or bs 0 0) (code "b") ≡ false → (read_value bs).good ≡ false
+pub value-missing : (bs : List ℕ) → eqb (get_or bs 0 0) (code "b") ≡ false → read_value bs ≡ None
 unfolding read_value is_value_line
 value-missing bs e = rw e refl
 
 run_more : (lines from : ℕ) (c : Change) (rest : List ℕ) → Small c → from ≤ c.variable
     → run_within (suc lines) from (value_line c ++ rest) ≡ before c (run_within lines (suc c.variable) rest)
-unfolding run_within one_more
+unfolding next_value run_within one_more
 run_more lines from c rest s h =
     rw (value_read c rest s, le-leb from c.variable h)
     (ap (λ bs. before c (run_within lines (suc c.variable) bs)) (drop-append_seam (value_line c) rest))
 
-run_end : (lines from : ℕ) (rest : List ℕ) → (read_value rest).good ≡ false → run_within lines from rest ≡ ran []
-unfolding run_within value_lines
+run_end : (lines from : ℕ) (rest : List ℕ) → read_value rest ≡ None → run_within lines from rest ≡ ran []
+unfolding next_value run_within value_lines
 run_end zero from rest e = refl
 run_end (suc lines) from rest e = rw e refl
 
 -- read, the lines of changes are those changes, if no value line stands behind them
-run-lines : (lines from : ℕ) (cs : List Change) (rest : List ℕ) → Rising from cs → length cs ≤ lines → (read_value rest).good ≡ false
+run-lines : (lines from : ℕ) (cs : List Change) (rest : List ℕ) → Rising from cs → length cs ≤ lines → read_value rest ≡ None
     → run_within lines from (value_lines cs ++ rest) ≡ ran cs
 unfolding Rising value_lines
 run-lines lines from [] rest r h e = run_end lines from rest e
@@ -123,7 +118,7 @@ lines-length (c ∷ cs) =
     let b = value-length c in
     omega arith
 
-pub run-read : (cs : List Change) (rest : List ℕ) → Rising 0 cs → (read_value rest).good ≡ false → value_run (value_lines cs ++ rest) ≡ ran cs
+pub run-read : (cs : List Change) (rest : List ℕ) → Rising 0 cs → read_value rest ≡ None → value_run (value_lines cs ++ rest) ≡ ran cs
 unfolding value_run
 run-read cs rest r e =
     let l = lines-length cs in
@@ -257,12 +252,12 @@ names-behind count rest =
 
 names-by : (bs : List ℕ) (count : ℕ) → starts_with variables_begin bs ≡ true → variables_in bs ≡ count → 1 ≤ count → count % queues ≡ 0
     → starts_with variables_end (drop (length variables_begin + length (variable_lines 0 count)) bs) ≡ true
-    → read_names bs ≡ record { good = true; count = count; length = names_length count }
+    → read_names bs ≡ Some (record { count = count; length = names_length count })
 unfolding read_names are_names
 names-by bs count s e some whole c = rw (e, s, ne_eqb count 0 (λ z. omega arith), eq-eqb (count % queues) 0 whole, c) refl
 
 pub names-read : (count : ℕ) (rest : List ℕ) → 1 ≤ count → count ≤ most_variables → count % queues ≡ 0
-    → read_names (names_of count rest) ≡ record { good = true; count = count; length = names_length count }
+    → read_names (names_of count rest) ≡ Some (record { count = count; length = names_length count })
 names-read count rest some few whole =
     names-by (names_of count rest) count (starts-append variables_begin (variable_lines 0 count ++ (variables_end ++ rest))) (names-counted count rest few) some whole
     (ap (starts_with variables_end) (names-behind count rest) ∙ starts-append variables_end rest)
@@ -273,9 +268,9 @@ behind-names count rest =
     ∙ ap (drop (length variables_end)) (names-behind count rest)
     ∙ drop-append_seam variables_end rest
 
-later-by : (bs : List ℕ) (time n : ℕ) (cs : List Change) → read_stamp bs ≡ record { good = true; time = time; length = n } → drop n bs ≡ value_lines cs
+later-by : (bs : List ℕ) (time n : ℕ) (cs : List Change) → read_stamp bs ≡ Some (record { time = time; length = n }) → drop n bs ≡ value_lines cs
     → value_run (value_lines cs) ≡ ran cs → read_later bs ≡ step_of false time cs
-unfolding read_later
+unfolding later_step read_later
 later-by bs time n cs s d r = rw (s, d, r, eq-eqb (length (value_lines cs)) (length (value_lines cs)) refl) refl
 
 run-last : (cs : List Change) → Rising 0 cs → value_run (value_lines cs) ≡ ran cs
@@ -288,12 +283,12 @@ later-read time cs h r =
 
 -- and a header
 header-by : (bs middle values lines : List ℕ) (count time n m : ℕ) (cs : List Change)
-    → read_names bs ≡ record { good = true; count = count; length = n } → drop n bs ≡ middle
-    → read_stamp middle ≡ record { good = true; time = time; length = m } → drop m middle ≡ values
+    → read_names bs ≡ Some (record { count = count; length = n }) → drop n bs ≡ middle
+    → read_stamp middle ≡ Some (record { time = time; length = m }) → drop m middle ≡ values
     → starts_with values_begin values ≡ true → drop (length values_begin) values ≡ lines
     → (value_run lines).changes ≡ cs → tells_all count lines ≡ true
     → read_header bs ≡ step_of true time cs
-unfolding read_header header_stamp header_values
+unfolding header_step read_stamped read_header
 header-by bs middle values lines count time n m cs names b stamp v s d r t = rw (names, b, stamp, v, s, d, r, t) refl
 
 tells_all-told : (count : ℕ) (lines : List ℕ) (cs : List Change) → value_run lines ≡ ran cs → length cs ≡ count → needed cs ≡ count

@@ -11,8 +11,8 @@ use Rattle.sheet.specs.Text.{text, lf}
 use Rattle.sheet.specs.Commands.{up_to, is_digit, value_from, value, no_leading_zero, is_number}
 use Rattle.sheet.specs.Output.{numeral_within, numeral}
 use Rattle.waveform.specs.Dump.{fills_to, fills, variable_line, variable_lines, stamp_line, Change, value_line, value_lines, tells, changes_to, changes, step_bytes}
-use Rattle.waveform.specs.Reading.{is_stamp, read_stamp, is_value_line, read_value, one_more, run_within, value_run, starts_with, variables_from, are_names}
-use Rattle.waveform.specs.Reading.{read_names, needed_from, read_later, header_stamp, header_values, tells_all, read_header, read_step, applied}
+use Rattle.waveform.specs.Reading.{is_stamp, read_stamp, is_value_line, read_value, next_value, one_more, run_within, value_run, starts_with, variables_from, are_names}
+use Rattle.waveform.specs.Reading.{read_names, needed_from, later_step, read_later, tells_all, header_step, read_stamped, read_header, read_step, applied}
 use Rattle.waveform.specs.Calls.{written_step, write_rules, write_refusal, write_answer, write_page, write_list}
 use Rattle.waveform.specs.Calls.{read_refusal, step_told, read_answer, read_list, written_length, read_number, read_time}
 use Rattle.waveform.specs.Theorem.{Call}
@@ -32,11 +32,11 @@ unfolding fills_to fills variable_line variable_lines stamp_line value_line valu
 writing = tt
 
 unfoldable reading : Unit {0}
-unfolding is_stamp read_stamp is_value_line read_value one_more run_within value_run starts_with variables_from are_names read_names needed_from
+unfolding is_stamp read_stamp is_value_line read_value next_value one_more run_within value_run starts_with variables_from are_names read_names needed_from
 reading = tt
 
 unfoldable steps : Unit {0}
-unfolding read_later header_stamp header_values tells_all read_header read_step applied
+unfolding later_step read_later tells_all header_step read_stamped read_header read_step applied
 steps = tt
 
 unfoldable calling : Unit {0}

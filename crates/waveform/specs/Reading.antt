@@ -1,6 +1,7 @@
 -- R410 and R415 to R419: what the reader makes of the bytes of one step. Every definition is of the bytes from a place on, and tells how many of them it
 -- used. Order: fields; a time stamp; a value; values one after another; the header's names; a step; the list. Assumes nothing.
-use Rattle.std.specs.Prelude.{Bool, true, false, not, cond, ◌&&◌, List, [], ◌∷◌, ℕ, zero, suc, ◌+◌, ◌-◌, ◌%◌, eqb, leb, ltb, length, get_or, drop, set}
+use Rattle.std.specs.Prelude.{Bool, true, false, not, cond, Option, Some, None, option_and_then, ◌&&◌, List, [], ◌∷◌, ℕ, zero, suc, ◌+◌, ◌-◌, ◌%◌, eqb, leb, ltb, length, get_or, drop, set}
+use Rattle.std.specs.Option.{option_map_or}
 use Prim.Native.Char.{code}
 use Rattle.network.specs.Sizes.{queues}
 use Rattle.sheet.specs.Text.{lf}
@@ -24,11 +25,11 @@ largest_time = 18446744073709551615
 unfoldable pub is_stamp : List ℕ → Bool
 is_stamp bs = eqb (get_or bs 0 0) (code "#") && (is_ended lf (drop 1 bs) && is_number ten largest_time (up_to lf (drop 1 bs)))
 
-unfoldable pub read_stamp : List ℕ → TimeStamp
+unfoldable pub read_stamp : List ℕ → Option TimeStamp
 read_stamp bs =
     cond (is_stamp bs)
-    (record { good = true; time = value ten (up_to lf (drop 1 bs)); length = length (up_to lf (drop 1 bs)) + 2 })
-    (record { good = false; time = 0; length = 0 })
+    (Some (record { time = value ten (up_to lf (drop 1 bs)); length = length (up_to lf (drop 1 bs)) + 2 }))
+    None
 
 -- R405: "b", the fill in binary, a blank, the variable, LF
 abbrev pub largest_fill : ℕ
@@ -50,16 +51,23 @@ is_value_line bs =
     && (is_number two largest_fill (fill_field bs)
     && (is_ended lf (behind blank (drop 1 bs)) && is_number ten (most_variables - 1) (variable_field bs))))
 
-unfoldable pub read_value : List ℕ → ValueLine
+unfoldable pub read_value : List ℕ → Option ValueLine
 read_value bs =
     cond (is_value_line bs)
+    (Some
     (record {
-      good = true;
       variable = value ten (variable_field bs);
       fill = value two (fill_field bs);
       length = length (fill_field bs) + length (variable_field bs) + 3;
-    })
-    (record { good = false; variable = 0; fill = 0; length = 0 })
+    }))
+    None
+
+-- the same, if the variable is `least` or a later one
+abbrev pub not_before : ℕ → ValueLine → Option ValueLine
+not_before least l = cond (leb least l.variable) (Some l) None
+
+unfoldable pub next_value : ℕ → List ℕ → Option ValueLine
+next_value least bs = option_and_then (not_before least) (read_value bs)
 
 -- R408: value lines one after another, their variables rising from `from` on, as far as they go
 pub record ValueRun : Type 0 where
@@ -69,13 +77,13 @@ pub record ValueRun : Type 0 where
 unfoldable pub one_more : ValueLine → ValueRun → ValueRun
 one_more l r = record { changes = record { variable = l.variable; fill = l.fill } ∷ r.changes; length = l.length + r.length }
 
+abbrev pub no_run : ValueRun
+no_run = record { changes = []; length = 0 }
+
 -- `lines` bounds how many there are
 unfoldable pub run_within : ℕ → ℕ → List ℕ → ValueRun
-run_within zero from bs = record { changes = []; length = 0 }
-run_within (suc lines) from bs =
-    cond ((read_value bs).good && leb from (read_value bs).variable)
-    (one_more (read_value bs) (run_within lines (suc (read_value bs).variable) (drop (read_value bs).length bs)))
-    (record { changes = []; length = 0 })
+run_within zero from bs = no_run
+run_within (suc lines) from bs = option_map_or (λ l. one_more l (run_within lines (suc l.variable) (drop l.length bs))) (next_value from bs) no_run
 
 unfoldable pub value_run : List ℕ → ValueRun
 value_run bs = run_within (length bs) 0 bs
@@ -103,11 +111,8 @@ are_names bs =
     starts_with variables_begin bs
     && (not (eqb (variables_in bs) 0) && (eqb (variables_in bs % queues) 0 && starts_with variables_end (drop (behind_variables bs) bs)))
 
-unfoldable pub read_names : List ℕ → Names
-read_names bs =
-    cond (are_names bs)
-    (record { good = true; count = variables_in bs; length = behind_variables bs + length variables_end })
-    (record { good = false; count = 0; length = 0 })
+unfoldable pub read_names : List ℕ → Option Names
+read_names bs = cond (are_names bs) (Some (record { count = variables_in bs; length = behind_variables bs + length variables_end })) None
 
 -- R415: a step: whether it is one, its kind, its time, and the changes that it tells
 pub record Step : Type 0 where
@@ -124,29 +129,21 @@ needed_from least (c ∷ cs) = needed_from (suc c.variable) cs
 abbrev pub needed : List Change → ℕ
 needed cs = needed_from 0 cs
 
--- what stands behind the names, and behind a time stamp
-abbrev pub behind_names : List ℕ → List ℕ
-behind_names bs = drop (read_names bs).length bs
-
-abbrev pub behind_stamp : List ℕ → List ℕ
-behind_stamp bs = drop (read_stamp bs).length bs
+abbrev pub no_step : Step
+no_step = record { good = false; header = false; time = 0; changes = [] }
 
 -- a later step: a time stamp, and values to the end
-unfoldable pub read_later : List ℕ → Step
-read_later bs =
+unfoldable pub later_step : TimeStamp → List ℕ → Step
+later_step s rest =
     record {
-      good = (read_stamp bs).good && eqb (value_run (behind_stamp bs)).length (length (behind_stamp bs));
+      good = eqb (value_run rest).length (length rest);
       header = false;
-      time = (read_stamp bs).time;
-      changes = (value_run (behind_stamp bs)).changes;
+      time = s.time;
+      changes = (value_run rest).changes;
     }
 
--- a header: names, a time stamp, and a value for each variable in `$dumpvars`
-unfoldable pub header_stamp : List ℕ → TimeStamp
-header_stamp bs = read_stamp (behind_names bs)
-
-unfoldable pub header_values : List ℕ → List ℕ
-header_values bs = drop (length values_begin) (behind_stamp (behind_names bs))
+unfoldable pub read_later : List ℕ → Step
+read_later bs = option_map_or (λ s. later_step s (drop s.length bs)) (read_stamp bs) no_step
 
 -- the run tells every variable, and "$end" ends it and the step
 unfoldable pub tells_all : ℕ → List ℕ → Bool
@@ -155,17 +152,21 @@ tells_all count bs =
     && (eqb (needed (value_run bs).changes) count
     && (starts_with values_end (drop (value_run bs).length bs) && eqb ((value_run bs).length + length values_end) (length bs)))
 
-unfoldable pub read_header : List ℕ → Step
-read_header bs =
+-- a header: names, a time stamp, and a value for each variable in `$dumpvars`
+unfoldable pub header_step : Names → TimeStamp → List ℕ → Step
+header_step n s rest =
     record {
-      good =
-          (read_names bs).good
-          && ((header_stamp bs).good
-          && (starts_with values_begin (behind_stamp (behind_names bs)) && tells_all (read_names bs).count (header_values bs)));
+      good = starts_with values_begin rest && tells_all n.count (drop (length values_begin) rest);
       header = true;
-      time = (header_stamp bs).time;
-      changes = (value_run (header_values bs)).changes;
+      time = s.time;
+      changes = (value_run (drop (length values_begin) rest)).changes;
     }
+
+unfoldable pub read_stamped : Names → List ℕ → Step
+read_stamped n behind = option_map_or (λ s. header_step n s (drop s.length behind)) (read_stamp behind) no_step
+
+unfoldable pub read_header : List ℕ → Step
+read_header bs = option_map_or (λ n. read_stamped n (drop n.length bs)) (read_names bs) no_step
 
 unfoldable pub read_step : List ℕ → Step
 read_step bs = cond (eqb (get_or bs 0 0) (code "#")) (read_later bs) (read_header bs)

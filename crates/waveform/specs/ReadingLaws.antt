@@ -22,7 +22,7 @@ pub record Small (c : Change) : Type 0 where
   pub fill : c.fill ≤ largest_fill
 
 abbrev pub line_of : Change → ValueLine
-line_of c = record { good = true; variable = c.variable; fill = c.fill; length = length (value_line c) }
+line_of c = record { variable = c.variable; fill = c.fill; length = length (value_line c) }
 
 -- R408: changes whose variables rise from `from` on
 unfoldable pub Rising : ℕ → List Change → Type 0

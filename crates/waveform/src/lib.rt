@@ -22,10 +22,9 @@ pub enum StepRead {
     Later { time: u64, named: usize },
 }
 
-// R405: a line that tells a variable's value, and how many bytes it has; all 0 where no such line stands.
+// R405: a line that tells a variable's value, and how many bytes it has.
 #[derive(Clone, Copy)]
 pub struct ValueLine {
-    pub good: bool,
     pub variable: usize,
     pub fill: u8,
     pub length: usize,
@@ -34,7 +33,6 @@ pub struct ValueLine {
 // R404: a time stamp, likewise.
 #[derive(Clone, Copy)]
 pub struct TimeStamp {
-    pub good: bool,
     pub time: u64,
     pub length: usize,
 }
@@ -42,7 +40,6 @@ pub struct TimeStamp {
 // R402, R403: a header up to its time stamp, likewise, with the number of its variables.
 #[derive(Clone, Copy)]
 pub struct Names {
-    pub good: bool,
     pub count: usize,
     pub length: usize,
 }

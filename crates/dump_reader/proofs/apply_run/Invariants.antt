@@ -3,8 +3,8 @@ use Rattle.std.proofs.Common.{◌-◌, length}
 use Rattle.dump_reader.proofs.Runs.{Applying}
 use Rattle.dump_reader.proofs.apply_run.Given as goal
 
-abbrev pub invariant-loop-at : goal.invariant-loop-at
-invariant-loop-at l = Applying l.bytes l.initial.fills l.at l.from l.fills
+abbrev pub invariant-loop-line : goal.invariant-loop-line
+invariant-loop-line l = Applying l.bytes l.initial.fills l.at l.from l.fills
 
-abbrev pub decreases-loop-at : goal.decreases-loop-at
-decreases-loop-at l = length l.bytes - l.at
+abbrev pub decreases-loop-line : goal.decreases-loop-line
+decreases-loop-line l = length l.bytes - l.at

@@ -3,8 +3,8 @@ use Rattle.std.proofs.Common.{◌-◌, length}
 use Rattle.dump_reader.proofs.Runs.{Reading}
 use Rattle.dump_reader.proofs.read_run.Given as goal
 
-abbrev pub invariant-loop-at : goal.invariant-loop-at
-invariant-loop-at l = Reading l.bytes l.at l.from l.named
+abbrev pub invariant-loop-line : goal.invariant-loop-line
+invariant-loop-line l = Reading l.bytes l.at l.from l.named
 
-abbrev pub decreases-loop-at : goal.decreases-loop-at
-decreases-loop-at l = length l.bytes - l.at
+abbrev pub decreases-loop-line : goal.decreases-loop-line
+decreases-loop-line l = length l.bytes - l.at

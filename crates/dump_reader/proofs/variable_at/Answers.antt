@@ -1,7 +1,7 @@
 -- `dump_reader::variable_at` meets its contract: the line that was put is the front of its buffer. Assumes nothing.
-use Rattle.std.proofs.Common.{arith, drop}
+use Rattle.std.proofs.Common.{◌∙◌, arith, drop}
 use Rattle.waveform.proofs.Lengths.{variable-room}
-use Rattle.dump_reader.proofs.Headers.{front-within, front_length, front-there, front-missing}
+use Rattle.dump_reader.proofs.Headers.{front-within, front_length, front-there}
 use Rattle.dump_reader.proofs.variable_at.Goals as goal
 
 pub put_variable-length-requires : goal.put_variable-length-requires
@@ -13,18 +13,8 @@ slice_bounds-line-end c = front-within c.put_variable-length.ensures (omega (ari
 pub slice_bounds-starts_with-end : goal.slice_bounds-starts_with-end
 slice_bounds-starts_with-end c = front_length c.put_variable-length.ensures (omega (arith, variable-room c.args.i c.requires.i_lt_most_variables))
 
-pub returns-then-starts_with : goal.returns-then-starts_with
-returns-then-starts_with c =
-    let a = c.args in
-    front-there c.put_variable-length.ensures (omega (arith, variable-room c.args.i c.requires.i_lt_most_variables))
-    (drop a.at a.bytes.now)
-    c.starts_with.ensures
-    c.if-starts_with.true
-
 pub returns : goal.returns
 returns c =
-    let a = c.args in
-    front-missing c.put_variable-length.ensures (omega (arith, variable-room c.args.i c.requires.i_lt_most_variables))
-    (drop a.at a.bytes.now)
+    c.then_some.ensures
+    ∙ front-there c.put_variable-length.ensures (omega (arith, variable-room c.args.i c.requires.i_lt_most_variables)) (drop c.args.at c.args.bytes.now)
     c.starts_with.ensures
-    c.if-starts_with.false

@@ -1,25 +1,13 @@
--- `reader::read_command` meets its contract: each way out is a law of proofs/Letters.antt. Assumes nothing.
-use Rattle.reader.proofs.Letters.{too_long, first-separator, not-empty, no-first-letter, no-numbers, letter-and-numbers}
+-- `reader::read_command` meets its contract: the goals that the check does not find by itself. Assumes nothing.
+use Rattle.reader.proofs.Letters.{not-empty, letter-and-numbers}
 use Rattle.reader.proofs.read_command.Goals as goal
 
-pub returns-then-line-gt-LINE_LIMIT : goal.returns-then-line-gt-LINE_LIMIT
-returns-then-line-gt-LINE_LIMIT c = too_long c.args.line.now c.if-line-gt-LINE_LIMIT.true
-
-pub returns-then-end-ne1 : goal.returns-then-end-ne1
-returns-then-end-ne1 c = no-first-letter c.args.line.now c.field_end-end.result c.field_end-end.ensures c.if-end-ne1.true
-
-pub read_numbers-numbers-requires : goal.read_numbers-numbers-requires
-read_numbers-numbers-requires c = first-separator c.args.line.now c.field_end-end.result c.field_end-end.ensures
-
 pub bounds-line-0 : goal.bounds-line-0
-bounds-line-0 c = not-empty c.args.line.now c.field_end-end.result c.field_end-end.ensures c.if-end-ne1.false
-
-pub returns-then-valid : goal.returns-then-valid
-returns-then-valid c =
-    let line = c.args.line.now in
-    letter-and-numbers line c.field_end-end.result c.field_end-end.ensures c.read_numbers-numbers.result c.read_numbers-numbers.ensures
-    c.command_with.result c.command_with.ensures c.if-line-gt-LINE_LIMIT.false c.if-end-ne1.false
-    c.if-valid.true
+bounds-line-0 c = not-empty c.args.line.now c.field_end-end.ensures c.if-end-ne1.false
 
 pub returns : goal.returns
-returns c = no-numbers c.args.line.now c.field_end-end.result c.field_end-end.ensures c.read_numbers-numbers.result c.read_numbers-numbers.ensures c.if-valid.false
+returns c =
+    letter-and-numbers c.args.line.now c.field_end-end.ensures c.read_numbers.ensures _ c.command_with.result c.command_with.ensures
+    c.if-line-gt-LINE_LIMIT.false
+    c.if-end-ne1.false
+    c.in-Some.is
