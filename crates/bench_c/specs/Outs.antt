@@ -8,7 +8,6 @@ use Rattle.network.specs.declared.Found.{Found}
 use Rattle.network.specs.declared.Stop.{Stop}
 use Rattle.network.specs.declared.Drained.{Drained}
 use Rattle.network.specs.Refusals.{look_refusal, head}
-use Rattle.waveform.specs.declared.Written.{Written}
 use Rattle.waveform.specs.declared.StepRead.{StepRead}
 use Rattle.waveform.specs.Calls.{written_length, read_headers, read_time, read_named}
 use Rattle.network.specs.Calls.{unless_refused, look_part, look_at, moved_packets, credit_free, NamedMove, found_move, drained_moves, drained_delivered, drained_stop}
@@ -45,7 +44,7 @@ unfoldable pub drained_out : Drained → List ℕ
 drained_out d = drained_moves d ∷ drained_delivered d ∷ stop_number (drained_stop d) ∷ []
 
 -- the bytes of the step
-unfoldable pub written_out : Written → List ℕ
+unfoldable pub written_out : Answer ℕ → List ℕ
 written_out w = written_length w ∷ []
 
 -- 1 for a header, the time stamp, how many variables are named

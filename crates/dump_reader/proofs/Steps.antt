@@ -1,7 +1,8 @@
 -- A step as the code finds it, and the answer of the call. Order: values that tell every variable; no step; a later step; a header; what the call
 -- answers and leaves. Assumes nothing.
 use mathlib.Core.Path.{◌≡◌, refl, ap, ap₂, sym, subst, ◌∙◌}
-use Rattle.std.specs.Prelude.{Option, Some, None, is_some}
+use Rattle.network.specs.Calls.{Answer}
+use Rattle.std.specs.Prelude.{Option, Some, None, is_some, Ok, Err}
 use Rattle.std.proofs.lemmas.Option.{none-some, same_Some}
 use mathlib.Core.Logic.{◌≢◌}
 use mathlib.Core.Bool.{Bool, true, false, ◌&&◌}
@@ -164,20 +165,20 @@ module _ (bs : List ℕ) {found : Option Names} (n : found ≡ read_names bs) wh
                 }))
 
 -- what the call answers and leaves in the list
-abbrev Answered : List ℕ → List ℕ → List ℕ → StepRead → Type 0
+abbrev Answered : List ℕ → List ℕ → List ℕ → Answer StepRead → Type 0
 Answered bs list after r = (r ≡ read_answer bs list) × ((after ≡ read_list bs list) × ReadTells bs list r)
 
-answered : (bs list after : List ℕ) (r : StepRead) → r ≡ read_answer bs list → after ≡ read_list bs list → Answered bs list after r
+answered : (bs list after : List ℕ) (r : Answer StepRead) → r ≡ read_answer bs list → after ≡ read_list bs list → Answered bs list after r
 answered bs list after r a l = (a, (l, rw a (read-tells bs list)))
 
-refused : (bs list : List ℕ) (number : ℕ) → read_refusal bs list ≡ number → number ≢ 0 → Answered bs list list (StepRead.Refused number)
+refused : (bs list : List ℕ) (number : ℕ) → read_refusal bs list ≡ number → number ≢ 0 → Answered bs list list (Err number)
 unfolding read_answer read_list
 refused bs list number e f =
     let n : read_refusal bs list ≢ 0 = λ z. f (sym e ∙ z) in
-    answered bs list list (StepRead.Refused number) (rw (ne_eqb (read_refusal bs list) 0 n, e) refl) (rw (ne_eqb (read_refusal bs list) 0 n) refl)
+    answered bs list list (Err number) (rw (ne_eqb (read_refusal bs list) 0 n, e) refl) (rw (ne_eqb (read_refusal bs list) 0 n) refl)
 
 module _ (bs list : List ℕ) {parsed : Option Parsed} (f : StepOf bs parsed) where
-  pub answer-bad : parsed ≡ None → Answered bs list list (StepRead.Refused bad_line)
+  pub answer-bad : parsed ≡ None → Answered bs list list (Err bad_line)
   unfolding read_refusal
   answer-bad e = refused bs list bad_line (rw (sym f.good ∙ ap is_some e) refl) (λ z. omega arith)
 
@@ -189,7 +190,7 @@ module _ (bs list : List ℕ) {parsed : Option Parsed} (f : StepOf bs parsed) wh
     unfolding read_refusal
     refusal-by = rw (sym f.good ∙ ap is_some e, is.needed) refl
 
-    pub answer-short : length list < p.needed → Answered bs list list (StepRead.Refused short_page)
+    pub answer-short : length list < p.needed → Answered bs list list (Err short_page)
     answer-short h = refused bs list short_page (refusal-by ∙ rw (lt-ltb (length list) p.needed h) refl) (λ z. omega arith)
 
     module _ (h : p.needed ≤ length list) where
@@ -200,21 +201,21 @@ module _ (bs list : List ℕ) {parsed : Option Parsed} (f : StepOf bs parsed) wh
           omega arith
 
       module _ {after : List ℕ} (a : after ≡ applied (value_run (onward bs p.values)).changes list) where
-        passed : (r : StepRead) → r ≡ step_told (read_step bs) → Answered bs list after r
+        passed : (r : StepRead) → r ≡ step_told (read_step bs) → Answered bs list after (Ok r)
         unfolding read_answer read_list
         passed r e =
             let z : read_refusal bs list ≡ 0 = refusal-by ∙ rw (le-ltb (length list) p.needed h) refl in
-            answered bs list after r
-            (e ∙ rw (eq-eqb (read_refusal bs list) 0 z) refl)
+            answered bs list after (Ok r)
+            (ap (λ (k : StepRead). Ok k) e ∙ rw (eq-eqb (read_refusal bs list) 0 z) refl)
             (a
             ∙ ap (λ s. applied (value_run s).changes list) (onward-drop bs p.values)
             ∙ ap (λ cs. applied cs list) (is.values)
             ∙ rw (eq-eqb (read_refusal bs list) 0 z) refl)
 
-        pub answer-header : p.header ≡ true → Answered bs list after (StepRead.Header p.time p.named)
+        pub answer-header : p.header ≡ true → Answered bs list after (Ok (StepRead.Header p.time p.named))
         unfolding step_told
         answer-header e = passed (StepRead.Header p.time p.named) (rw (sym (is.header) ∙ e, is.time, is.named) refl)
 
-        pub answer-later : p.header ≡ false → Answered bs list after (StepRead.Later p.time p.named)
+        pub answer-later : p.header ≡ false → Answered bs list after (Ok (StepRead.Later p.time p.named))
         unfolding step_told
         answer-later e = passed (StepRead.Later p.time p.named) (rw (sym (is.header) ∙ e, is.time, is.named) refl)

@@ -3,6 +3,7 @@
 #![tactic(auto)]
 
 ghost use Rattle.std.specs.Prelude.{◌≡◌, cond, Some, None, IfSome, ◌<◌, ◌≤◌, eqb, length, get_or, drop};
+ghost use Rattle.network.specs.Refusals.{numbered};
 ghost use Rattle.waveform.specs.Dump.{most_variables, variable_line};
 ghost use Rattle.waveform.specs.Reading.{starts_with, read_stamp, next_value, value_run, needed, read_names, tells_all, applied};
 ghost use Rattle.waveform.specs.Calls.{read_answer, read_list};
@@ -10,7 +11,7 @@ ghost use Rattle.waveform.specs.StepAnswers.{ReadTells};
 ghost use Rattle.dump_reader.specs.Parsing.{field_from, RunOf, CountedOf, LaterOf, HeaderOf, StepOf};
 
 use dump_text::{TWO, put_variable, starts_with};
-use network::{BAD_LINE, QUEUES, SHORT_PAGE};
+use network::{QUEUES, Refusal};
 use reader::{field_end, read_number};
 use sheet::TEN;
 use waveform::{MOST_VARIABLES, Names, StepRead, TimeStamp, ValueLine};
@@ -291,27 +292,23 @@ fn parse(bytes: &[u8]) -> Option<Parsed>
 }
 
 // ReadStep (R415 to R420): the list with the fills that the step tells, and what the step is.
-pub fn read_step(bytes: &[u8], fills: &mut [u8]) -> StepRead
-    ensures answer { result ≡ read_answer bytes.now fills.old }
+pub fn read_step(bytes: &[u8], fills: &mut [u8]) -> Result<StepRead, Refusal>
+    ensures answer { numbered result ≡ read_answer bytes.now fills.old }
     ensures fills { fills.new ≡ read_list bytes.now fills.old }
-    ensures told { ReadTells bytes.now fills.old result }
+    ensures told { ReadTells bytes.now fills.old (numbered result) }
 {
     let Some(step) = parse(bytes) else {
-        return StepRead::Refused(BAD_LINE);
+        return Err(Refusal::BadLine);
     };
     if fills.len() < step.needed {
-        return StepRead::Refused(SHORT_PAGE);
+        return Err(Refusal::ShortPage);
     }
     let values = step.values;
     apply_run(&bytes[values..], fills);
+    let time = step.time;
+    let named = step.named;
     if step.header {
-        return StepRead::Header {
-            time: step.time,
-            named: step.named,
-        };
+        return Ok(StepRead::Header { time, named });
     }
-    StepRead::Later {
-        time: step.time,
-        named: step.named,
-    }
+    Ok(StepRead::Later { time, named })
 }

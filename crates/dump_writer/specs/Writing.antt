@@ -1,6 +1,6 @@
 -- What the inner functions of the writer of a dump do, in terms of `waveform`, specs/Dump.antt and Calls.antt. Nothing here has to be believed: no contract of
 -- a call names it. Order: fills read into a list; a step of fills that have been read; that of a network's fills it is what the calls say. Assumes nothing.
-use Rattle.std.specs.Prelude.{◌≡◌, ◌≢◌, Bool, true, ◌||◌, ltb, length, get_or}
+use Rattle.std.specs.Prelude.{◌≡◌, ◌≢◌, Bool, true, ◌||◌, ltb, length, get_or, Ok, Err}
 use Rattle.std.proofs.Math.Path.{refl, ap, ap₂, sym}
 use Rattle.std.proofs.Common.{◌∙◌, length-append, length-drop, drop-cons}
 use mathlib.Core.List.{List, [], ◌∷◌, ◌++◌, append-nil, append_assoc}
@@ -13,8 +13,7 @@ use Rattle.network.specs.Sizes.{Shape, queues}
 use Rattle.network.specs.Layout.{shape, moves_made, held}
 use Rattle.network.specs.Refusals.{network_refusal, refuse, short_page}
 use Rattle.network.proofs.RefusalLaws.{else_by-zero, else_by-first}
-use Rattle.network.specs.Calls.{unless_refused}
-use Rattle.waveform.specs.declared.Written.{Written}
+use Rattle.network.specs.Calls.{unless_refused, Answer}
 use Rattle.waveform.specs.Dump.{variables_of, fills_to, fills, step_bytes}
 use Rattle.waveform.proofs.DumpLaws.{fills_to-length, fills-length}
 use Rattle.waveform.specs.Calls.{fills_now, written_step, write_rules, write_refusal, write_answer, write_page, write_list}
@@ -68,9 +67,9 @@ abbrev pub counts_refusal : Bool → ℕ → List ℕ → List ℕ → List ℕ 
 counts_refusal first time counts list page =
     refuse (ltb (length list) (length counts) || ltb (length page) (length (step_bytes first time counts list))) short_page 0
 
-unfoldable pub counts_answer : Bool → ℕ → List ℕ → List ℕ → List ℕ → Written
+unfoldable pub counts_answer : Bool → ℕ → List ℕ → List ℕ → List ℕ → Answer ℕ
 counts_answer first time counts list page =
-    unless_refused (counts_refusal first time counts list page) (Written.Bytes (length (step_bytes first time counts list))) (Written.Refused (counts_refusal first time counts list page))
+    unless_refused (counts_refusal first time counts list page) (Ok (length (step_bytes first time counts list))) (Err (counts_refusal first time counts list page))
 
 unfoldable pub counts_page : Bool → ℕ → List ℕ → List ℕ → List ℕ → List ℕ
 counts_page first time counts list page =
@@ -85,13 +84,13 @@ Leaves said answer left list written page = (said ≡ answer) × ((left ≡ list
 
 module _ (first : Bool) (time : ℕ) (counts list page : List ℕ) where
   pub counts-refused : (ltb (length list) (length counts) || ltb (length page) (length (step_bytes first time counts list))) ≡ true
-      → Leaves (Written.Refused short_page) (counts_answer first time counts list page) list (counts_list first time counts list page) page
+      → Leaves {A = Answer ℕ} (Err short_page) (counts_answer first time counts list page) list (counts_list first time counts list page) page
       (counts_page first time counts list page)
   unfolding counts_answer counts_list counts_page
   counts-refused e = (rw e, (rw e, rw e))
 
   pub counts-written : length counts ≤ length list → length (step_bytes first time counts list) ≤ length page
-      → Leaves (Written.Bytes (length (step_bytes first time counts list))) (counts_answer first time counts list page) (counts ++ drop (length counts) list)
+      → Leaves {A = Answer ℕ} (Ok (length (step_bytes first time counts list))) (counts_answer first time counts list page) (counts ++ drop (length counts) list)
       (counts_list first time counts list page) (step_bytes first time counts list ++ drop (length (step_bytes first time counts list)) page)
       (counts_page first time counts list page)
   unfolding counts_answer counts_list counts_page
@@ -103,7 +102,7 @@ module _ (first : Bool) (time : ℕ) (counts list page : List ℕ) where
 -- of the words of a network it is the step of the call, and words that are none are refused by the network's own
 module _ (first : Bool) (w list page : List ℕ) where
   pub write-broken : network_refusal w ≢ 0
-      → Leaves (Written.Refused (network_refusal w)) (write_answer first w list page) list (write_list first w list page) page (write_page first w list page)
+      → Leaves {A = Answer ℕ} (Err (network_refusal w)) (write_answer first w list page) list (write_list first w list page) page (write_page first w list page)
   unfolding write_answer write_list write_page write_refusal
   write-broken ne =
       let same = else_by-first (network_refusal w) (write_rules first w list page) ne in
@@ -125,7 +124,7 @@ module _ (first : Bool) (w list page : List ℕ) where
     unfolding write_refusal write_rules
     refusal = else_by-zero (network_refusal w) (write_rules first w list page) passed ∙ rw (now-step, count) refl
 
-    pub write-counts : {said : Written} {left written : List ℕ}
+    pub write-counts : {said : Answer ℕ} {left written : List ℕ}
         → Leaves said (counts_answer first time counts list page) left (counts_list first time counts list page) written (counts_page first time counts list page)
         → Leaves said (write_answer first w list page) left (write_list first w list page) written (write_page first w list page)
     unfolding counts_answer counts_list counts_page write_answer write_list write_page

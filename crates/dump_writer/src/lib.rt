@@ -3,6 +3,7 @@
 #![tactic(auto)]
 
 ghost use Rattle.std.specs.Prelude.{◌≡◌, true, false, not, ◌||◌, ◌++◌, ◌<◌, ◌≤◌, eqb, length, drop};
+ghost use Rattle.network.specs.Refusals.{numbered};
 ghost use Rattle.network.specs.Sizes.{shape_of, nodes};
 ghost use Rattle.network.specs.Layout.{queue_start, moves_made};
 ghost use Rattle.network.specs.CheckLaws.{Network};
@@ -12,11 +13,10 @@ ghost use Rattle.waveform.specs.Calls.{write_answer, write_page, write_list};
 ghost use Rattle.waveform.specs.StepAnswers.{WriteTells};
 ghost use Rattle.dump_writer.specs.Writing.{FillsAdded, counts_answer, counts_page, counts_list};
 
-use checker::Opened;
 use dump_text::{put_stamp, put_value, put_variable, stamp_length, value_length, variable_length};
 use fields::put_bytes;
-use network::{FEW_NODES, HEADER_WORDS, MOVES_AT, QUEUES, SHORT_PAGE, Sizes};
-use waveform::{MOST_VARIABLES, Written};
+use network::{FEW_NODES, HEADER_WORDS, MOVES_AT, QUEUES, Refusal, Sizes};
+use waveform::MOST_VARIABLES;
 
 // The fixed bytes of a header.
 const FIXED_BYTES: usize = 98;
@@ -161,22 +161,22 @@ fn put_step(first: bool, page: &mut [u8], time: u64, counts: &[u8], fills: &[u8]
 }
 
 // A step of these fills: 15 is tested before anything is written.
-fn write_counts(first: bool, time: u64, counts: &[u8], fills: &mut [u8], page: &mut [u8]) -> Written
+fn write_counts(first: bool, time: u64, counts: &[u8], fills: &mut [u8], page: &mut [u8]) -> Result<usize, Refusal>
     requires { length counts.now ≤ most_variables }
-    ensures answer { result ≡ counts_answer first time counts.now fills.old page.old }
+    ensures answer { numbered result ≡ counts_answer first time counts.now fills.old page.old }
     ensures fills { fills.new ≡ counts_list first time counts.now fills.old page.old }
     ensures page { page.new ≡ counts_page first time counts.now fills.old page.old }
 {
     if fills.len() < counts.len() {
-        return Written::Refused(SHORT_PAGE);
+        return Err(Refusal::ShortPage);
     }
     let length = step_length(first, time, counts, fills);
     if page.len() < length {
-        return Written::Refused(SHORT_PAGE);
+        return Err(Refusal::ShortPage);
     }
     put_step(first, page, time, counts, fills);
     fills[..counts.len()].copy_from_slice(counts);
-    Written::Bytes(length)
+    Ok(length)
 }
 
 // A step of a network, whose fills are read into a list of our own first.
@@ -187,9 +187,9 @@ fn write_fills(
     counts: &mut [u8],
     fills: &mut [u8],
     page: &mut [u8],
-) -> Written
+) -> Result<usize, Refusal>
     requires { Network (shape_of s) words.now × (length counts.old ≡ variables_of (shape_of s)) }
-    ensures answer { result ≡ counts_answer first (moves_made words.now) (fills_of (shape_of s) words.now) fills.old page.old }
+    ensures answer { numbered result ≡ counts_answer first (moves_made words.now) (fills_of (shape_of s) words.now) fills.old page.old }
     ensures fills { fills.new ≡ counts_list first (moves_made words.now) (fills_of (shape_of s) words.now) fills.old page.old }
     ensures page { page.new ≡ counts_page first (moves_made words.now) (fills_of (shape_of s) words.now) fills.old page.old }
 {
@@ -205,10 +205,10 @@ fn write_sized<const N: usize>(
     s: Sizes,
     fills: &mut [u8],
     page: &mut [u8],
-) -> Written
+) -> Result<usize, Refusal>
     requires network { Network (shape_of s) words.now }
     requires length { (variables_of (shape_of s) ≤ N) × (N ≤ most_variables) }
-    ensures answer { result ≡ counts_answer first (moves_made words.now) (fills_of (shape_of s) words.now) fills.old page.old }
+    ensures answer { numbered result ≡ counts_answer first (moves_made words.now) (fills_of (shape_of s) words.now) fills.old page.old }
     ensures fills { fills.new ≡ counts_list first (moves_made words.now) (fills_of (shape_of s) words.now) fills.old page.old }
     ensures page { page.new ≡ counts_page first (moves_made words.now) (fills_of (shape_of s) words.now) fills.old page.old }
 {
@@ -218,9 +218,9 @@ fn write_sized<const N: usize>(
 }
 
 // The same: the list is cleared whole at each step, so a network of few nodes has a short one (D89).
-fn write_opened(first: bool, words: &[u64], s: Sizes, fills: &mut [u8], page: &mut [u8]) -> Written
+fn write_opened(first: bool, words: &[u64], s: Sizes, fills: &mut [u8], page: &mut [u8]) -> Result<usize, Refusal>
     requires { Network (shape_of s) words.now }
-    ensures answer { result ≡ counts_answer first (moves_made words.now) (fills_of (shape_of s) words.now) fills.old page.old }
+    ensures answer { numbered result ≡ counts_answer first (moves_made words.now) (fills_of (shape_of s) words.now) fills.old page.old }
     ensures fills { fills.new ≡ counts_list first (moves_made words.now) (fills_of (shape_of s) words.now) fills.old page.old }
     ensures page { page.new ≡ counts_page first (moves_made words.now) (fills_of (shape_of s) words.now) fills.old page.old }
 {
@@ -231,34 +231,31 @@ fn write_opened(first: bool, words: &[u64], s: Sizes, fills: &mut [u8], page: &m
 }
 
 // A step of words, a header if it is the first.
-fn write_step(first: bool, words: &[u64], fills: &mut [u8], page: &mut [u8]) -> Written
-    ensures answer { result ≡ write_answer first words.now fills.old page.old }
+fn write_step(first: bool, words: &[u64], fills: &mut [u8], page: &mut [u8]) -> Result<usize, Refusal>
+    ensures answer { numbered result ≡ write_answer first words.now fills.old page.old }
     ensures fills { fills.new ≡ write_list first words.now fills.old page.old }
     ensures page { page.new ≡ write_page first words.now fills.old page.old }
 {
-    let opened = checker::open(words);
-    match opened {
-        Opened::Refused(broken) => Written::Refused(broken),
-        Opened::Network(s) => write_opened(first, words, s, fills, page),
-    }
+    let s = checker::open(words)?;
+    write_opened(first, words, s, fills, page)
 }
 
 // WriteHeader (R411, R413, R414): the first step of a dump, which tells every fill.
-pub fn write_header(words: &[u64], fills: &mut [u8], page: &mut [u8]) -> Written
-    ensures answer { result ≡ write_answer true words.now fills.old page.old }
+pub fn write_header(words: &[u64], fills: &mut [u8], page: &mut [u8]) -> Result<usize, Refusal>
+    ensures answer { numbered result ≡ write_answer true words.now fills.old page.old }
     ensures fills { fills.new ≡ write_list true words.now fills.old page.old }
     ensures page { page.new ≡ write_page true words.now fills.old page.old }
-    ensures told { WriteTells true words.now fills.old page.old result }
+    ensures told { WriteTells true words.now fills.old page.old (numbered result) }
 {
     write_step(true, words, fills, page)
 }
 
 // WriteChanges (R412 to R414): a later step, which tells what differs from the list.
-pub fn write_changes(words: &[u64], fills: &mut [u8], page: &mut [u8]) -> Written
-    ensures answer { result ≡ write_answer false words.now fills.old page.old }
+pub fn write_changes(words: &[u64], fills: &mut [u8], page: &mut [u8]) -> Result<usize, Refusal>
+    ensures answer { numbered result ≡ write_answer false words.now fills.old page.old }
     ensures fills { fills.new ≡ write_list false words.now fills.old page.old }
     ensures page { page.new ≡ write_page false words.now fills.old page.old }
-    ensures told { WriteTells false words.now fills.old page.old result }
+    ensures told { WriteTells false words.now fills.old page.old (numbered result) }
 {
     write_step(false, words, fills, page)
 }

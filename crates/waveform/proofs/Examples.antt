@@ -2,7 +2,7 @@
 -- bytes a dump has. A must-fail edit of a definition names the row that it breaks; so each row is a law of its own, and small: the other edits of its file leave
 -- it as it is. Order: single lines; what a step tells; the dump of one node; the dump that docs/WAVEFORM.md shows, written and read; the fullest queue; what
 -- the writer refuses and leaves; what the reader takes, refuses and leaves. Assumes nothing.
-use Rattle.std.specs.Prelude.{◌≡◌, refl, true, false, [], ◌∷◌, ◌++◌, map, get_or, take, drop, set, replicate}
+use Rattle.std.specs.Prelude.{◌≡◌, refl, true, false, [], ◌∷◌, ◌++◌, map, get_or, take, drop, set, replicate, Ok, Err}
 use Prim.Native.Char.{code}
 use Rattle.sheet.specs.Text.{text, lf}
 use Rattle.waveform.specs.declared.StepRead.{StepRead}
@@ -177,18 +177,18 @@ refused-kept = (refl, refl, refl, refl)
 -- What the reader takes, refuses and leaves -------------------------------------------------------------------------------------------------
 
 -- R415: a header and its variables
-header-taken : read_answer header-of-one-is (replicate 13 9) ≡ StepRead.Header 12 13
+header-taken : read_answer header-of-one-is (replicate 13 9) ≡ Ok (StepRead.Header 12 13)
 unfolding dumped
 header-taken = refl
 
 -- a later step; one that tells nothing, to a list that has nothing
 later-taken : read_answer (text "#1\nb0 0\nb1 14\n") (replicate 26 9) ∷ read_answer (text "#7\n") [] ∷ []
-    ≡ StepRead.Later 1 2 ∷ StepRead.Later 7 0 ∷ []
+    ≡ Ok (StepRead.Later 1 2) ∷ Ok (StepRead.Later 7 0) ∷ []
 unfolding dumped
 later-taken = refl
 
 -- the number of an answer
-numbers-told : map read_number (StepRead.Refused 13 ∷ StepRead.Refused 15 ∷ StepRead.Header 12 13 ∷ StepRead.Later 1 2 ∷ []) ≡ 13 ∷ 15 ∷ 0 ∷ 0 ∷ []
+numbers-told : map read_number (Err 13 ∷ Err 15 ∷ Ok (StepRead.Header 12 13) ∷ Ok (StepRead.Later 1 2) ∷ []) ≡ 13 ∷ 15 ∷ 0 ∷ 0 ∷ []
 unfolding dumped
 numbers-told = refl
 

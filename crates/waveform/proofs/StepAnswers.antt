@@ -1,7 +1,7 @@
 -- What the answer of a call that writes or reads a step tells: its number, the refusal or 0, and each of its values, where the call is refused and where it
 -- is not, by the definitions at the end of Calls.antt. Order: a step written; a step read. Assumes nothing.
-use Rattle.std.specs.Prelude.{◌≡◌, refl, Bool, true, false, cond, List, ℕ, length}
-use Rattle.network.proofs.Answers.{by-refusal, number_of}
+use Rattle.std.specs.Prelude.{◌≡◌, refl, Bool, true, false, cond, List, ℕ, length, Ok}
+use Rattle.network.proofs.Answers.{by-refusal, told-number}
 use Rattle.waveform.specs.declared.StepRead.{StepRead}
 use Rattle.waveform.specs.Reading.{read_step}
 use Rattle.waveform.specs.Calls.{write_refusal, write_answer, read_refusal, step_told, read_answer}
@@ -12,7 +12,7 @@ pub write-tells : (first : Bool) (w list page : List ℕ) → WriteTells first w
 unfolding write_answer written_number written_length
 write-tells first w list page =
     record {
-      number = number_of written_number (write_refusal first w list page) refl refl;
+      number = told-number written_number (write_refusal first w list page) refl refl;
       bytes = by-refusal written_length (write_refusal first w list page) refl refl;
     }
 
@@ -20,7 +20,7 @@ pub read-tells : (bytes list : List ℕ) → ReadTells bytes list (read_answer b
 unfolding read_answer step_told read_number read_headers read_time read_named
 read-tells bytes list =
     record {
-      number = number_of read_number (read_refusal bytes list) (number (read_step bytes).header) refl;
+      number = told-number read_number (read_refusal bytes list) refl refl;
       header = by-refusal read_headers (read_refusal bytes list) (header (read_step bytes).header) refl;
       time = by-refusal read_time (read_refusal bytes list) (time (read_step bytes).header) refl;
       named = by-refusal read_named (read_refusal bytes list) (named (read_step bytes).header) refl;
@@ -29,18 +29,14 @@ read-tells bytes list =
     answer : Bool → StepRead
     answer b = cond b (StepRead.Header (read_step bytes).time (length (read_step bytes).changes)) (StepRead.Later (read_step bytes).time (length (read_step bytes).changes))
 
-    number : (b : Bool) → read_number (answer b) ≡ 0
-    number true = refl
-    number false = refl
-
-    header : (b : Bool) → read_headers (answer b) ≡ cond b 1 0
+    header : (b : Bool) → read_headers (Ok (answer b)) ≡ cond b 1 0
     header true = refl
     header false = refl
 
-    time : (b : Bool) → read_time (answer b) ≡ (read_step bytes).time
+    time : (b : Bool) → read_time (Ok (answer b)) ≡ (read_step bytes).time
     time true = refl
     time false = refl
 
-    named : (b : Bool) → read_named (answer b) ≡ length (read_step bytes).changes
+    named : (b : Bool) → read_named (Ok (answer b)) ≡ length (read_step bytes).changes
     named true = refl
     named false = refl

@@ -1,10 +1,9 @@
 -- R411 to R420: what the calls that write and read a step answer, and what they leave on the page and in the lists. `w` is the words, `list` the list of
 -- fills and `page` the page at the call. Order: the writer; the reader; the number and the values of an answer. Assumes nothing.
-use Rattle.std.specs.Prelude.{Bool, not, cond, ◌||◌, List, ◌++◌, ℕ, ltb, length, drop}
+use Rattle.std.specs.Prelude.{Bool, not, cond, ◌||◌, List, ◌++◌, ℕ, ltb, length, drop, Ok, Err}
 use Rattle.network.specs.Layout.{shape, moves_made}
 use Rattle.network.specs.Refusals.{network_refusal, refuse, else_by, bad_line, short_page}
-use Rattle.network.specs.Calls.{unless_refused}
-use Rattle.waveform.specs.declared.Written.{Written}
+use Rattle.network.specs.Calls.{Answer, unless_refused}
 use Rattle.waveform.specs.declared.StepRead.{StepRead}
 use Rattle.waveform.specs.Dump.{variables_of, fills, step_bytes}
 use Rattle.waveform.specs.Reading.{Step, read_step, needed, applied}
@@ -26,9 +25,9 @@ write_rules first w list page =
 unfoldable pub write_refusal : Bool → List ℕ → List ℕ → List ℕ → ℕ
 write_refusal first w list page = else_by (network_refusal w) (write_rules first w list page)
 
-unfoldable pub write_answer : Bool → List ℕ → List ℕ → List ℕ → Written
+unfoldable pub write_answer : Bool → List ℕ → List ℕ → List ℕ → Answer ℕ
 write_answer first w list page =
-    unless_refused (write_refusal first w list page) (Written.Bytes (length (written_step first w list))) (Written.Refused (write_refusal first w list page))
+    unless_refused (write_refusal first w list page) (Ok (length (written_step first w list))) (Err (write_refusal first w list page))
 
 -- R411, R412, R414: the step, and behind it the page as it was; the fills, and behind them the list as it was
 unfoldable pub write_page : Bool → List ℕ → List ℕ → List ℕ → List ℕ
@@ -48,8 +47,8 @@ read_refusal bytes list = refuse (not (read_step bytes).good) bad_line (refuse (
 unfoldable pub step_told : Step → StepRead
 step_told s = cond s.header (StepRead.Header s.time (length s.changes)) (StepRead.Later s.time (length s.changes))
 
-unfoldable pub read_answer : List ℕ → List ℕ → StepRead
-read_answer bytes list = unless_refused (read_refusal bytes list) (step_told (read_step bytes)) (StepRead.Refused (read_refusal bytes list))
+unfoldable pub read_answer : List ℕ → List ℕ → Answer StepRead
+read_answer bytes list = unless_refused (read_refusal bytes list) (Ok (step_told (read_step bytes))) (Err (read_refusal bytes list))
 
 -- R416
 unfoldable pub read_list : List ℕ → List ℕ → List ℕ
@@ -57,31 +56,30 @@ read_list bytes list = unless_refused (read_refusal bytes list) (applied (read_s
 
 -- R321: the number and the values of each answer, case by case; 0 for a value where the call is refused ------------------------------------
 
-unfoldable pub written_number : Written → ℕ
-written_number (Written.Refused r) = r
-written_number (Written.Bytes n) = 0
+unfoldable pub written_number : Answer ℕ → ℕ
+written_number (Err r) = r
+written_number (Ok n) = 0
 
-unfoldable pub written_length : Written → ℕ
-written_length (Written.Refused r) = 0
-written_length (Written.Bytes n) = n
+unfoldable pub written_length : Answer ℕ → ℕ
+written_length (Err r) = 0
+written_length (Ok n) = n
 
-unfoldable pub read_number : StepRead → ℕ
-read_number (StepRead.Refused r) = r
-read_number (StepRead.Header time named) = 0
-read_number (StepRead.Later time named) = 0
+unfoldable pub read_number : Answer StepRead → ℕ
+read_number (Err r) = r
+read_number (Ok s) = 0
 
-unfoldable pub read_time : StepRead → ℕ
-read_time (StepRead.Refused r) = 0
-read_time (StepRead.Header time named) = time
-read_time (StepRead.Later time named) = time
+unfoldable pub read_time : Answer StepRead → ℕ
+read_time (Err r) = 0
+read_time (Ok (StepRead.Header time named)) = time
+read_time (Ok (StepRead.Later time named)) = time
 
-unfoldable pub read_named : StepRead → ℕ
-read_named (StepRead.Refused r) = 0
-read_named (StepRead.Header time named) = named
-read_named (StepRead.Later time named) = named
+unfoldable pub read_named : Answer StepRead → ℕ
+read_named (Err r) = 0
+read_named (Ok (StepRead.Header time named)) = named
+read_named (Ok (StepRead.Later time named)) = named
 
 -- 1 for a header
-unfoldable pub read_headers : StepRead → ℕ
-read_headers (StepRead.Refused r) = 0
-read_headers (StepRead.Header time named) = 1
-read_headers (StepRead.Later time named) = 0
+unfoldable pub read_headers : Answer StepRead → ℕ
+read_headers (Err r) = 0
+read_headers (Ok (StepRead.Header time named)) = 1
+read_headers (Ok (StepRead.Later time named)) = 0

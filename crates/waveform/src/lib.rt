@@ -7,17 +7,9 @@ use network::{MOST_NODES, QUEUES};
 // R403: the variables of the largest network.
 pub const MOST_VARIABLES: usize = (MOST_NODES * QUEUES) as usize;
 
-// A step written: refused by a rule, or how many bytes the step has.
-#[derive(Clone, Copy)]
-pub enum Written {
-    Refused(u64),
-    Bytes(usize),
-}
-
-// A step read: refused by a rule, or its time stamp and how many variables it names, of a header or of a later step.
-#[derive(Clone, Copy)]
+// A step that was read: its time stamp and how many variables it names, of a header or of a later step.
+#[derive(Clone, Copy, Debug, PartialEq, Eq)]
 pub enum StepRead {
-    Refused(u64),
     Header { time: u64, named: usize },
     Later { time: u64, named: usize },
 }

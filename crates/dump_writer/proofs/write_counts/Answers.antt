@@ -1,7 +1,7 @@
 -- `dump_writer::write_counts` meets its contract. Assumes nothing.
+use Rattle.std.specs.Prelude.{Ok}
 use Rattle.std.proofs.Common.{◌≡◌, refl, ap, ◌∙◌, subst, Bool, true, false, ◌||◌, List, ◌++◌, ℕ, ◌<◌, ◌≤◌, zero-add, ltb, length, drop, lt-ltb}
 use Rattle.sheet.specs.Output.{written, Put}
-use Rattle.waveform.specs.declared.Written.{Written}
 use Rattle.waveform.specs.Dump.{step_bytes}
 use Rattle.dump_writer.specs.Writing.{counts-refused, counts-written}
 use Rattle.dump_writer.proofs.write_counts.Goals as goal
@@ -39,4 +39,4 @@ returns c =
     let enough = subst (λ k. k ≤ length a.page.now) n c.if-page-length.false in
     let w = counts-written a.first a.time a.counts.now a.fills.now a.page.now c.if-fills-counts.false enough in
     let put = at_front {bytes = step_bytes a.first a.time a.counts.now a.fills.now} c.put_step.ensures in
-    record { answer = ap Written.Bytes n ∙ w.0; fills = copied ∙ w.1.0; page = put ∙ w.1.1 }
+    record { answer = ap (λ (k : ℕ). Ok k) n ∙ w.0; fills = copied ∙ w.1.0; page = put ∙ w.1.1 }

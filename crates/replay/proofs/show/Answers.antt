@@ -1,6 +1,5 @@
 -- `replay::show` meets its contract, by whether there is a step, and which. Assumes nothing.
 use Rattle.std.proofs.Common.{◌≡◌, refl, ap, sym, ◌∙◌, Bool, true, false, not, true≢false, List, ℕ}
-use Rattle.waveform.specs.declared.Written.{Written}
 use Rattle.waveform.specs.Calls.{write_answer, write_list, write_page, written_length}
 use Rattle.replay.specs.Replay.{shown, shown_if, step_shown}
 use Rattle.replay.proofs.show.Goals as goal
@@ -11,7 +10,7 @@ none true first w list page e = absurd (true≢false (sym e))
 none false first w list page e = refl
 
 -- what the call of the writer leaves, where it writes the step that is asked for
-some : (changed first kind : Bool) (w list page : List ℕ) → not changed ≡ false → first ≡ kind → (answer : Written) (bytes : ℕ) (list' page' : List ℕ)
+some : (changed first kind : Bool) (w list page : List ℕ) → not changed ≡ false → first ≡ kind → (answer : Answer ℕ) (bytes : ℕ) (list' page' : List ℕ)
     → bytes ≡ written_length answer → answer ≡ write_answer kind w list page → list' ≡ write_list kind w list page → page' ≡ write_page kind w list page
     → shown bytes list' page' ≡ shown_if changed first w list page
 unfolding shown_if step_shown
