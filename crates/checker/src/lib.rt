@@ -89,10 +89,9 @@ pub fn is_network(words: &[u64], s: Sizes) -> bool
     requires { EnoughWords (shape_of s) words.now }
     ensures { result ≡ is_network (shape_of s) words.now }
 {
-    let t = queues_fit(words, s);
-    if !t.ok {
+    let Some(t) = queues_fit(words, s) else {
         return false;
-    }
+    };
     if !rings_have_room(words, s) {
         return false;
     }

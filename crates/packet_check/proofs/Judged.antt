@@ -1,11 +1,13 @@
 -- A packet judged dimension after dimension. Order: the offset of one dimension by the tables; the dimensions before i are judged; what the answer is. Assumes nothing.
 use mathlib.Core.Path.{◌≡◌, refl, ap, sym, ◌∙◌}
 use mathlib.Core.Logic.{◌≢◌}
-use mathlib.Core.Bool.{Bool, true, false, cond, ◌&&◌}
+use mathlib.Core.Bool.{Bool, true, false, ◌&&◌}
 use mathlib.Core.List.{List}
 use Prim.Native.Nat.{ℕ, ◌+◌, ◌*◌, ◌-◌, ◌%◌, ◌<◌, ◌≤◌}
 use native.Mathlib.Omega.{arith}
 use borrow.Author.Tests.{eq-eqb, ne_eqb}
+use Rattle.std.specs.Prelude.{Option, Some, None}
+use Rattle.std.specs.Bool.{then_some}
 use lib.Dec.{T, eqb, ltb, ltb→lt}
 use lib.ListN.{get_or}
 use Rattle.base.specs.Tests.{all_below}
@@ -112,21 +114,21 @@ module _ (s : Sizes) (place : Place) (q p : ℕ) where
 
   -- The answer ------------------------------------------------------------------------------------------------------------------------------
 
-  abbrev answer : ℕ
-  answer = cond (packet_fits (shape_of s) (node_at s place) q p) (work p) 0
+  abbrev answer : Option ℕ
+  answer = then_some (packet_fits (shape_of s) (node_at s place) q p) (work p)
 
   module _ (on : OnTorus s place) where
     fits : packet_fits (shape_of s) (node_at s place) q p ≡ spares_clear p && (below_limits (shape_of s) q p && eqb (destination p) (moved_by (shape_of s) p (node_at s place)))
     fits = fits-is (shape_of s) (node_at s place) q p (sizes-torus s on.sizes) (place-node on)
 
-    no_answer : packet_fits (shape_of s) (node_at s place) q p ≡ false → 0 ≡ answer
-    no_answer e = ap (λ (t : Bool). cond t (work p) 0) (sym e)
+    no_answer : packet_fits (shape_of s) (node_at s place) q p ≡ false → None ≡ answer
+    no_answer e = ap (λ (t : Bool). then_some t (work p)) (sym e)
 
-    pub spare-set : spares_clear p ≡ false → 0 ≡ answer
+    pub spare-set : spares_clear p ≡ false → None ≡ answer
     spare-set e = no_answer (fits ∙ and-stop _ _ e)
 
     module _ (cleared : spares_clear p ≡ true) where
-      pub limit-reached : (i : ℕ) → i < dimensions → below_along (shape_of s) q p i ≡ false → 0 ≡ answer
+      pub limit-reached : (i : ℕ) → i < dimensions → below_along (shape_of s) q p i ≡ false → None ≡ answer
       unfolding below_limits
       limit-reached i h e = no_answer (fits ∙ and-on _ _ cleared ∙ and-stop _ _ (fails-at dimensions (below_along (shape_of s) q p) i h e))
 
@@ -141,12 +143,11 @@ module _ (s : Sizes) (place : Place) (q p : ℕ) where
         arrived : node ≡ moved_by (shape_of s) p (node_at s place)
         arrived = judged.led ∙ led-all s place p on i judged.few end
 
-        pub led-elsewhere : destination p ≢ node → 0 ≡ answer
+        pub led-elsewhere : destination p ≢ node → None ≡ answer
         led-elsewhere n = no_answer (passed ∙ ne_eqb (destination p) (moved_by (shape_of s) p (node_at s place)) (λ e. n (e ∙ sym arrived)))
 
-        pub work-is : destination p ≡ node → sum ≡ answer
+        pub work-is : destination p ≡ node → Some sum ≡ answer
         unfolding work hops_left
         work-is e =
-            judged.total
-            ∙ ap (λ (n : ℕ). sum_below n (λ j. distance j p) + 1) all
-            ∙ ap (λ (t : Bool). cond t (work p) 0) (sym (passed ∙ eq-eqb (destination p) (moved_by (shape_of s) p (node_at s place)) (e ∙ arrived)))
+            ap (λ (n : ℕ). Some n) (judged.total ∙ ap (λ (n : ℕ). sum_below n (λ j. distance j p) + 1) all)
+            ∙ ap (λ (t : Bool). then_some t (work p)) (sym (passed ∙ eq-eqb (destination p) (moved_by (shape_of s) p (node_at s place)) (e ∙ arrived)))

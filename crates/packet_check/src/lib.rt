@@ -3,7 +3,8 @@
 // tables, which are filled once for a check. Order: the offsets that pass in a queue; the tables; a packet.
 #![tactic(auto)]
 
-ghost use Rattle.std.specs.Prelude.{◌≡◌, cond, ℕ, ◌+◌, ◌*◌, ◌-◌, ◌%◌, ◌<◌, ◌≤◌, T, length, get_or};
+ghost use Rattle.std.specs.Prelude.{◌≡◌, ℕ, ◌+◌, ◌*◌, ◌-◌, ◌%◌, ◌<◌, ◌≤◌, T, length, get_or};
+ghost use Rattle.std.specs.Bool.{then_some};
 ghost use Rattle.base.specs.Bits.{bit};
 ghost use Rattle.base.specs.Digits.{weight};
 ghost use Rattle.network.specs.PacketLaws.{half_offsets};
@@ -83,11 +84,9 @@ fn fill_ring(tables: &mut [u64], i: u64, k: u64, weight: u64)
     ensures { PartWritten tables.old tables.new (i * dimension_words) (3 * k) (λ j. weight * (j % k)) }
 {
     let mut c = 0;
-    let mut j = 0;
-    while j < 3 * k {
+    for j in 0..3 * k {
         tables[(i * DIMENSION_WORDS + j) as usize] = weight * c;
         c = next_on_ring(c, k);
-        j += 1;
     }
 }
 
@@ -96,10 +95,8 @@ fn fill_passing(tables: &mut [u64], s: Sizes, i: u64)
     requires { T (sizes_in_range (shape_of s)) × (length tables.old ≡ table_words) × (i < dimensions) }
     ensures { PartWritten tables.old tables.new (i * dimension_words + ring_words) queues (λ q. passing (shape_of s) q i) }
 {
-    let mut q = 0;
-    while q < QUEUES {
+    for q in 0..QUEUES {
         tables[(i * DIMENSION_WORDS + RING_WORDS + q) as usize] = passing(s, q, i);
-        q += 1;
     }
 }
 
@@ -118,10 +115,8 @@ fn fill_distances(tables: &mut [u64])
     requires { length tables.old ≡ table_words }
     ensures { PartWritten tables.old tables.new first_distance offset_values distance_at }
 {
-    let mut a = 0;
-    while a < OFFSET_VALUES {
+    for a in 0..OFFSET_VALUES {
         tables[(FIRST_DISTANCE + a) as usize] = distance_at(a);
-        a += 1;
     }
 }
 
@@ -130,11 +125,9 @@ pub fn fill_tables(tables: &mut [u64], s: Sizes)
     requires { T (sizes_in_range (shape_of s)) × (length tables.old ≡ table_words) }
     ensures { Tables s tables.new }
 {
-    let mut i = 0;
-    while i < DIMENSIONS {
+    for i in 0..DIMENSIONS {
         fill_ring(tables, i, size(s, i), weight(s, i));
         fill_passing(tables, s, i);
-        i += 1;
     }
     fill_distances(tables);
 }
@@ -169,29 +162,27 @@ fn moved(tables: &[u64], s: Sizes, i: u64, c: u64, a: u64) -> u64
     tables[(i * DIMENSION_WORDS + (c + a + k - HALF_OFFSETS)) as usize]
 }
 
-// The work that packet p has left if it may stand at the node of this place, in queue q; 0 if it may not, which no work is.
-pub fn work_if_fits(tables: &[u64], s: Sizes, place: Place, q: u64, p: u64) -> u64
+// The work that packet p has left if it may stand at the node of this place, in queue q.
+pub fn work_if_fits(tables: &[u64], s: Sizes, place: Place, q: u64, p: u64) -> Option<u64>
     requires { OnTorus s place × Tables s tables.now × (q < queues) }
-    ensures { result ≡ cond (packet_fits (shape_of s) (node_at s place) q p) (work p) 0 }
+    ensures { result ≡ then_some (packet_fits (shape_of s) (node_at s place) q p) (work p) }
 {
     if !packet::spares_clear(p) {
-        return 0;
+        return None;
     }
     let at = place.at;
     let mut node = 0;
     let mut work = 1;
-    let mut i = 0;
-    while i < DIMENSIONS {
+    for i in 0..DIMENSIONS {
         let a = above(i, p);
         if !passes(tables, q, i, a) {
-            return 0;
+            return None;
         }
         node += moved(tables, s, i, at[i as usize], a);
         work += tables[(FIRST_DISTANCE + a) as usize];
-        i += 1;
     }
     if packet::destination(p) != node {
-        return 0;
+        return None;
     }
-    work
+    Some(work)
 }

@@ -2,12 +2,13 @@
 use mathlib.Core.Path.{◌≡◌, ap, ap₂, sym, ◌∙◌}
 use mathlib.Core.Bool.{Bool, true, false}
 use mathlib.Core.List.{List, []}
+use Rattle.std.specs.Prelude.{Some}
 use Prim.Native.Nat.{ℕ, ◌+◌, ◌-◌, ◌<◌, ◌≤◌}
 use native.Mathlib.Omega.{arith}
 use borrow.Author.Tests.{le-leb, lt-leb}
 use lib.Dec.{leb, eqb}
-use lib.ListN.{length, take, drop}
-use lib.Seq.{drop-drop}
+use lib.ListN.{length, take, drop, length-drop}
+use lib.Seq.{drop-drop, take_all}
 use Rattle.base.specs.Tests.{all_of}
 use Rattle.base.specs.Sums.{sum_of}
 use Rattle.base.proofs.Bools.{and-stop, and-on}
@@ -17,6 +18,10 @@ use Rattle.network.specs.Layout.{count_of, packets_of, unused_of, queue_length, 
 use Rattle.network.specs.Check.{packet_fits}
 use Rattle.queue.specs.Queue.{slots}
 use Rattle.queue_check.specs.QueueTally.{tally, part_fits}
+
+-- the words from place a on, as a part
+pub rest_all : (a : ℕ) (l : List ℕ) → take (length l - a) (drop a l) ≡ drop a l
+rest_all a l = let e = length-drop a l in take_all (length l - a) (drop a l) (omega arith)
 
 module _ (S : Shape) (n q : ℕ) (part : List ℕ) (long : length part ≡ queue_length S q) where
   -- it holds more than its capacity
@@ -60,7 +65,7 @@ module _ (S : Shape) (n q : ℕ) (part : List ℕ) (long : length part ≡ queue
 
   -- it holds nothing
   pub part-empty : count_of part ≡ 0 → count_of part < length part → all_of (eqb 0) (drop (count_of part + 1) part) ≡ true
-      → record { ok = true; held = 0; work = 0 } ≡ tally (part_fits S n q part) (length (packets_of part)) (sum_of work (packets_of part))
+      → Some (record { held = 0; work = 0 }) ≡ tally (part_fits S n q part) (length (packets_of part)) (sum_of work (packets_of part))
   unfolding tally all_of sum_of packets_of
   part-empty z h e =
       ap₂ (λ (a : Bool) (l : List ℕ). tally a (length l) (sum_of work l)) (sym (part-packets h e light ∙ ap (all_of (packet_fits S n q)) nothing)) (sym nothing)

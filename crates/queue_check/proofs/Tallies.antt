@@ -1,15 +1,17 @@
 -- Tallies. Order: a list's elements tested and summed one by one; so many queues or nodes tested and summed one by one; bounds of sums;
 -- a queue's packets one by one. Assumes nothing.
 use mathlib.Core.Path.{◌≡◌, refl, ap, ap₂, sym, ◌∙◌}
-use mathlib.Core.Bool.{Bool, true, false, cond, ◌&&◌}
-use mathlib.Core.Logic.{◌≢◌}
+use mathlib.Core.Bool.{Bool, true, false, ◌&&◌}
 use mathlib.Core.List.{List, [], ◌∷◌}
+use Rattle.std.specs.Prelude.{Some, None}
+use Rattle.std.specs.Bool.{then_some}
+use Rattle.std.proofs.lemmas.Option.{none-some, same_Some}
 use Prim.Native.Nat.{ℕ, suc, ◌+◌, ◌*◌, ◌-◌, ◌<◌, ◌≤◌}
 use native.Mathlib.Numerals.{add-one}
 use native.Mathlib.Nat.{suc-mul}
 use native.Mathlib.Omega.{arith}
 use lib.ListN.{length, get_or, drop, drop_of_length-le}
-use lib.Seq.{drop-cons, get_or-take, get_or-drop}
+use lib.Seq.{drop-cons}
 use Rattle.base.specs.Tests.{all_below, all_of}
 use Rattle.base.specs.Sums.{sum_below, sum_of}
 use Rattle.base.proofs.Sums.{sum-from, sum-end}
@@ -79,10 +81,10 @@ module _ (f : ℕ → Bool) (g h : ℕ → ℕ) where
   unfolding all_below sum_below
   upto-start = record { tests = refl; packets = refl; hops-left = refl }
 
-  pub upto-more : (k held work : ℕ) (t : Tally) → Upto f g h k held work → t ≡ tally (f k) (g k) (h k) → t.ok ≡ true
+  pub upto-more : (k held work : ℕ) (t : Tally) → Upto f g h k held work → Some t ≡ tally (f k) (g k) (h k)
       → Upto f g h (k + 1) (held + t.held) (work + t.work)
   unfolding all_below sum_below
-  upto-more k held work t upto e ok = rw (add-one k) (more (tally-yes t (f k) (g k) (h k) e ok))
+  upto-more k held work t upto e = rw (add-one k) (more (tally-yes t (f k) (g k) (h k) e))
     where
       more : Passed t (f k) (g k) (h k) → Upto f g h (suc k) (held + t.held) (work + t.work)
       more p =
@@ -92,10 +94,10 @@ module _ (f : ℕ → Bool) (g h : ℕ → ℕ) where
             hops-left = ap₂ (λ (a b : ℕ). a + b) upto.hops-left p.hops-left;
           }
 
-  pub upto-stop : (n k : ℕ) (t : Tally) → k < n → t ≡ tally (f k) (g k) (h k) → t.ok ≡ false → all_below n f ≡ false
-  upto-stop n k t l e no' = fails-at n f k l (tally-no t (f k) (g k) (h k) e no')
+  pub upto-stop : (n k : ℕ) → k < n → None ≡ tally (f k) (g k) (h k) → all_below n f ≡ false
+  upto-stop n k l e = fails-at n f k l (tally-no (f k) (g k) (h k) e)
 
-  pub upto-end : (n held work : ℕ) → Upto f g h n held work → record { ok = true; held = held; work = work } ≡ tally (all_below n f) (sum_below n g) (sum_below n h)
+  pub upto-end : (n held work : ℕ) → Upto f g h n held work → Some (record { held = held; work = work }) ≡ tally (all_below n f) (sum_below n g) (sum_below n h)
   unfolding tally
   upto-end n held work upto =
       ap₂ (λ (a b : ℕ). tally true a b) upto.packets upto.hops-left ∙ ap (λ (b : Bool). tally b (sum_below n g) (sum_below n h)) (sym upto.tests)
@@ -116,11 +118,6 @@ of-most m g (x ∷ xs) h =
 pub packets-length : (part : List ℕ) → count_of part < length part → length (packets_of part) ≡ count_of part
 packets-length part h = length-packets_of (length part - 1) part (omega arith) (omega arith)
 
-pub packet-at : (part : List ℕ) (i : ℕ) → i < count_of part → get_or (packets_of part) i 0 ≡ get_or part (i + 1) 0
-unfolding packets_of
-packet-at part i h =
-    get_or-take (count_of part) (drop 1 part) i 0 h ∙ get_or-drop 1 part i 0 ∙ ap (λ (j : ℕ). get_or part j 0) (let e : 1 + i ≡ i + 1 = omega arith in e)
-
 -- no packet has much work left, whatever its word, nor have the packets of a queue
 abbrev packet_work : ℕ
 packet_work = half_offsets * dimensions + 1
@@ -135,44 +132,32 @@ work-most p = let m = hops_left-most p in omega arith
 pub works-most : (l : List ℕ) → length l ≤ largest_capacity → sum_of work l ≤ queue_work
 works-most l h = let m = of-most packet_work work l work-most in omega arith
 
--- a packet that fails has no work told, and one that passes has some
-pub work_none : (t : Bool) (p r : ℕ) → r ≡ cond t (work p) 0 → r ≡ 0 → t ≡ false
-unfolding work
-work_none true p r e z = absurd (let n : ⊥ = omega arith in n)
-work_none false p r e z = refl
+-- a packet that fails has no work told, and one that passes has its own
+pub work_none : (t : Bool) (p : ℕ) → None ≡ then_some t (work p) → t ≡ false
+work_none true p e = absurd (none-some (work p) e)
+work_none false p e = refl
 
-pub work-some : (t : Bool) (p r : ℕ) → r ≡ cond t (work p) 0 → r ≢ 0 → (t ≡ true) × (r ≡ work p)
-work-some true p r e n = (refl, e)
-work-some false p r e n = absurd (n e)
+pub work-some : (t : Bool) (p r : ℕ) → Some r ≡ then_some t (work p) → (t ≡ true) × (r ≡ work p)
+work-some true p r e = (refl, same_Some r (work p) e)
+work-some false p r e = absurd (none-some r (sym e))
 
--- the packets one by one: f tests them, and w is the next one's work
-module _ (f : ℕ → Bool) (part : List ℕ) (few : count_of part < length part) where
-  pub packets-stop : (i sum : ℕ) → Left f work (packets_of part) i sum → i < count_of part → f (get_or part (i + 1) 0) ≡ false → all_of f (packets_of part) ≡ false
-  packets-stop i sum left h e =
-      let l = packets-length part few in
-      left-stop f work (packets_of part) i sum left (omega arith) (ap f (packet-at part i h) ∙ e)
+-- the packets one by one, where `l` are a queue's: f tests them, and w is the next one's work
+module _ (f : ℕ → Bool) (l : List ℕ) where
+  pub packets-more : (i sum w : ℕ) → Left f work l i sum → i < length l → (f (get_or l i 0) ≡ true) × (w ≡ work (get_or l i 0)) → Left f work l (i + 1) (sum + w)
+  packets-more i sum w left h e = let next = left-more f work l i sum left h e.0 in rw (← e.1) at next
 
-  pub packets-more : (i sum w : ℕ) → Left f work (packets_of part) i sum → i < count_of part → f (get_or part (i + 1) 0) ≡ true → w ≡ work (get_or part (i + 1) 0)
-      → Left f work (packets_of part) (i + 1) (sum + w)
-  packets-more i sum w left h e ew =
-      let l = packets-length part few in
-      let next : Left f work (packets_of part) (i + 1) (sum + work (get_or (packets_of part) i 0)) =
-      left-more f work (packets_of part) i sum left (omega arith) (ap f (packet-at part i h) ∙ e) in
-      rw (packet-at part i h, ← ew) at next
-
-  pub packets-small : (i sum w : ℕ) → Left f work (packets_of part) i sum → i < count_of part → w ≡ work (get_or part (i + 1) 0) → length part ≤ largest_capacity + 1 → sum + w ≤ queue_work
-  packets-small i sum w left h ew k =
-      let l = packets-length part few in
-      let a = left-next f work (packets_of part) i sum left (omega arith) in
-      let b = works-most (packets_of part) (omega arith) in
-      let e : work (get_or (packets_of part) i 0) ≡ work (get_or part (i + 1) 0) = ap work (packet-at part i h) in
+  pub packets-small : (i sum w : ℕ) → Left f work l i sum → i < length l → (f (get_or l i 0) ≡ true) × (w ≡ work (get_or l i 0)) → length l ≤ largest_capacity → sum + w ≤ queue_work
+  packets-small i sum w left h e k =
+      let a = left-next f work l i sum left h in
+      let b = works-most l k in
+      let d = e.1 in
       omega arith
 
-  pub packets-end : (i sum count : ℕ) → Left f work (packets_of part) i sum → count ≡ count_of part → count ≤ i
-      → record { ok = true; held = count; work = sum } ≡ tally (all_of f (packets_of part)) (length (packets_of part)) (sum_of work (packets_of part))
+  -- at the end, where they are known as the words m too
+  pub packets-end : (i sum count : ℕ) (m : List ℕ) → Left f work l i sum → length l ≤ i → l ≡ m → count ≡ length m
+      → Some (record { held = count; work = sum }) ≡ tally (all_of f m) (length m) (sum_of work m)
   unfolding tally
-  packets-end i sum count left e h =
-      let l = packets-length part few in
-      let z = left_end f work (packets_of part) i sum left (omega arith) in
-      ap₂ (λ (a b : ℕ). tally true a b) (e ∙ sym l) z.1
-      ∙ ap (λ (b : Bool). tally b (length (packets_of part)) (sum_of work (packets_of part))) (sym z.0)
+  packets-end i sum count m left h e ec =
+      let z = left_end f work l i sum left h in
+      ap₂ (λ (a b : ℕ). tally true a b) ec (z.1 ∙ ap (sum_of work) e)
+      ∙ ap (λ (b : Bool). tally b (length m) (sum_of work m)) (sym (ap (all_of f) (sym e) ∙ z.0))

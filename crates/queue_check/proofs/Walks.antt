@@ -1,8 +1,9 @@
 -- The queues of a node one by one, and the nodes of a network one by one. Order: what every queue comes to; a node's queues, with the place of the
 -- next one; a network's nodes, with the next one's place. `S` are sizes, `w` the words. Assumes nothing.
 use mathlib.Core.Path.{◌≡◌, ap, ap₂, sym, ◌∙◌}
-use mathlib.Core.Bool.{Bool, true, false}
+use mathlib.Core.Bool.{Bool}
 use mathlib.Core.List.{List}
+use Rattle.std.specs.Prelude.{Option, Some, None}
 use Prim.Native.Nat.{ℕ, suc, ◌+◌, ◌*◌, ◌%◌, ◌<◌, ◌≤◌}
 use native.Mathlib.Numerals.{add-one}
 use native.Mathlib.Nat.{min-le_right, suc-mul, mul-le-mul_right}
@@ -114,17 +115,17 @@ module _ (S : Shape) (w : List ℕ) (n : ℕ) where
   node-part q at held work c walk e = ap₂ (λ (a b : ℕ). span w a b) walk.place (node_end q at held work c walk e)
 
   -- what its words come to is what it comes to
-  pub node-tally : (q : ℕ) (part : List ℕ) (t : Tally) → part ≡ queue_part S w n q
+  pub node-tally : (q : ℕ) (part : List ℕ) (t : Option Tally) → part ≡ queue_part S w n q
       → t ≡ tally (part_fits S n q part) (length (packets_of part)) (sum_of work (packets_of part)) → t ≡ tally (fits S w n q) (holds S w n q) (works S w n q)
   unfolding queue_fits part_fits held taken
   node-tally q part t e f = f ∙ ap (λ (l : List ℕ). tally (part_fits S n q l) (length (packets_of l)) (sum_of work (packets_of l))) e
 
-  pub node-more : (q at held work c : ℕ) (t : Tally) → NodeWalk S w n q at held work → c ≡ capacity S q → t ≡ tally (fits S w n q) (holds S w n q) (works S w n q)
-      → t.ok ≡ true → q < queues → NodeWalk S w n (q + 1) (at + c + 1) (held + t.held) (work + t.work)
-  node-more q at held work c t walk ec e ok h =
+  pub node-more : (q at held work c : ℕ) (t : Tally) → NodeWalk S w n q at held work → c ≡ capacity S q → Some t ≡ tally (fits S w n q) (holds S w n q) (works S w n q)
+      → q < queues → NodeWalk S w n (q + 1) (at + c + 1) (held + t.held) (work + t.work)
+  node-more q at held work c t walk ec e h =
       record {
         place = node_end q at held work c walk ec ∙ end-next S n q ∙ ap (queue_start S n) (sym (add-one q));
-        upto = upto-more (fits S w n) (holds S w n) (works S w n) q held work t walk.upto e ok;
+        upto = upto-more (fits S w n) (holds S w n) (works S w n) q held work t walk.upto e;
         within = omega arith;
       }
 
@@ -137,14 +138,13 @@ module _ (S : Shape) (w : List ℕ) (n : ℕ) where
       let e = walk.upto.hops-left in
       (omega arith, omega arith)
 
-  pub node-stop : (q : ℕ) (t r : Tally) → t ≡ tally (fits S w n q) (holds S w n q) (works S w n q) → t.ok ≡ false → q < queues
-      → ((held work : ℕ) → r ≡ tally false held work) → r ≡ node_tally S w n
+  pub node-stop : (q : ℕ) → None ≡ tally (fits S w n q) (holds S w n q) (works S w n q) → q < queues → None ≡ node_tally S w n
   unfolding node_tally
-  node-stop q t r e no' h u =
-      tally-fails r (all_below queues (fits S w n)) (sum_below queues (holds S w n)) (sum_below queues (works S w n)) u
-      (upto-stop (fits S w n) (holds S w n) (works S w n) queues q t h e no')
+  node-stop q e h =
+      tally-fails (all_below queues (fits S w n)) (sum_below queues (holds S w n)) (sum_below queues (works S w n))
+      (upto-stop (fits S w n) (holds S w n) (works S w n) queues q h e)
 
-  pub node_done : (q at held work : ℕ) → NodeWalk S w n q at held work → queues ≤ q → record { ok = true; held = held; work = work } ≡ node_tally S w n
+  pub node_done : (q at held work : ℕ) → NodeWalk S w n q at held work → queues ≤ q → Some (record { held = held; work = work }) ≡ node_tally S w n
   unfolding node_tally
   node_done q at held work walk h =
       let m = walk.within in
@@ -185,7 +185,7 @@ module _ (s : Sizes) (w : List ℕ) where
       → start ≡ queue_start (shape_of s) (node_at s place) 0
   net-first n place start held work net h = net.first ∙ ap (λ (m : ℕ). queue_start (shape_of s) m 0) (sym (net.walk.node h))
 
-  pub net-tally : (n : ℕ) (place : Place) (start held work : ℕ) (t : Tally) → NetWalk s w n place start held work → n < nodes (shape_of s) → t ≡ node_tally (shape_of s) w (node_at s place)
+  pub net-tally : (n : ℕ) (place : Place) (start held work : ℕ) (t : Option Tally) → NetWalk s w n place start held work → n < nodes (shape_of s) → t ≡ node_tally (shape_of s) w (node_at s place)
       → t ≡ tally (node_fits (shape_of s) w n) (node_holds (shape_of s) w n) (node_works (shape_of s) w n)
   unfolding node_tally
   net-tally n place start held work t net h e = e ∙ ap (node_tally (shape_of s) w) (net.walk.node h)
@@ -210,24 +210,24 @@ module _ (s : Sizes) (w : List ℕ) where
       omega arith
 
   pub net-more : (n : ℕ) (place : Place) (start held work words : ℕ) (next : Place) (t : Tally) → NetWalk s w n place start held work → n < nodes (shape_of s)
-      → words ≡ node_words (shape_of s) → t ≡ node_tally (shape_of s) w (node_at s place) → t.ok ≡ true
+      → words ≡ node_words (shape_of s) → Some t ≡ node_tally (shape_of s) w (node_at s place)
       → OnTorus s next → node_at s next ≡ (node_at s place + 1) % nodes (shape_of s) → NetWalk s w (n + 1) next (start + words) (held + t.held) (work + t.work)
-  net-more n place start held work words next t net h ew e ok on en =
+  net-more n place start held work words next t net h ew e on en =
       record {
         first = ap (λ (k : ℕ). k + words) net.first ∙ net-next n words ew;
         walk = walk-next s n place next net.walk h on en;
         upto =
             upto-more (node_fits (shape_of s) w) (node_holds (shape_of s) w) (node_works (shape_of s) w) n held work t net.upto
-            (net-tally n place start held work t net h e) ok;
+            (net-tally n place start held work (Some t) net h e);
         within = omega arith;
       }
 
   -- the sums are small
   pub net-small : EnoughWords (shape_of s) w → (n held work : ℕ) (t : Tally)
       → Upto (node_fits (shape_of s) w) (node_holds (shape_of s) w) (node_works (shape_of s) w) n held work → n < nodes (shape_of s)
-      → t ≡ tally (node_fits (shape_of s) w n) (node_holds (shape_of s) w n) (node_works (shape_of s) w n) → t.ok ≡ true
+      → Some t ≡ tally (node_fits (shape_of s) w n) (node_holds (shape_of s) w n) (node_works (shape_of s) w n)
       → (held + t.held ≤ most_packets) × (work + t.work ≤ most_work_left)
-  net-small enough n held work t upto h e ok = sums (upto-more (node_fits S w) (node_holds S w) (node_works S w) n held work t upto e ok)
+  net-small enough n held work t upto h e = sums (upto-more (node_fits S w) (node_holds S w) (node_works S w) n held work t upto e)
     where
       S : Shape
       S = shape_of s
@@ -241,17 +241,17 @@ module _ (s : Sizes) (w : List ℕ) where
           let d = u.hops-left in
           (omega arith, omega arith)
 
-  pub net-stop : (n : ℕ) (place : Place) (start held work : ℕ) (t r : Tally) → NetWalk s w n place start held work → n < nodes (shape_of s)
-      → t ≡ node_tally (shape_of s) w (node_at s place) → t.ok ≡ false → ((held work : ℕ) → r ≡ tally false held work)
-      → r ≡ tally (queues_fit (shape_of s) w) (packets_held (shape_of s) w) (work_left (shape_of s) w)
+  pub net-stop : (n : ℕ) (place : Place) (start held work : ℕ) → NetWalk s w n place start held work → n < nodes (shape_of s)
+      → None ≡ node_tally (shape_of s) w (node_at s place)
+      → None ≡ tally (queues_fit (shape_of s) w) (packets_held (shape_of s) w) (work_left (shape_of s) w)
   unfolding queues_fit packets_held work_left total
-  net-stop n place start held work t r net h e no' u =
-      tally-fails r (queues_fit (shape_of s) w) (packets_held (shape_of s) w) (work_left (shape_of s) w) u
-      (upto-stop (node_fits (shape_of s) w) (node_holds (shape_of s) w) (node_works (shape_of s) w) (nodes (shape_of s)) n t h
-      (net-tally n place start held work t net h e) no')
+  net-stop n place start held work net h e =
+      tally-fails (queues_fit (shape_of s) w) (packets_held (shape_of s) w) (work_left (shape_of s) w)
+      (upto-stop (node_fits (shape_of s) w) (node_holds (shape_of s) w) (node_works (shape_of s) w) (nodes (shape_of s)) n h
+      (net-tally n place start held work None net h e))
 
   pub net-done : (n : ℕ) (place : Place) (start held work : ℕ) → NetWalk s w n place start held work → nodes (shape_of s) ≤ n
-      → record { ok = true; held = held; work = work } ≡ tally (queues_fit (shape_of s) w) (packets_held (shape_of s) w) (work_left (shape_of s) w)
+      → Some (record { held = held; work = work }) ≡ tally (queues_fit (shape_of s) w) (packets_held (shape_of s) w) (work_left (shape_of s) w)
   unfolding queues_fit packets_held work_left total
   net-done n place start held work net h =
       let m = net.within in

@@ -1,17 +1,20 @@
--- Words that are 0, some at a time. Order: two words in one; a run of words that one word tells of, of any width; the last words. Assumes nothing.
+-- Words that are 0, some at a time. Order: two words in one, and any number; a list by its parts. Assumes nothing.
 use mathlib.Core.Path.{◌≡◌, refl, ap, ap₂, sym, ◌∙◌}
 use mathlib.Core.Bool.{Bool, true, false, ◌&&◌}
-use mathlib.Core.Logic.{◌≢◌}
-use mathlib.Core.List.{List}
-use Prim.Native.Nat.{ℕ, zero, suc, ◌+◌, ◌<◌, ◌≤◌}
+use mathlib.Core.List.{List, [], ◌∷◌, ◌++◌}
+use Prim.Native.Nat.{ℕ, zero, suc, ◌+◌, ◌*◌, ◌≤◌}
+use native.Mathlib.Nat.{suc-mul}
 use native.Mathlib.Omega.{arith}
-use borrow.Author.Tests.{eq-eqb, ne_eqb}
+use borrow.Author.Tests.{ne_eqb}
 use lib.Bits.{bit_and, bit_or, or_add_and, and_le_r}
 use lib.Dec.{eqb, eqb-zero-suc, eqb-suc-zero}
-use lib.ListN.{length, get_or, drop}
+use lib.ListN.{take, drop}
+use Rattle.std.specs.List.{fold, list_all}
+use Rattle.std.specs.Simd.{first_chunks}
+use Rattle.std.proofs.lemmas.List.{take-append-drop, drop-drop}
+use Rattle.std.proofs.lemmas.List.Folds.{list_all-append}
 use Rattle.base.specs.Tests.{all_of}
-use Rattle.base.proofs.Bools.{and-stop, and-on}
-use Rattle.queue_check.proofs.Tallies.{all_from, all_end}
+use Rattle.base.proofs.Bools.{and-stop}
 
 -- a test for 0, either way round
 either_way : (a : ℕ) → eqb 0 a ≡ eqb a 0
@@ -28,41 +31,50 @@ or-none (suc a) b =
     some : (o n : ℕ) → o + n ≡ suc a + b → n ≤ b → o ≡ 0 → ⊥
     some o n e l z = omega arith
 
--- word x tells of the words from place i to place j: they are all 0 where it is
-pub record Tells (l : List ℕ) (i j x : ℕ) : Type 0 where
-  pub zeros : all_of (eqb 0) (drop i l) ≡ eqb x 0 && all_of (eqb 0) (drop j l)
+-- words are 0 when what they have together is
+alone : (a : Bool) → a && true ≡ a
+alone true = refl
+alone false = refl
 
-module _ (l : List ℕ) where
-  pub tells-one : (i j : ℕ) → i < length l → i + 1 ≡ j → Tells l i j (get_or l i 0)
-  tells-one i j h e = record { zeros = all_from (eqb 0) l i h ∙ ap₂ (λ (t : Bool) (k : ℕ). t && all_of (eqb 0) (drop k l)) (either_way (get_or l i 0)) e }
+regroup : (a b c : Bool) → a && b && c ≡ a && (b && c)
+regroup true b c = refl
+regroup false b c = refl
 
-  pub tells_both : (i j k x y : ℕ) → Tells l i j x → Tells l j k y → Tells l i k (bit_or x y)
-  tells_both i j k x y e f =
-      record {
-        zeros =
-            e.zeros
-            ∙ ap (λ (t : Bool). eqb x 0 && t) f.zeros
-            ∙ regroup (eqb x 0) (eqb y 0) (all_of (eqb 0) (drop k l))
-            ∙ ap (λ (t : Bool). t && all_of (eqb 0) (drop k l)) (sym (or-none x y));
-      }
-    where
-      regroup : (a b c : Bool) → a && (b && c) ≡ a && b && c
-      regroup true b c = refl
-      regroup false b c = refl
+none_in : (a : ℕ) (l : List ℕ) → eqb (fold bit_or a l) 0 ≡ eqb a 0 && all_of (eqb 0) l
+unfolding all_of
+none_in a [] = sym (alone (eqb a 0))
+none_in a (x ∷ xs) =
+    none_in (bit_or a x) xs
+    ∙ ap (λ (t : Bool). t && all_of (eqb 0) xs) (or-none a x)
+    ∙ regroup (eqb a 0) (eqb x 0) (all_of (eqb 0) xs)
+    ∙ ap (λ (t : Bool). eqb a 0 && (t && all_of (eqb 0) xs)) (sym (either_way x))
 
-  pub tells-stop : (i j x : ℕ) → Tells l i j x → x ≢ 0 → false ≡ all_of (eqb 0) (drop i l)
-  tells-stop i j x e ne = sym (e.zeros ∙ and-stop _ _ (ne_eqb x 0 ne))
+pub no_bits-is : (l : List ℕ) → eqb (fold bit_or 0 l) 0 ≡ all_of (eqb 0) l
+no_bits-is l = none_in 0 l
 
-  pub tells-on : (i j x : ℕ) → Tells l i j x → x ≡ 0 → all_of (eqb 0) (drop j l) ≡ all_of (eqb 0) (drop i l)
-  tells-on i j x e z = sym (e.zeros ∙ and-on _ _ (eq-eqb x 0 z))
+-- A list by its parts --------------------------------------------------------------------------------------------------------------------
 
-  -- the last word, and none
-  pub last_word : (i : ℕ) → i < length l → length l ≤ i + 1 → eqb (get_or l i 0) 0 ≡ all_of (eqb 0) (drop i l)
-  last_word i h n = sym ((tells-one i (i + 1) h refl).zeros ∙ ap (λ (t : Bool). eqb (get_or l i 0) 0 && t) (all_end (eqb 0) l (i + 1) n) ∙ alone (eqb (get_or l i 0) 0))
-    where
-      alone : (a : Bool) → a && true ≡ a
-      alone true = refl
-      alone false = refl
+module _ (f : ℕ → Bool) where
+  is-list_all : (l : List ℕ) → all_of f l ≡ list_all f l
+  unfolding all_of
+  is-list_all [] = refl
+  is-list_all (x ∷ xs) = ap (λ (t : Bool). f x && t) (is-list_all xs)
 
-  pub no_word : (i : ℕ) → length l ≤ i → true ≡ all_of (eqb 0) (drop i l)
-  no_word i n = sym (all_end (eqb 0) l i n)
+  -- the first n, and the rest
+  parted : (n : ℕ) (l : List ℕ) → all_of f l ≡ all_of f (take n l) && all_of f (drop n l)
+  parted n l =
+      ap (all_of f) (sym (take-append-drop n l))
+      ∙ is-list_all (take n l ++ drop n l)
+      ∙ list_all-append f (take n l) (drop n l)
+      ∙ ap₂ (λ (a b : Bool). a && b) (sym (is-list_all (take n l))) (sym (is-list_all (drop n l)))
+
+  -- k times n, and the rest
+  pub chunks-is : (n k : ℕ) (l : List ℕ) → list_all (all_of f) (first_chunks n k l) && all_of f (drop (k * n) l) ≡ all_of f l
+  chunks-is n zero l = ap (λ (m : ℕ). all_of f (drop m l)) (let e : 0 * n ≡ 0 = omega arith in e)
+  chunks-is n (suc k) l =
+      regroup (all_of f (take n l)) (list_all (all_of f) (first_chunks n k (drop n l))) (all_of f (drop (suc k * n) l))
+      ∙ ap (λ (t : Bool). all_of f (take n l) && t)
+      (ap (λ (m : List ℕ). list_all (all_of f) (first_chunks n k (drop n l)) && all_of f m)
+      (ap (λ (m : ℕ). drop m l) (suc-mul k n ∙ let e : k * n + n ≡ n + k * n = omega arith in e) ∙ sym (drop-drop (k * n) n l))
+      ∙ chunks-is n k (drop n l))
+      ∙ sym (parted n l)

@@ -27,15 +27,10 @@ fn ring_room(words: &[u64], r: Rings, first: usize) -> bool
     requires { RingsIn words.now r first r.group r.step }
     ensures { result ≡ ring_room words.now r first }
 {
-    let slots = r.slots;
-    let step = r.step;
-    let end = first + r.group;
-    let mut at = first;
-    while at < end {
-        if words[at] < slots {
+    for at in (first..first + r.group).step_by(r.step) {
+        if words[at] < r.slots {
             return true;
         }
-        at += step;
     }
     false
 }
@@ -45,14 +40,10 @@ fn group_room(words: &[u64], r: Rings, first: usize) -> bool
     requires { RingsIn words.now r first r.group r.node }
     ensures { result ≡ group_room words.now r first }
 {
-    let node = r.node;
-    let end = first + r.step;
-    let mut at = first;
-    while at < end {
+    for at in (first..first + r.step).step_by(r.node) {
         if !ring_room(words, r, at) {
             return false;
         }
-        at += node;
     }
     true
 }
@@ -62,14 +53,10 @@ fn groups_room(words: &[u64], r: Rings, first: usize) -> bool
     requires { RingsIn words.now r first r.all r.node }
     ensures { result ≡ groups_room words.now r first }
 {
-    let group = r.group;
-    let end = first + r.all;
-    let mut at = first;
-    while at < end {
+    for at in (first..first + r.all).step_by(r.group) {
         if !group_room(words, r, at) {
             return false;
         }
-        at += group;
     }
     true
 }
@@ -102,12 +89,10 @@ pub fn rings_have_room(words: &[u64], s: Sizes) -> bool
     requires { EnoughWords (shape_of s) words.now }
     ensures { result ≡ rings_have_room (shape_of s) words.now }
 {
-    let mut d = 0;
-    while d < DIRECTIONS {
+    for d in 0..DIRECTIONS {
         if !direction_has_room(words, s, d) {
             return false;
         }
-        d += 1;
     }
     true
 }

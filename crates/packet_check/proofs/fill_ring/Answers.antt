@@ -7,7 +7,7 @@ use Rattle.packet_check.proofs.fill_ring.Goals as goal
 use Rattle.packet_check.proofs.fill_ring.Goals.{In-loop-j}
 
 pub loop-j-init : goal.loop-j-init
-loop-j-init c = (filled_none _ _ _, sym (zero-mod _), omega arith)
+loop-j-init c = (filled_none _ _ _, sym (zero-mod _))
 
 -- the coordinate is on the ring
 small : (c : In-loop-j) → c.loop-j.c < c.args.k
@@ -29,10 +29,10 @@ next_on_ring-c-requires c = (small (goal.at.next_on_ring-c-requires c).In-loop-j
 pub loop-j-preserved : goal.loop-j-preserved
 loop-j-preserved c =
     let e = c.loop-j.invariant.1 in
-    (filled_more _ _ _ _ _ _ (omega arith) c.loop-j.invariant.0 (ap (λ (n : ℕ). c.args.weight * n) e), carried _ _ _ _ e c.next_on_ring-c.ensures, omega arith)
+    (filled_more _ _ _ _ _ _ (omega arith) c.loop-j.invariant.0 (ap (λ (n : ℕ). c.args.weight * n) e), carried _ _ _ _ e c.next_on_ring-c.ensures)
 
 pub shape_of-tables : goal.shape_of-tables
 shape_of-tables c = let w = c.loop-j.invariant.0.words in omega arith
 
 pub returns : goal.returns
-returns c = filled-all _ _ _ _ _ _ c.loop-j.invariant.0 c.loop-j.invariant.2 c.loop-j-test.false
+returns c = filled-all _ _ _ _ _ _ c.loop-j.invariant.0 (omega arith) c.loop-j-test.false

@@ -8,7 +8,7 @@ use Rattle.packet_check.proofs.fill_tables.Goals as goal
 
 pub loop-i-init : goal.loop-i-init
 loop-i-init c =
-    (λ m h. absurd (none m h), c.requires.1, omega arith)
+    (λ m h. absurd (none m h), c.requires.1)
   where
     none : (m : ℕ) → m < 0 → ⊥
     none m h = omega arith
@@ -38,7 +38,6 @@ loop-i-preserved c =
       dimension-more c.args.s c.loop-i.i _ _ _ _ _ c.requires.0 c.loop-i.invariant.0 c.size.ensures c.weight.ensures c.fill_ring.ensures
           c.fill_passing.ensures,
       c.fill_passing.ensures.words ∙ c.fill_ring.ensures.words ∙ c.loop-i.invariant.1,
-      omega arith,
     )
 
 pub fill_distances-requires : goal.fill_distances-requires

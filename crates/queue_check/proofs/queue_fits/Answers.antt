@@ -1,13 +1,13 @@
 -- `queue_check::queue_fits` meets its contract. Assumes nothing.
-use Rattle.std.proofs.Common.{◌≡◌, sym, ◌∙◌, true, ℕ, ◌+◌, arith, eqb, drop}
+use Rattle.std.proofs.Common.{◌≡◌, ap, sym, ◌∙◌, true, ℕ, ◌+◌, arith, eqb, drop}
 use Rattle.base.specs.Tests.{all_of}
 use Rattle.network.specs.Sizes.{Shape, shape_of}
 use Rattle.network.specs.Layout.{count_of, queue_length}
 use Rattle.torus.specs.Geometry.{node_at}
 use Rattle.queue_check.specs.TallyLaws.{tally-fails, tally-same}
-use Rattle.queue_check.proofs.QueueParts.{part-over, part-used, part-heavy, part-packets, part-empty}
+use Rattle.queue_check.proofs.QueueParts.{part-over, part-used, part-heavy, part-packets, part-empty, rest_all}
 use Rattle.queue_check.proofs.queue_fits.Goals as goal
-use Rattle.queue_check.proofs.queue_fits.Goals.{Else-not-all_zero, Start}
+use Rattle.queue_check.proofs.queue_fits.Goals.{After-all_zero, Else-not-all_zero, Start}
 
 abbrev S : Start → Shape
 S st = shape_of st.args.s
@@ -21,19 +21,24 @@ bounds-part-0 c = let l = c.requires.2 in omega arith
 
 pub returns-then-part-count : goal.returns-then-part-count
 unfolding count_of
-returns-then-part-count c = tally-fails _ _ _ _ c.unfit.ensures (part-over (S (goal.at.returns-then-part-count c).Start) (n (goal.at.returns-then-part-count c).Start) c.args.q c.args.part.now c.requires.2 c.if-part-count.true)
+returns-then-part-count c = tally-fails _ _ _ (part-over (S (goal.at.returns-then-part-count c).Start) (n (goal.at.returns-then-part-count c).Start) c.args.q c.args.part.now c.requires.2 c.if-part-count.true)
+
+-- what the test of the unused words says
+looked : (c : After-all_zero) → c.all_zero.result ≡ all_of (eqb 0) (drop (count_of c.args.part.now + 1) c.args.part.now)
+unfolding count_of
+looked c = c.all_zero.ensures ∙ ap (all_of (eqb 0)) (rest_all _ c.args.part.now)
 
 pub returns-then-not-all_zero : goal.returns-then-not-all_zero
 unfolding count_of
 returns-then-not-all_zero c =
-    tally-fails _ _ _ _ c.unfit-then-not-all_zero.ensures
+    tally-fails _ _ _
     (part-used (S (goal.at.returns-then-not-all_zero c).Start) (n (goal.at.returns-then-not-all_zero c).Start) c.args.q c.args.part.now c.requires.2 c.if-part-count.false
-    (sym c.all_zero.ensures ∙ c.if-not-all_zero.true))
+    (sym (looked (goal.at.returns-then-not-all_zero c).After-all_zero) ∙ c.if-not-all_zero.true))
 
--- the unused words are 0
+-- they are 0
 zeros : (c : Else-not-all_zero) → all_of (eqb 0) (drop (count_of c.args.part.now + 1) c.args.part.now) ≡ true
-unfolding count_of
-zeros c = sym c.all_zero.ensures ∙ c.if-not-all_zero.false
+unfolding count_of looked
+zeros c = sym (c.all_zero.ensures ∙ ap (all_of (eqb 0)) (rest_all _ c.args.part.now)) ∙ c.if-not-all_zero.false
 
 pub returns-then-count-eq0 : goal.returns-then-count-eq0
 unfolding count_of
@@ -46,7 +51,7 @@ load_fits-requires c = (c.if-part-count.false, c.requires.3)
 pub returns-then-not-load_fits : goal.returns-then-not-load_fits
 unfolding count_of
 returns-then-not-load_fits c =
-    tally-fails _ _ _ _ c.unfit-then-not-load_fits.ensures
+    tally-fails _ _ _
     (part-heavy (S (goal.at.returns-then-not-load_fits c).Start) (n (goal.at.returns-then-not-load_fits c).Start) c.args.q c.args.part.now c.requires.2 c.if-part-count.false (zeros (goal.at.returns-then-not-load_fits c).Else-not-all_zero)
     (sym c.load_fits.ensures ∙ c.if-not-load_fits.true))
 

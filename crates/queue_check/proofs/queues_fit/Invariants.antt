@@ -1,10 +1,6 @@
 -- `queue_check::queues_fit` meets its contract. The loop's invariant: the nodes before n are tested and summed. Assumes nothing.
-use Rattle.std.proofs.Common.{◌-◌}
 use Rattle.queue_check.proofs.Walks.{NetWalk}
 use Rattle.queue_check.proofs.queues_fit.Given as goal
 
 abbrev pub invariant-loop-n : goal.invariant-loop-n
-invariant-loop-n l = NetWalk l.s l.words l.n l.place l.start l.held l.work
-
-abbrev pub decreases-loop-n : goal.decreases-loop-n
-decreases-loop-n l = l.nodes - l.n
+invariant-loop-n l = NetWalk l.s l.words l._n l.place l.start l.held l.work

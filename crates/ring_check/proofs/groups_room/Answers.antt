@@ -1,22 +1,14 @@
 -- `ring_check::groups_room` meets its contract: the goals that the check does not find by itself. Assumes nothing.
-use Rattle.std.proofs.Common.{sym, ◌∙◌, ◌+◌, ◌≤◌, arith}
+use Rattle.std.proofs.Common.{sym, ◌∙◌, arith}
 use Rattle.ring_check.specs.RingLines.{group_room, groups_room}
 use Rattle.ring_check.proofs.RingWalks.{walk_start, walk_more, walk-room, walk-fails, walk-all, rings-at}
 use Rattle.ring_check.proofs.groups_room.Goals as goal
-use Rattle.ring_check.proofs.groups_room.Goals.{In-loop-at}
-
-pub overflow_add-end : goal.overflow_add-end
-overflow_add-end c = omega (arith, c.well_formed)
 
 pub loop-at-init : goal.loop-at-init
 loop-at-init c = walk_start _ _ _
 
--- the next place is not past the end
-within : (c : In-loop-at) → c.loop-at.at + c.args.r.group ≤ c.args.first + c.args.r.all
-within c = walk-room c.requires.groups c.loop-at.invariant c.loop-at-test.true
-
 pub group_room-requires : goal.group_room-requires
-group_room-requires c = let n = within (goal.at.group_room-requires c).In-loop-at in rings-at c.requires (omega (arith, c.requires))
+group_room-requires c = let n = walk-room c.requires.groups c.loop-at.invariant c.loop-at-test.true in rings-at c.requires (omega (arith, c.requires))
 
 pub returns-then-not-group_room : goal.returns-then-not-group_room
 unfolding groups_room
@@ -25,17 +17,13 @@ returns-then-not-group_room c =
     (walk-fails c.requires.groups c.loop-at.invariant (λ m. group_room c.args.words.now c.args.r m) c.loop-at-test.true
     (sym c.group_room.ensures ∙ c.if-not-group_room.true))
 
-pub overflow_add-at : goal.overflow_add-at
-overflow_add-at c =
-    let n = within (goal.at.overflow_add-at c).In-loop-at in
-    omega (arith, c.requires, c.well_formed)
-
-pub loop-at-smaller : goal.loop-at-smaller
-loop-at-smaller c = let s = c.requires.groups.some in omega arith
-
 pub loop-at-preserved : goal.loop-at-preserved
 loop-at-preserved c = walk_more c.loop-at.invariant (sym c.group_room.ensures ∙ c.if-not-group_room.false)
 
 pub returns : goal.returns
 unfolding groups_room
 returns c = sym (walk-all c.requires.groups c.loop-at.invariant c.loop-at-test.false)
+
+pub returns-else-not-group_room : goal.returns-else-not-group_room
+unfolding groups_room
+returns-else-not-group_room c = sym (walk-all c.requires.groups (walk_more c.loop-at.invariant (sym c.group_room.ensures ∙ c.if-not-group_room.false)) (omega arith))

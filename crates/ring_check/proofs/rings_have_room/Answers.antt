@@ -13,7 +13,7 @@ rooms S w d = all_below (nodes S) (λ n. ring_has_room S w d n)
 
 pub loop-d-init : goal.loop-d-init
 unfolding all_below
-loop-d-init c = (refl, omega arith)
+loop-d-init c = refl
 
 pub direction_has_room-requires : goal.direction_has_room-requires
 direction_has_room-requires c = (c.requires, c.loop-d-test.true)
@@ -28,10 +28,10 @@ unfolding rings_have_room
 returns-then-not-direction_has_room c = sym (fails-at directions (rooms _ _) c.loop-d.d c.loop-d-test.true (sym (found (goal.at.returns-then-not-direction_has_room c).After-direction_has_room) ∙ c.if-not-direction_has_room.true))
 
 pub loop-d-preserved : goal.loop-d-preserved
-loop-d-preserved c = (all_more (rooms _ _) c.loop-d.d c.loop-d.invariant.0 (sym (found (goal.at.loop-d-preserved c).After-direction_has_room) ∙ c.if-not-direction_has_room.false), omega arith)
+loop-d-preserved c = all_more (rooms _ _) c.loop-d.d c.loop-d.invariant (sym (found (goal.at.loop-d-preserved c).After-direction_has_room) ∙ c.if-not-direction_has_room.false)
 
 pub returns : goal.returns
 unfolding rings_have_room
 returns c =
     let e : c.loop-d.d ≡ directions = omega arith in
-    sym (ap (λ (k : ℕ). all_below k (rooms (shape_of c.args.s) c.args.words.now)) (sym e) ∙ c.loop-d.invariant.0)
+    sym (ap (λ (k : ℕ). all_below k (rooms (shape_of c.args.s) c.args.words.now)) (sym e) ∙ c.loop-d.invariant)
