@@ -20,7 +20,7 @@ use Rattle.waveform.proofs.DumpLaws.{variables-words}
 use Rattle.waveform.proofs.Lengths.{step_room}
 use Rattle.waveform.specs.Calls.{written_step, write_rules, write_refusal, write_answer, write_list, write_page, written_length}
 use Rattle.waveform.proofs.StepAnswers.{write-tells}
-use Rattle.replay.specs.Replay.{step_shown, shown_if, carried_out, changed, begins_dump, command_shown, one_word, moved_on, makes_move, move_shown}
+use Rattle.replay.specs.Replay.{shown, step_shown, shown_if, carried_out, changed, begins_dump, command_shown, one_word, moved_on, makes_move, move_shown}
 use Rattle.replay.specs.ReplayLaws.{NoMoveMade, NextMoveMade}
 use Rattle.replay.proofs.ReplayLaws.{move-told}
 use Rattle.replay.specs.Whole.{Roomy, whole_step}
@@ -49,6 +49,15 @@ pub shown-within : (changed first : Bool) (w list page : List ℕ) → (shown_if
 unfolding shown_if
 shown-within true first w list page = step-within first w list page
 shown-within false first w list page = omega arith
+
+-- a step is shown where something has changed, and only there
+pub shown-some : (changed first : Bool) (w list page : List ℕ) → changed ≡ true → step_shown first w list page ≡ shown_if changed first w list page
+unfolding shown_if
+shown-some changed first w list page t = rw t refl
+
+pub shown-none : (changed first : Bool) (w list page : List ℕ) → changed ≡ false → shown 0 list page ≡ shown_if changed first w list page
+unfolding shown_if
+shown-none changed first w list page f = rw f refl
 
 never-short : (words : ℕ) (first : Bool) (w list page : List ℕ) → Roomy words list page → length w ≤ words → network_refusal w ≡ 0 → write_refusal first w list page ≡ 0
 unfolding write_refusal write_rules

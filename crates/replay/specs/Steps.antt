@@ -1,13 +1,19 @@
--- A read that is replayed, step by step (R423): a step is a command carried out, or a single move of a D. Order: the start of a read; the sheet that the
+-- A read that is replayed, step by step (R423): a step is a command carried out, or a single move of a D. Order: the bytes of a move; the start of a read; the sheet that the
 -- rest of a read leads to, and the same told by its next step; the bytes that it writes, likewise; that there is an end. `piece` is the bytes of the read, `w` the words of the store, `buffer`
 -- holds the bytes of a line that are pending. Laws are in StepsLaws.antt. Assumes nothing.
-use Rattle.std.specs.Prelude.{◌≡◌, List, [], ◌++◌, ℕ, ◌+◌, ◌*◌, ◌<◌, ◌≤◌, length, take}
+use Rattle.std.specs.Prelude.{◌≡◌, List, [], ◌++◌, ℕ, ◌+◌, ◌*◌, ◌<◌, ◌≤◌, length, take, Option, None, Some}
 use Rattle.sheet.specs.Commands.{largest_number}
 use Rattle.session.specs.Reads.{Sheet, sheet}
 use Rattle.session.specs.Coming.{cursor_at, coming, carry_coming}
+use Rattle.replay.specs.declared.Replayed.{Replayed}
 use Rattle.replay.specs.declared.ReplayCursor.{ReplayCursor}
 use Rattle.replay.specs.declared.NextStep.{NextStep}
 use Rattle.replay.specs.Replay.{replayed, moves_bytes, dump_all, FillsOf}
+
+-- the bytes that show a move of a D, none if none was made
+unfoldable pub bytes_shown : Option Replayed → ℕ
+bytes_shown None = 0
+bytes_shown (Some step) = step.bytes
 
 -- no D is under way
 abbrev pub read_start : ℕ → ReplayCursor

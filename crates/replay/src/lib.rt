@@ -2,13 +2,13 @@
 // replayed move by move, so that each of its moves is a step of its own. Order: a step; a command at once; a move of a D; the next of a read.
 #![tactic(auto)]
 
-ghost use Rattle.std.specs.Prelude.{◌≡◌, List, ℕ, ◌<◌, ◌≤◌, eqb, length};
+ghost use Rattle.std.specs.Prelude.{◌≡◌, List, ℕ, ◌<◌, ◌≤◌, eqb, length, is_some, IfSome};
 ghost use Rattle.network.specs.Calls.{moved_number};
 ghost use Rattle.waveform.specs.Calls.{written_length};
 ghost use Rattle.session.specs.Session.{store_words};
 ghost use Rattle.replay.specs.Whole.{Roomy};
-ghost use Rattle.replay.specs.Steps.{read_start, finished, finished_by, Shows, GoesOn};
-ghost use Rattle.replay.specs.Replay.{FillsOf, shown, shown_if, carried_out, changed, begins_dump, command_shown, moves_asked, one_word, moved_on, makes_move, room_left, move_shown};
+ghost use Rattle.replay.specs.Steps.{bytes_shown, read_start, finished, finished_by, Shows, GoesOn};
+ghost use Rattle.replay.specs.Replay.{FillsOf, shown, step_shown, carried_out, changed, begins_dump, command_shown, moves_asked, moved_on, makes_move, room_left, move_shown};
 
 use lines::HELD_BYTES;
 use network::{Moved, drained_delivered, drained_moves, sized};
@@ -16,10 +16,9 @@ use session::{Cursor, LEDGER_WORDS, NextCommand, STORE_WORDS};
 use sheet::Command;
 use waveform::Written;
 
-// A move of a D: whether one was made, the words of the ledger that are left, and the bytes of its step.
+// A move of a D: the words of the ledger that are left, and the bytes of its step.
 #[derive(Clone, Copy)]
 pub struct Replayed {
-    pub moved: bool,
     pub room: usize,
     pub bytes: usize,
 }
@@ -34,13 +33,10 @@ fn bytes_of(written: Written) -> usize
     }
 }
 
-// The step of the words as they are, a header or a later one, if something has changed: how many bytes it has.
-fn show(changed: bool, first: bool, store: &[u64], fills: &mut [u8], page: &mut [u8]) -> usize
-    ensures { shown result fills.new page.new ≡ shown_if changed first store.now fills.old page.old }
+// The step of the words as they are, a header or a later one: how many bytes it has.
+fn show(first: bool, store: &[u64], fills: &mut [u8], page: &mut [u8]) -> usize
+    ensures { shown result fills.new page.new ≡ step_shown first store.now fills.old page.old }
 {
-    if !changed {
-        return 0;
-    }
     if first {
         return bytes_of(dump_writer::write_header(store, fills, page));
     }
@@ -85,38 +81,17 @@ fn apply(store: &mut [u64], command: Command) -> bool
             queue,
             output,
         } => was_made(calls::move_packet(store, node as u64, queue as u64, output as u64)),
-        Command::Drain { budget: _ } => false,
+        Command::Drain { .. } => false,
         Command::Bad => false,
     }
 }
 
 // R424: a T begins a new dump.
+#[tactic(auto, using(crate::proofs::Others::none_begun), unfolding(crate::specs::Replay::begins_dump))]
 fn begins_dump(command: Command) -> bool
     ensures { result ≡ begins_dump command }
 {
-    match command {
-        Command::Make {
-            x: _,
-            y: _,
-            z: _,
-            e: _,
-            a: _,
-            j: _,
-        } => true,
-        Command::Offer {
-            node: _,
-            destination: _,
-            tag: _,
-            chunks: _,
-        } => false,
-        Command::Move {
-            node: _,
-            queue: _,
-            output: _,
-        } => false,
-        Command::Drain { budget: _ } => false,
-        Command::Bad => false,
-    }
+    matches!(command, Command::Make { .. })
 }
 
 // R423: what a command does at once, with the step that shows it: how many bytes that has, 0 if nothing has changed.
@@ -126,68 +101,48 @@ pub fn carry_out(store: &mut [u64], command: Command, fills: &mut [u8], page: &m
     ensures within { result ≤ length page.old }
 {
     let changed = apply(store, command);
+    if !changed {
+        return 0;
+    }
     let first = begins_dump(command);
-    show(changed, first, store, fills, page)
+    show(first, store, fills, page)
 }
 
 // How many moves a command asks for besides, to be made one by one: a D's budget, and none of any other.
+#[tactic(auto, using(crate::proofs::Others::none_asked), unfolding(crate::specs::Replay::moves_asked))]
 pub fn moves_asked(command: Command) -> u32
     ensures { result ≡ moves_asked command }
 {
     match command {
-        Command::Make {
-            x: _,
-            y: _,
-            z: _,
-            e: _,
-            a: _,
-            j: _,
-        } => 0,
-        Command::Offer {
-            node: _,
-            destination: _,
-            tag: _,
-            chunks: _,
-        } => 0,
-        Command::Move {
-            node: _,
-            queue: _,
-            output: _,
-        } => 0,
         Command::Drain { budget } => budget,
-        Command::Bad => 0,
+        _ => 0,
     }
 }
 
-// The ledger of a single move: a word, while the D has one left.
-fn one_word(room: usize) -> usize
-    ensures { result ≡ one_word room }
-{
-    if room == 0 {
-        return 0;
-    }
-    1
-}
-
-// R423: one move of a D that has so many words of its ledger left, with the step that shows it.
-pub fn drain_move(store: &mut [u64], room: usize, fills: &mut [u8], page: &mut [u8]) -> Replayed
+// R423: one move of a D that has so many words of its ledger left, with the step that shows it; none, if it makes no move. It is lent a word of them while
+// one is left.
+pub fn drain_move(
+    store: &mut [u64],
+    room: usize,
+    fills: &mut [u8],
+    page: &mut [u8],
+) -> Option<Replayed>
     ensures store { store.new ≡ moved_on store.old room }
-    ensures moved { result.moved ≡ makes_move store.old room }
-    ensures room { result.room ≡ room_left store.old room }
-    ensures shown { shown result.bytes fills.new page.new ≡ move_shown store.old room fills.old page.old }
-    ensures within { result.bytes ≤ length page.old }
+    ensures moved { is_some result ≡ makes_move store.old room }
+    ensures room { IfSome result (λ step. step.room ≡ room_left store.old room) }
+    ensures shown { shown (bytes_shown result) fills.new page.new ≡ move_shown store.old room fills.old page.old }
+    ensures within { IfSome result (λ step. step.bytes ≤ length page.old) }
 {
     let mut ledger = [0u64; 1];
-    let words = one_word(room);
+    let words = room.min(1);
     let answer = calls::drain(store, 1, &mut ledger[..words]);
-    let moved = drained_moves(answer) != 0;
-    let left = room - drained_delivered(answer) as usize;
-    let bytes = show(moved, false, store, fills, page);
-    Replayed {
-        moved: moved,
-        room: left,
-        bytes: bytes,
+    let moves = drained_moves(answer);
+    if moves == 0 {
+        return None;
     }
+    let left = room - drained_delivered(answer) as usize;
+    let bytes = show(false, store, fills, page);
+    Some(Replayed { room: left, bytes })
 }
 
 // How far the replay of a read has come: the cursor behind its last command, and the moves that are left of a D, with the words that are left
@@ -212,12 +167,8 @@ pub enum NextStep {
 pub fn start_read(pending: usize) -> ReplayCursor
     ensures { result ≡ read_start pending }
 {
-    let read = Cursor {
-        passed: 0,
-        pending: pending,
-    };
     ReplayCursor {
-        read: read,
+        read: Cursor { passed: 0, pending },
         moves: 0,
         room: 0,
     }
@@ -238,24 +189,22 @@ fn next_move(
     ensures onward { (piece line : List ℕ) → GoesOn piece line cursor line page.old result }
 {
     let read = cursor.read;
-    let step = drain_move(store, cursor.room, fills, page);
-    let bytes = step.bytes;
-    if !step.moved {
-        return NextStep::Done {
-            bytes: bytes,
+    match drain_move(store, cursor.room, fills, page) {
+        Some(step) => NextStep::Done {
+            bytes: step.bytes,
             cursor: ReplayCursor {
-                read: read,
+                read,
+                moves: cursor.moves - 1,
+                room: step.room,
+            },
+        },
+        None => NextStep::Done {
+            bytes: 0,
+            cursor: ReplayCursor {
+                read,
                 moves: 0,
                 room: 0,
             },
-        };
-    }
-    NextStep::Done {
-        bytes: bytes,
-        cursor: ReplayCursor {
-            read: read,
-            moves: cursor.moves - 1,
-            room: step.room,
         },
     }
 }
@@ -276,9 +225,7 @@ fn next_line(
     ensures fills { FillsOf store.old fills.old → FillsOf store.new fills.new }
     ensures onward { GoesOn piece.now line.old cursor line.new page.old result }
 {
-    let read = cursor.read;
-    let next = session::next_command(line, piece, read);
-    match next {
+    match session::next_command(line, piece, cursor.read) {
         NextCommand::Given {
             command,
             cursor: behind,
@@ -286,10 +233,10 @@ fn next_line(
             let bytes = carry_out(store, command, fills, page);
             let moves = moves_asked(command);
             NextStep::Done {
-                bytes: bytes,
+                bytes,
                 cursor: ReplayCursor {
                     read: behind,
-                    moves: moves,
+                    moves,
                     room: LEDGER_WORDS,
                 },
             }

@@ -1,8 +1,8 @@
 -- Laws of what a read still brings. Order: told by its next command; a read is what comes from its start on; a byte is passed; no byte is left; the end of the input; a command is
 -- carried out; how many commands come at most. Assumes nothing.
-use Rattle.std.specs.Prelude.{◌≡◌, refl, List, [], ◌∷◌, map, ℕ, ◌+◌, ◌<◌, ◌≤◌, length, get_or, drop}
+use Rattle.std.specs.Prelude.{◌≡◌, refl, ◌⊎◌, List, [], ◌∷◌, map, ℕ, ◌+◌, ◌<◌, ◌≤◌, length, get_or, drop}
 use Rattle.std.proofs.Math.Path.{ap}
-use Rattle.std.proofs.Common.{ap₂, sym, ◌∙◌, append-nil, add-one, arith, length-append, length-drop, drop_of_length-le, drop-cons}
+use Rattle.std.proofs.Common.{ap₂, inl, inr, sym, ◌∙◌, append-nil, add-one, arith, length-append, length-drop, drop_of_length-le, drop-cons}
 use Rattle.std.proofs.lemmas.List.{map-append, length-map}
 use Rattle.std.proofs.Math.Decide.{dec_le, ℕ_discrete}
 use Rattle.sheet.specs.declared.Pending.{Pending}
@@ -68,19 +68,24 @@ module _ (piece buffer : List ℕ) (passed pending : ℕ) (buffer' : List ℕ) (
       byte-coming piece buffer passed pending buffer' fed h t
       ∙ ap (λ f. line_before buffer' f (coming piece buffer' (cursor_at (passed + 1) (pending_after f)))) e
 
-  pub byte-line : (n : ℕ) → fed ≡ Fed.Line n → coming piece buffer (cursor_at passed pending) ≡ coming_by piece buffer' (fed_command buffer' fed (passed + 1))
+  byte-line : (n : ℕ) → fed ≡ Fed.Line n → coming piece buffer (cursor_at passed pending) ≡ coming_by piece buffer' (fed_command buffer' fed (passed + 1))
   unfolding handed_on pending_after kept_command coming_by fed_command
   byte-line n e =
       byte-coming piece buffer passed pending buffer' fed h t
       ∙ ap (λ f. line_before buffer' f (coming piece buffer' (cursor_at (passed + 1) (pending_after f)))) e
       ∙ ap (λ f. coming_by piece buffer' (fed_command buffer' f (passed + 1))) (sym e)
 
-  pub byte-long : fed ≡ Fed.TooLong → coming piece buffer (cursor_at passed pending) ≡ coming_by piece buffer' (fed_command buffer' fed (passed + 1))
+  byte-long : fed ≡ Fed.TooLong → coming piece buffer (cursor_at passed pending) ≡ coming_by piece buffer' (fed_command buffer' fed (passed + 1))
   unfolding handed_on pending_after kept_command coming_by fed_command
   byte-long e =
       byte-coming piece buffer passed pending buffer' fed h t
       ∙ ap (λ f. line_before buffer' f (coming piece buffer' (cursor_at (passed + 1) (pending_after f)))) e
       ∙ ap (λ f. coming_by piece buffer' (fed_command buffer' f (passed + 1))) (sym e)
+
+  pub byte-ended : ((n : ℕ) × (fed ≡ Fed.Line n)) ⊎ (fed ≡ Fed.TooLong)
+      → coming piece buffer (cursor_at passed pending) ≡ coming_by piece buffer' (fed_command buffer' fed (passed + 1))
+  byte-ended (inl (n, e)) = byte-line n e
+  byte-ended (inr e) = byte-long e
 
 -- no byte is left
 pub bytes-passed : (piece buffer : List ℕ) (passed pending : ℕ) → (length piece ≡ 0 → ⊥) → length piece ≤ passed

@@ -69,10 +69,7 @@ pub fn answer_read(
     ensures rest { drop result.bytes out.new ≡ drop result.bytes out.old }
     ensures within { result.bytes ≤ length out.old }
 {
-    let mut cursor = Cursor {
-        passed: 0,
-        pending: pending,
-    };
+    let mut cursor = Cursor { passed: 0, pending };
     let mut at = 0;
     loop {
         let next = next_command(line, piece, cursor);
@@ -100,10 +97,7 @@ fn fed_command(line: &[u8], fed: Fed, passed: usize) -> NextCommand
     requires { LineWithin fed line.now }
     ensures { result ≡ fed_command line.now fed passed }
 {
-    let behind = Cursor {
-        passed: passed,
-        pending: 0,
-    };
+    let behind = Cursor { passed, pending: 0 };
     match fed {
         Fed::More(pending) => NextCommand::UsedUp(pending.count),
         Fed::Line(n) => NextCommand::Given {
@@ -123,25 +117,16 @@ pub fn next_command(line: &mut [u8], piece: &[u8], cursor: Cursor) -> NextComman
     requires { held_bytes ≤ length line.old }
     ensures { coming piece.now line.old cursor ≡ coming_by piece.now line.new result }
 {
-    let mut passed = cursor.passed;
     let mut pending = cursor.pending;
-    if piece.len() == 0 {
+    if piece.is_empty() {
         let fed = lines::finish(Pending { count: pending });
-        return fed_command(line, fed, passed);
+        return fed_command(line, fed, cursor.passed);
     }
-    while passed < piece.len() {
-        let fed = lines::feed(line, Pending { count: pending }, piece[passed]);
-        passed += 1;
+    for i in cursor.passed..piece.len() {
+        let fed = lines::feed(line, Pending { count: pending }, piece[i]);
         match fed {
-            Fed::More(more) => {
-                pending = more.count;
-            }
-            Fed::Line(_) => {
-                return fed_command(line, fed, passed);
-            }
-            Fed::TooLong => {
-                return fed_command(line, fed, passed);
-            }
+            Fed::More(more) => pending = more.count,
+            Fed::Line(_) | Fed::TooLong => return fed_command(line, fed, i + 1),
         }
     }
     NextCommand::UsedUp(pending)

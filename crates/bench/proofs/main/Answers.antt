@@ -2,8 +2,8 @@
 use Rattle.session.proofs.ReadLaws.{reached-start}
 use Rattle.bench.proofs.main.Goals as goal
 
-pub loop-turns-init : goal.loop-turns-init
-loop-turns-init c = reached-start _ _ (c.start-pending.ensures _)
+pub loop-init : goal.loop-init
+loop-init c = reached-start _ _ (c.start-pending.ensures _)
 
-pub loop-turns-preserved : goal.loop-turns-preserved
-loop-turns-preserved c = c.read_once-after.ensures.sheet _ c.loop-turns.invariant
+pub loop-preserved : goal.loop-preserved
+loop-preserved c = c.read_once.ensures.sheet _ c.loop.invariant

@@ -3,10 +3,9 @@ use Rattle.std.proofs.Common.{take}
 use Rattle.session.proofs.ReadLaws.{reached-more}
 use Rattle.bench.proofs.read_once.Goals as goal
 
-pub returns-in-Ok-write_first-clause-sheet : goal.returns-in-Ok-write_first-clause-sheet
-returns-in-Ok-write_first-clause-sheet g c =
-    λ buffer reached. reached-more buffer _ _ (take c.in-Ok.n c.read.new.buf) c.answer_read-answered.ensures.sheet reached
+pub returns-in_err-write-clause-sheet : goal.returns-in_err-write-clause-sheet
+returns-in_err-write-clause-sheet g c =
+    λ buffer reached. reached-more buffer _ _ (take c.in_ok-n.n c.read.new.buffer) c.answer_read-answered.ensures.sheet reached
 
-pub returns-in-Err-write_first-clause-sheet : goal.returns-in-Err-write_first-clause-sheet
-returns-in-Err-write_first-clause-sheet g c =
-    λ buffer reached. reached-more buffer _ _ (take c.in-Ok.n c.read.new.buf) c.answer_read-answered.ensures.sheet reached
+pub returns-clause-sheet : goal.returns-clause-sheet
+returns-clause-sheet g c = λ buffer reached. reached-more buffer _ _ (take c.in_ok-n.n c.read.new.buffer) c.answer_read-answered.ensures.sheet reached

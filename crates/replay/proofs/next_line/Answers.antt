@@ -49,13 +49,13 @@ pub returns-in-Given : goal.returns-in-Given
 returns-in-Given c =
     let does = c.carry_out-bytes.ensures in
     let all =
-    told _ _ _ _ _ _ _ _ _ _ _ _ _ _ c.requires.moves_value c.requires.roomy (few (goal.at.returns-in-Given c).After-carry_out-bytes) (next-given _ _ c.next_command-next.ensures c.in-Given.is) does.store (shows (goal.at.returns-in-Given c).After-carry_out-bytes)
+    told _ _ _ _ _ _ _ _ _ _ _ _ _ _ c.requires.moves_value c.requires.roomy (few (goal.at.returns-in-Given c).After-carry_out-bytes) (next-given _ _ c.next_command.ensures c.in-Given.is) does.store (shows (goal.at.returns-in-Given c).After-carry_out-bytes)
     c.moves_asked-moves.ensures (search rules) does.within in
     record { sheet = all.0; shown = all.1.0; fills = all.1.1.0; onward = all.1.1.1 }
 
 pub returns-in-UsedUp : goal.returns-in-UsedUp
 returns-in-UsedUp c =
-    let e = next-none _ _ c.next_command-next.ensures c.in-UsedUp.is in
+    let e = next-none _ _ c.next_command.ensures c.in-UsedUp.is in
     let ended = read-ended c.args.piece.now c.args.store.now c.args.line.now c.args.cursor c.requires.moves_value _ _ e in
     let rest = ended.1 c.args.fills.now c.args.page.now in
     record { sheet = ended.0; shown = rest.0; fills = λ is. is; onward = rest.1 }

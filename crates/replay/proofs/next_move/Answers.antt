@@ -1,16 +1,16 @@
 -- `replay::next_move` meets its contract, by whether a move was made. Assumes nothing.
-use Rattle.std.proofs.Common.{◌≡◌, refl, sym, ◌∙◌, Bool, true, false, true≢false, not, List, ℕ, ◌<◌, ◌≤◌, arith, length, rules}
+use Rattle.std.proofs.Common.{◌≡◌, sym, List, ℕ, ◌<◌, ◌≤◌, arith, length, rules}
 use Rattle.session.specs.Session.{store_words}
 use Rattle.replay.specs.declared.ReplayCursor.{ReplayCursor}
 use Rattle.replay.specs.declared.NextStep.{NextStep}
 use Rattle.replay.specs.Replay.{shown, moved_on, move_shown, move_bytes, FillsOf}
 use Rattle.replay.specs.Whole.{Roomy}
 use Rattle.replay.proofs.FillsLaws.{move-tells}
-use Rattle.replay.specs.Steps.{finished, finished_by, Shows, GoesOn}
+use Rattle.replay.specs.Steps.{bytes_shown, finished, finished_by, Shows, GoesOn}
 use Rattle.replay.specs.StepsLaws.{replay_at, Onward}
 use Rattle.replay.proofs.StepsLaws.{move-made, move-ended, onward-leads, onward-shows, move-fewer}
 use Rattle.replay.proofs.next_move.Goals as goal
-use Rattle.replay.proofs.next_move.Goals.{After-drain_move-step}
+use Rattle.replay.proofs.next_move.Goals.{After-drain_move}
 
 -- a move made or none: what it tells, whatever the read brings behind it
 told : (w v list list' page page' : List ℕ) (c : ReplayCursor) (bytes moves room : ℕ)
@@ -28,31 +28,25 @@ told w v list list' page page' c bytes moves room o roomy few e h less within = 
   ),
 )
 
--- whether one was made
-none_made : (moved : Bool) → not moved ≡ true → moved ≡ false
-none_made true e = absurd (true≢false (sym e))
-none_made false e = refl
-
-one-made : (moved : Bool) → not moved ≡ false → moved ≡ true
-one-made true e = refl
-one-made false e = absurd (true≢false e)
-
-few : (c : After-drain_move-step) → length c.args.store.now ≤ store_words
+few : (c : After-drain_move) → length c.args.store.now ≤ store_words
 few c = search rules
 
-pub returns-then-not-step : goal.returns-then-not-step
-returns-then-not-step c =
-    let move = c.drain_move-step.ensures in
-    let all =
-    told _ _ _ _ _ _ _ _ 0 0 (λ piece line. move-ended piece _ line _ c.requires.moves_nonzero _ move.store (sym move.moved ∙ none_made _ c.if-not-step.true)) c.requires.roomy (few (goal.at.returns-then-not-step c).After-drain_move-step) move.store
-    move.shown c.requires.moves_nonzero move.within in
-    record { sheet = all.0; shown = all.1.0; fills = all.1.1.0; onward = all.1.1.1 }
-
-pub returns : goal.returns
-returns c =
-    let move = c.drain_move-step.ensures in
+pub returns-in-Some : goal.returns-in-Some
+unfolding bytes_shown
+returns-in-Some c =
+    let move = c.in-Some.ensures in
     let some = c.requires.moves_nonzero in
     let all =
-    told _ _ _ _ _ _ _ _ _ _ (λ piece line. move-made piece _ line _ some _ move.store _ (sym move.moved ∙ one-made _ c.if-not-step.false) move.room) c.requires.roomy (few (goal.at.returns c).After-drain_move-step) move.store
+    told _ _ _ _ _ _ _ _ _ _ (λ piece line. move-made piece _ line _ some _ move.store _ (sym move.moved) move.room) c.requires.roomy (few (goal.at.returns-in-Some c).After-drain_move) move.store
     move.shown (omega arith) move.within in
+    record { sheet = all.0; shown = all.1.0; fills = all.1.1.0; onward = all.1.1.1 }
+
+pub returns-in-None : goal.returns-in-None
+unfolding bytes_shown
+returns-in-None c =
+    let move = c.in-None.ensures in
+    let some = c.requires.moves_nonzero in
+    let all =
+    told _ _ _ _ _ _ _ _ 0 0 (λ piece line. move-ended piece _ line _ some _ move.store (sym move.moved)) c.requires.roomy (few (goal.at.returns-in-None c).After-drain_move) move.store
+    move.shown some (omega arith) in
     record { sheet = all.0; shown = all.1.0; fills = all.1.1.0; onward = all.1.1.1 }

@@ -4,5 +4,5 @@ use Rattle.session.proofs.ReadLaws.{reached-start}
 use Rattle.replay.proofs.FillsLaws.{fills-start}
 use Rattle.wave.proofs.main.Goals as goal
 
-pub loop-turns-init : goal.loop-turns-init
-loop-turns-init c = record { reached = λ on. reached-start _ _ (c.start-pending.ensures _); fills = fills-start _ [] _ _ (c.start-pending.ensures []) }
+pub loop-init : goal.loop-init
+loop-init c = record { reached = reached-start _ _ (c.start-pending.ensures _); fills = fills-start _ [] _ _ (c.start-pending.ensures []) }

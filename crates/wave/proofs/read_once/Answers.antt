@@ -2,5 +2,5 @@
 use Rattle.session.proofs.ReadLaws.{reached-more}
 use Rattle.wave.proofs.read_once.Goals as goal
 
-pub returns-then-after-clause-sheet : goal.returns-then-after-clause-sheet
-returns-then-after-clause-sheet g c = λ more buffer reached. reached-more buffer _ _ _ (c.write_steps-after.ensures.sheet c.if-after.true) reached
+pub returns-clause-sheet : goal.returns-clause-sheet
+returns-clause-sheet g c = λ buffer reached. reached-more buffer _ _ _ c.in_ok-pending.ensures.sheet reached

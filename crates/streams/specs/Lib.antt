@@ -1,0 +1,2 @@
+-- How the programs end where a stream failed.
+pub mod Ends
