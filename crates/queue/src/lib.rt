@@ -40,11 +40,7 @@ pub fn remove(q: &mut [u64]) -> u64
 {
     let count = q[0] as usize;
     let oldest = q[1];
-    let mut i = 0;
-    while i + 1 < count {
-        q[i + 1] = q[i + 2];
-        i += 1;
-    }
+    q.copy_within(2..count + 1, 1);
     q[count] = 0;
     q[0] = (count - 1) as u64;
     oldest
@@ -153,13 +149,7 @@ pub fn chunks_of(packets: &[u64]) -> u64
     requires { length packets.now ≤ largest_capacity }
     ensures { result ≡ sum_of chunks packets.now }
 {
-    let mut sum = 0;
-    let mut i = 0;
-    while i < packets.len() {
-        sum += packet::chunks(packets[i]);
-        i += 1;
-    }
-    sum
+    packets.iter().map(|&p| packet::chunks(p)).sum()
 }
 
 // How much of queue q of node n is taken: the chunks of its packets where it is adaptive, else their number.
