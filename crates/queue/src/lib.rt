@@ -20,6 +20,7 @@ use network::{
 };
 
 // The packet becomes the newest of a queue with a free slot.
+#[tactic(auto, unfolding(network::specs::Layout::count_of))]
 pub fn append(q: &mut [u64], p: u64)
     requires queue { IsQueue q.old }
     requires q_bound { count_of q.old < slots q.old }
@@ -32,6 +33,7 @@ pub fn append(q: &mut [u64], p: u64)
 }
 
 // The head leaves a queue that holds one. The packets behind it move up, and the word that the last one leaves is cleared.
+#[tactic(auto, unfolding(network::specs::Layout::count_of))]
 pub fn remove(q: &mut [u64]) -> u64
     requires queue { IsQueue q.old }
     requires q_nonzero { 0 < count_of q.old }

@@ -4,26 +4,6 @@ use Rattle.network.specs.Layout.{count_of}
 use Rattle.queue.proofs.StoreLaws.{removed, oldest}
 use Rattle.queue.proofs.remove.Goals as goal
 
-pub overflow_add-count : goal.overflow_add-count
-unfolding count_of
-overflow_add-count c = omega arith
-
-pub copy_within-requires-clause-start_le_end : goal.copy_within-requires-clause-start_le_end
-unfolding count_of
-copy_within-requires-clause-start_le_end c = omega arith
-
-pub copy_within-requires-clause-in_bounds : goal.copy_within-requires-clause-in_bounds
-unfolding count_of
-copy_within-requires-clause-in_bounds c = omega arith
-
-pub copy_within-requires-clause-dest_in_bounds : goal.copy_within-requires-clause-dest_in_bounds
-unfolding count_of
-copy_within-requires-clause-dest_in_bounds c = omega arith
-
-pub overflow_sub-q : goal.overflow_sub-q
-unfolding count_of
-overflow_sub-q c = omega arith
-
 pub returns-clause-words : goal.returns-clause-words
 unfolding count_of
 returns-clause-words c =
