@@ -7,15 +7,6 @@ use Rattle.packet.proofs.Numbers.{back, range_back}
 use Rattle.packet.proofs.FieldWords.{sizes-way, word-start, word_more, word_end}
 use Rattle.packet.proofs.offered.Goals as goal
 
-pub overflow_sub-p : goal.overflow_sub-p
-overflow_sub-p c = omega (arith, c.requires.3)
-
-pub overflow_mul-p-2 : goal.overflow_mul-p-2
-overflow_mul-p-2 c = omega (arith, c.requires.3, c.requires.4)
-
-pub overflow_add-p : goal.overflow_add-p
-overflow_add-p c = omega (arith, c.requires.3, c.requires.4)
-
 pub overflow_mul-p-3 : goal.overflow_mul-p-3
 overflow_mul-p-3 c = let m = sizes-nodes c.args.s c.requires.0 in omega (arith, c.requires.2)
 
