@@ -6,14 +6,14 @@ use mathlib.Core.List.{List, [], ◌∷◌, ◌++◌}
 use Prim.Native.Nat.{ℕ, ◌+◌, ◌*◌, ◌-◌, ◌^◌, ◌<◌, ◌≤◌}
 use native.Mathlib.Omega.{arith}
 use borrow.Author.Tests.{eq-eqb, ne_eqb}
-use lib.ListN.{length, get_or, set, drop, replicate, length-append, length-drop, replicate-append-replicate}
+use lib.ListN.{length, get_or, drop, replicate, length-append, length-drop, length-replicate, replicate-append-replicate}
 use Rattle.network.specs.Sizes.{Shape, shape_of, nodes, capacity, injection_queue, direction_of, dimension_of}
 use Rattle.network.specs.Packet.{hop}
 use Rattle.network.specs.Torus.{neighbour}
 use Rattle.network.specs.TorusLaws.{Torus}
 use Rattle.network.specs.Layout.{header_words, need, node_words, held, put_queue, raised, accepted, delivered, moves_made, accepted_at, delivered_at, moves_at}
 use Rattle.network.specs.LayoutLaws.{Fits}
-use Rattle.network.proofs.LayoutLaws.{header-long, length-put, word-put, length-raised, raised-other}
+use Rattle.network.proofs.LayoutLaws.{need-header, header-long, length-put, word-put, length-raised, raised-other}
 use Rattle.network.specs.Check.{most_accepted, most_work, packets_held, work_left}
 use Rattle.network.specs.CheckLaws.{Network}
 use Rattle.network.specs.Routes.{deliver, target}
@@ -29,16 +29,24 @@ use Rattle.queue.specs.QueueLaws.{checked, checked-put, checked-fits}
 
 -- The header of an empty network ---------------------------------------------------------------------------------------------------------
 
--- the six sizes written over cleared words
-pub empty-words : (s : Sizes) (n : ℕ) (w v : List ℕ) → n ≡ need (shape_of s) → v ≡ replicate n 0 ++ drop n w
-    → set (set (set (set (set (set v 0 s.x) 1 s.y) 2 s.z) 3 s.escape) 4 s.adaptive) 5 s.injection
-    ≡ empty_network (shape_of s) ++ drop (need (shape_of s)) w
+-- the zeros of a network have room for its six sizes
+pub room-for-sizes : (S : Shape) (n : ℕ) (w v : List ℕ) → n ≡ need S → v ≡ replicate n 0 → 6 ≤ length (v ++ drop n w)
+room-for-sizes S n w v en ev =
+    let a = length-append v (drop n w) in
+    let l = ap length ev ∙ length-replicate {A = ℕ} n 0 in
+    let h = need-header S in
+    omega arith
+
+-- these copied over them
+pub empty-words : (s : Sizes) (n : ℕ) (w v six : List ℕ) → n ≡ need (shape_of s) → v ≡ replicate n 0
+    → six ≡ s.x ∷ s.y ∷ s.z ∷ s.escape ∷ s.adaptive ∷ s.injection ∷ []
+    → six ++ drop 6 (v ++ drop n w) ≡ empty_network (shape_of s) ++ drop (need (shape_of s)) w
 unfolding empty_header empty_network need shape_of
-empty-words s n w v en ev =
-    ap (λ (l : List ℕ). set (set (set (set (set (set l 0 s.x) 1 s.y) 2 s.z) 3 s.escape) 4 s.adaptive) 5 s.injection)
-    (ev
-    ∙ ap (λ (k : ℕ). replicate k 0 ++ drop k w) en
-    ∙ ap (λ (l : List ℕ). l ++ drop (header_words + rest) w) (sym (replicate-append-replicate header_words rest 0)))
+empty-words s n w v six en ev e =
+    ap₂ (λ (l zeros : List ℕ). l ++ drop 6 (zeros ++ drop n w)) e ev
+    ∙ ap (λ (k : ℕ). (s.x ∷ s.y ∷ s.z ∷ s.escape ∷ s.adaptive ∷ s.injection ∷ []) ++ drop 6 (replicate k 0 ++ drop k w)) en
+    ∙ ap (λ (l : List ℕ). (s.x ∷ s.y ∷ s.z ∷ s.escape ∷ s.adaptive ∷ s.injection ∷ []) ++ drop 6 (l ++ drop (header_words + rest) w))
+    (sym (replicate-append-replicate header_words rest 0))
   where
     rest : ℕ
     rest = nodes (shape_of s) * node_words (shape_of s)

@@ -13,26 +13,13 @@ ghost use Rattle.network.specs.Calls.{empty_network, after_offer, after_move};
 
 use network::{ACCEPTED_AT, DELIVER, DELIVERED_AT, INJECTION_QUEUE, MOVES_AT, Sizes, direction_of};
 
-// Writes zeros to the first n words.
-fn clear(words: &mut [u64], n: usize)
-    requires { n ≤ length words.old }
-    ensures { words.new ≡ replicate n 0 ++ drop n words.old }
-{
-    let mut i = 0;
-    while i < n {
-        words[i] = 0;
-        i += 1;
-    }
-}
-
 // One word rises by one, as a counter of the header does.
 fn raise(words: &mut [u64], at: usize)
     requires at_in_bounds { at < length words.old }
     requires at_bound { get_or words.old at 0 < 2 ^ 64 - 1 }
     ensures { words.new ≡ raised at words.old }
 {
-    let count = words[at];
-    words[at] = count + 1;
+    words[at] += 1;
 }
 
 // Make: an empty network of these sizes, all counts 0; the words behind it stay as they are.
@@ -41,14 +28,9 @@ pub fn write_empty(words: &mut [u64], s: Sizes)
     requires s_in_bounds { need (shape_of s) ≤ length words.old }
     ensures { words.new ≡ empty_network (shape_of s) ++ drop (need (shape_of s)) words.old }
 {
-    let n = queue::need(s);
-    clear(words, n);
-    words[0] = s.x;
-    words[1] = s.y;
-    words[2] = s.z;
-    words[3] = s.escape;
-    words[4] = s.adaptive;
-    words[5] = s.injection;
+    words[..queue::need(s)].fill(0);
+    let sizes = [s.x, s.y, s.z, s.escape, s.adaptive, s.injection];
+    words[..sizes.len()].copy_from_slice(&sizes);
 }
 
 // Offer: the packet becomes the newest of the node's injection queue, which has a free slot, and accepted rises by one.

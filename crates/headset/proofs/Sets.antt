@@ -16,6 +16,7 @@ use lib.Dec.{eqb, ltb, lit<}
 use lib.ListN.{length, get_or, set, length-set, replicate, length-replicate, get_or-eq_default}
 use lib.Pow.{pow_pos, shl_exact}
 use lib.Seq.{get_or-set_same, get_or-set_other}
+use Rattle.std.proofs.lemmas.Nat.{or_comm, and_comm}
 use Rattle.network.specs.Sizes.{queues}
 use Rattle.base.specs.Bits.{bit, one_bit}
 use Rattle.base.proofs.Bits.{bit-none, bit-or, bit-ones, bit-one, one-exact, shifted-below, shifted-from}
@@ -27,17 +28,17 @@ use Rattle.headset.proofs.WordBits.{bit-put}
 place-small : (m : ℕ) → m % 64 < 64
 place-small m = mod-lt m (zero-lt-suc 63)
 
-pub replaced : (s : List ℕ) (i w : ℕ) → i < length s → Replaced s (set s i w) i w
-replaced s i w l = record { words = length-set s i w; own = get_or-set_same s i w 0 l; others = λ k ne. get_or-set_other s i k w 0 ne }
+pub replaced : (s : List ℕ) (i w v : ℕ) → i < length s → w ≡ v → Replaced s (set s i w) i v
+replaced s i w v l e = record { words = length-set s i w; own = get_or-set_same s i w 0 l ∙ e; others = λ k ne. get_or-set_other s i k w 0 ne }
 
 -- as the code computes the word
-pub bit-set : (s : List ℕ) (k : ℕ) → k / 64 < length s → BitPut s (set s (k / 64) (bit_or (one_bit (k % 64)) (get_or s (k / 64) 0))) k true
+pub bit-set : (s : List ℕ) (k : ℕ) → k / 64 < length s → BitPut s (set s (k / 64) (bit_or (get_or s (k / 64) 0) (one_bit (k % 64)))) k true
 unfolding put
-bit-set s k l = rw (one-exact (k % 64) (place-small k)) (replaced s (k / 64) _ l)
+bit-set s k l = rw (one-exact (k % 64) (place-small k)) (replaced s (k / 64) _ _ l (or_comm (get_or s (k / 64) 0) _))
 
-pub bit-cleared : (s : List ℕ) (k : ℕ) → k / 64 < length s → BitPut s (set s (k / 64) (bit_and (2 ^ 64 - 1 - one_bit (k % 64)) (get_or s (k / 64) 0))) k false
+pub bit-cleared : (s : List ℕ) (k : ℕ) → k / 64 < length s → BitPut s (set s (k / 64) (bit_and (get_or s (k / 64) 0) (2 ^ 64 - 1 - one_bit (k % 64)))) k false
 unfolding put
-bit-cleared s k l = rw (one-exact (k % 64) (place-small k)) (replaced s (k / 64) _ l)
+bit-cleared s k l = rw (one-exact (k % 64) (place-small k)) (replaced s (k / 64) _ _ l (and_comm (get_or s (k / 64) 0) _))
 
 -- the bits of the other words
 other-bits : (s a : List ℕ) (i w k : ℕ) → Replaced s a i w → k / 64 ≢ i → bit_of a k ≡ bit_of s k

@@ -37,10 +37,8 @@ pub fn fill(set: &mut [u64], count: u64)
     requires count_le_most_nodes { count ≤ most_nodes }
     ensures { HeadsBelow set.new count }
 {
-    let mut n = 0;
-    while n < count {
+    for n in 0..count {
         insert_node(set, n);
-        n += 1;
     }
 }
 
@@ -73,8 +71,7 @@ fn unite(set: &mut [u64], i: u64, bits: u64)
     ensures { United set.old set.new i bits }
 {
     let at = (FIRST_WORD + i) as usize;
-    let word = set[at];
-    set[at] = bits | word;
+    set[at] |= bits;
     set_bit(set, WORD_BITS + i);
     set_bit(set, i / WORD_BITS);
 }
@@ -130,7 +127,7 @@ pub fn remove_lowest(set: &mut [u64], h: u64) -> u64
 fn lowest_bit(word: u64) -> u64
     ensures { LowestBit word result }
 {
-    u64::trailing_zeros(word) as u64
+    word.trailing_zeros() as u64
 }
 
 // Bit k of the words is set.
@@ -140,8 +137,7 @@ fn set_bit(set: &mut [u64], k: u64)
 {
     let at = (k / WORD_BITS) as usize;
     let bit: u64 = 1 << (k % WORD_BITS);
-    let word = set[at];
-    set[at] = bit | word;
+    set[at] |= bit;
 }
 
 // Bit k of the words is cleared. The answer: whether its word is 0 now.
@@ -152,8 +148,6 @@ fn clear_bit(set: &mut [u64], k: u64) -> bool
 {
     let at = (k / WORD_BITS) as usize;
     let bit: u64 = 1 << (k % WORD_BITS);
-    let word = set[at];
-    let rest = !bit & word;
-    set[at] = rest;
-    rest == 0
+    set[at] &= !bit;
+    set[at] == 0
 }

@@ -21,12 +21,9 @@ pub fn fill(loads: &mut [u8], words: &[u64], s: Sizes)
     requires s_in_bounds { directions * nodes (shape_of s) ≤ length loads.old }
     ensures { Loads (shape_of s) words.now loads.new }
 {
-    let entries = DIRECTIONS * torus::nodes(s);
-    let mut i = 0;
-    while i < entries {
+    for i in 0..DIRECTIONS * torus::nodes(s) {
         let load = queue::taken(words, s, i / DIRECTIONS, FIRST_ADAPTIVE + i % DIRECTIONS);
         loads[i as usize] = load as u8;
-        i += 1;
     }
 }
 

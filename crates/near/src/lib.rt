@@ -27,10 +27,8 @@ fn fill_node(near: &mut [u16], s: Sizes, n: u64, place: Place)
     ensures { NearTo (shape_of s) (directions * (n + 1)) near.new }
 {
     let at = place.at;
-    let mut d = 0;
-    while d < DIRECTIONS {
+    for d in 0..DIRECTIONS {
         fill_entry(near, s, d, n, at[(d / 2) as usize]);
-        d += 1;
     }
 }
 
@@ -39,15 +37,12 @@ pub fn fill(near: &mut [u16], s: Sizes)
     requires { T (sizes_in_range (shape_of s)) × (directions * nodes (shape_of s) ≤ length near.old) }
     ensures { Near (shape_of s) near.new }
 {
-    let count = nodes(s);
     let mut place = Place {
         at: [0; DIMENSIONS as usize],
     };
-    let mut n = 0;
-    while n < count {
+    for n in 0..nodes(s) {
         fill_node(near, s, n, place);
         place = next_place(s, place);
-        n += 1;
     }
 }
 

@@ -18,19 +18,6 @@ use Rattle.network.proofs.TorusLaws.{sizes-torus, in_range-size}
 use Rattle.network.specs.Calls.{offered_way}
 use Rattle.network.proofs.OfferLaws.{offered-range}
 
--- the weight of an offset's field, of each dimension
-pub field-weight-x : (i : ℕ) → i ≡ 0 → offset_values * offset_values ≡ weight fields (offset_field i)
-unfolding weight
-field-weight-x i e = rw e refl
-
-pub field-weight-y : (i : ℕ) → i ≡ 1 → offset_values ≡ weight fields (offset_field i)
-unfolding weight
-field-weight-y i e = rw e refl
-
-pub field-weight-z : (i : ℕ) → i ≡ 2 → 1 ≡ weight fields (offset_field i)
-unfolding weight
-field-weight-z i e = rw e refl
-
 pub field-weight-some : (i : ℕ) → 0 < weight fields (offset_field i)
 field-weight-some i = weight-pos fields (offset_field i) fields-positive
 

@@ -1,22 +1,22 @@
 -- Signed numbers as the code has them: a number z of an offset's range in 64 bits. The code hands a number on, or tests it, as it comes back from
 -- its bits; so do the laws. Order: it comes back; negated; half a turn on and back; its sign; what each sign gives; one hop towards zero. Assumes nothing.
-use mathlib.Core.Path.{◌≡◌, refl, ap, sym, subst, ◌∙◌}
-use mathlib.Core.Bool.{Bool, true, false, cond, true≢false, false≢true}
+use mathlib.Core.Path.{◌≡◌, refl, ap, ap₂, sym, subst, ◌∙◌}
+use mathlib.Core.Bool.{Bool, true, false, cond, true≢false}
 use Prim.Native.Nat.{ℕ, zero, suc, ◌+◌, ◌-◌, ◌%◌, ◌<◌, ◌≤◌}
 use native.Mathlib.Decide.{dec_lt}
 use native.Mathlib.Omega.{arith}
-use lib.Dec.{T, ltb}
-use lib.IntN.{ℤ, pos, negsuc, neg_ℤ, nat_abs, ◌+ℤ◌, ◌-ℤ◌, +ℤ_idl, +ℤ_one, -ℤ_one}
-use lib.Signed.{lt_z, non_neg}
+use lib.Dec.{ltb}
+use lib.IntN.{ℤ, pos, negsuc, neg_ℤ, nat_abs, ◌-ℤ◌, +ℤ_idl, +ℤ_one, -ℤ_one}
+use lib.Signed.{lt_z}
 use mir.Syntax.{w64}
-use mir.Val.{Fits, SFits, to_z, of_z}
+use mir.Val.{SFits, to_z, of_z}
 use mir.Facts.{to_z-of_z, to_z_pos}
-use borrow.Author.Tests.{ltb-true, ltb-false, lt-ltb, le-ltb}
-use Rattle.network.specs.declared.Sign.{Sign}
+use borrow.Author.Tests.{ltb-true, lt-ltb, le-ltb}
+use Rattle.std.specs.Int.{int_signum}
+use Rattle.std.specs.Prelude.{min}
 use Rattle.network.specs.Packet.{signed, unsigned, forward, backward, shrunk, offset_values}
 use Rattle.network.specs.PacketLaws.{half_offsets, OffsetRange}
 use Rattle.network.proofs.PacketLaws.{signed-small, signed-large, signed_range, shrunk-range}
-use Rattle.network.specs.Selection.{sign}
 
 -- the number that the bits of z stand for
 abbrev pub again : ℤ → ℤ
@@ -37,21 +37,6 @@ pub range_back : {y z : ℤ} → y ≡ z → OffsetRange z → OffsetRange (agai
 range_back e r = subst OffsetRange (sym (back e r)) r
 
 -- Negated -----------------------------------------------------------------------------------------------------------------------------
-
-neg-fits : (z : ℤ) → OffsetRange z → SFits w64 (neg_ℤ z)
-unfolding forward backward
-neg-fits (pos zero) r = record { sfits = omega arith }
-neg-fits (pos (suc n)) r = let l : suc n < half_offsets = r.most in record { sfits = omega arith }
-neg-fits (negsuc n) r = let l : suc n ≤ half_offsets = r.least in record { sfits = omega arith }
-
-negation-is : (z : ℤ) → OffsetRange z → pos 0 -ℤ again z ≡ neg_ℤ z
-negation-is z r = ap (λ x. pos 0 -ℤ x) (back refl r) ∙ +ℤ_idl (neg_ℤ z)
-
-pub negation-fits : {z : ℤ} → OffsetRange z → SFits w64 (pos 0 -ℤ again z)
-negation-fits {z} r = subst (SFits w64) (sym (negation-is z r)) (neg-fits z r)
-
-negation-back : (z : ℤ) → OffsetRange z → again (pos 0 -ℤ again z) ≡ neg_ℤ z
-negation-back z r = ap again (negation-is z r) ∙ to_z-of_z (neg-fits z r)
 
 -- of a small number m without a sign
 small-fits : (m : ℕ) → m ≤ offset_values → SFits w64 (neg_ℤ (pos m))
@@ -91,71 +76,13 @@ turned b h = back (turned-is b h) (signed_range b)
 abbrev pub Below : ℤ → Bool → Type 0
 Below z b = lt_z (again z) (pos 0) ≡ b
 
-abbrev pub Above : ℤ → Bool → Type 0
-Above z b = lt_z (pos 0) (again z) ≡ b
-
 under : {y z : ℤ} {b : Bool} → y ≡ z → OffsetRange z → Below y b → lt_z z (pos 0) ≡ b
 under e r t = ap (λ x. lt_z x (pos 0)) (sym (back e r)) ∙ t
-
-over : {y z : ℤ} {b : Bool} → y ≡ z → OffsetRange z → Above y b → lt_z (pos 0) z ≡ b
-over e r t = ap (λ x. lt_z (pos 0) x) (sym (back e r)) ∙ t
 
 never : (n : ℕ) → ltb n 0 ≡ true → ⊥
 never n t = let l = ltb-true n 0 t in omega arith
 
--- by them, as the rules name it
-pub sign-minus : {y z : ℤ} → y ≡ z → OffsetRange z → Below y true → Sign.Minus ≡ sign z
-sign-minus {z = z} e r t = go z (under e r t)
-  where
-    go : (z : ℤ) → lt_z z (pos 0) ≡ true → Sign.Minus ≡ sign z
-    go (pos n) t = absurd (never n t)
-    go (negsuc n) t = refl
-
-pub sign-plus : {y z : ℤ} → y ≡ z → OffsetRange z → Above y true → Sign.Plus ≡ sign z
-sign-plus {z = z} e r t = go z (over e r t)
-  where
-    go : (z : ℤ) → lt_z (pos 0) z ≡ true → Sign.Plus ≡ sign z
-    go (pos zero) t = absurd (never 0 t)
-    go (pos (suc n)) t = refl
-    go (negsuc n) t = absurd (false≢true t)
-
-pub sign_zero : {y z : ℤ} → y ≡ z → OffsetRange z → Below y false → Above y false → Sign.Zero ≡ sign z
-sign_zero {z = z} e r s t = go z (under e r s) (over e r t)
-  where
-    go : (z : ℤ) → lt_z z (pos 0) ≡ false → lt_z (pos 0) z ≡ false → Sign.Zero ≡ sign z
-    go (pos zero) s t = refl
-    go (pos (suc n)) s t = let l = ltb-false 0 (suc n) t in absurd (omega arith)
-    go (negsuc n) s t = absurd (true≢false s)
-
 -- What each sign gives ----------------------------------------------------------------------------------------------------------------
-
-nat_abs-neg : (z : ℤ) → nat_abs (neg_ℤ z) ≡ nat_abs z
-nat_abs-neg (pos zero) = refl
-nat_abs-neg (pos (suc n)) = refl
-nat_abs-neg (negsuc n) = refl
-
-pub nat_abs-negation : {z : ℤ} → OffsetRange z → nat_abs (again (pos 0 -ℤ again z)) ≡ nat_abs z
-nat_abs-negation {z} r = ap nat_abs (negation-back z r) ∙ nat_abs-neg z
-
--- the number may be cast to one without a sign
-abbrev Castable : ℤ → Type 0
-Castable z = T (non_neg z) × Fits w64 (nat_abs z)
-
-plus-castable : (z : ℤ) → OffsetRange z → lt_z z (pos 0) ≡ false → Castable z
-unfolding forward
-plus-castable (pos n) r t = let l : n < half_offsets = r.most in (tt, record { fits = omega arith })
-plus-castable (negsuc n) r t = absurd (true≢false t)
-
-minus-castable : (z : ℤ) → OffsetRange z → lt_z z (pos 0) ≡ true → Castable (neg_ℤ z)
-unfolding backward
-minus-castable (pos n) r t = absurd (never n t)
-minus-castable (negsuc n) r t = let l : suc n ≤ half_offsets = r.least in (tt, record { fits = omega arith })
-
-pub cast-of : {z : ℤ} → OffsetRange z → Below z false → Castable (again z)
-cast-of {z} r t = subst Castable (sym (back refl r)) (plus-castable z r (under refl r t))
-
-pub cast-of-negation : {z : ℤ} → OffsetRange z → Below z true → Castable (again (pos 0 -ℤ again z))
-cast-of-negation {z} r t = subst Castable (sym (negation-back z r)) (minus-castable z r (under refl r t))
 
 pub nat_abs-most : (z : ℤ) → OffsetRange z → nat_abs z ≤ half_offsets
 unfolding forward backward
@@ -179,42 +106,22 @@ field-plus {z} r t = go z (under refl r t)
     go (pos n) t = refl
     go (negsuc n) t = absurd (true≢false t)
 
--- One hop towards zero: up from below it, down from above it --------------------------------------------------------------------------
+-- One hop towards zero ----------------------------------------------------------------------------------------------------------------
 
-shrunk-up : (z : ℤ) → lt_z z (pos 0) ≡ true → z +ℤ pos 1 ≡ shrunk z
+towards-zero : (z : ℤ) → z -ℤ int_signum z ≡ shrunk z
 unfolding shrunk
-shrunk-up (pos n) t = absurd (never n t)
-shrunk-up (negsuc zero) t = +ℤ_one (negsuc zero)
-shrunk-up (negsuc (suc n)) t = +ℤ_one (negsuc (suc n))
+towards-zero (pos zero) = refl
+towards-zero (pos (suc n)) =
+    let one : min (suc n) 1 ≡ 1 = omega arith in
+    ap (λ (k : ℕ). pos (suc n) -ℤ pos k) one ∙ -ℤ_one (pos (suc n)) ∙ ap pos (omega arith)
+towards-zero (negsuc zero) = refl
+towards-zero (negsuc (suc n)) = +ℤ_one (negsuc (suc n))
 
-shrunk-down : (z : ℤ) → lt_z (pos 0) z ≡ true → z -ℤ pos 1 ≡ shrunk z
-unfolding shrunk
-shrunk-down (pos zero) t = absurd (never 0 t)
-shrunk-down (pos (suc n)) t = -ℤ_one (pos (suc n)) ∙ ap pos (omega arith)
-shrunk-down (negsuc n) t = absurd (false≢true t)
+signum-range : (z : ℤ) → OffsetRange (int_signum z)
+unfolding forward backward
+signum-range (pos n) = record { most = omega arith; least = omega arith }
+signum-range (negsuc n) = record { most = omega arith; least = omega arith }
 
-shrunk-rest : (z : ℤ) → lt_z z (pos 0) ≡ false → lt_z (pos 0) z ≡ false → pos 0 ≡ shrunk z
-unfolding shrunk
-shrunk-rest (pos n) s t = let l = ltb-false 0 n t in ap pos (omega arith)
-shrunk-rest (negsuc n) s t = absurd (true≢false s)
-
-up_is : {z : ℤ} → OffsetRange z → Below z true → again z +ℤ pos 1 ≡ shrunk z
-up_is {z} r t = ap (λ x. x +ℤ pos 1) (back refl r) ∙ shrunk-up z (under refl r t)
-
-down_is : {z : ℤ} → OffsetRange z → Above z true → again z -ℤ pos 1 ≡ shrunk z
-down_is {z} r t = ap (λ x. x -ℤ pos 1) (back refl r) ∙ shrunk-down z (over refl r t)
-
-pub up_fits : {z : ℤ} → OffsetRange z → Below z true → SFits w64 (again z +ℤ pos 1)
-up_fits {z} r t = subst (SFits w64) (sym (up_is r t)) (offset-fits (shrunk z) (shrunk-range z r))
-
-pub down_fits : {z : ℤ} → OffsetRange z → Above z true → SFits w64 (again z -ℤ pos 1)
-down_fits {z} r t = subst (SFits w64) (sym (down_is r t)) (offset-fits (shrunk z) (shrunk-range z r))
-
-pub up-back : {z : ℤ} → OffsetRange z → Below z true → again (again z +ℤ pos 1) ≡ shrunk z
-up-back {z} r t = back (up_is r t) (shrunk-range z r)
-
-pub down-back : {z : ℤ} → OffsetRange z → Above z true → again (again z -ℤ pos 1) ≡ shrunk z
-down-back {z} r t = back (down_is r t) (shrunk-range z r)
-
-pub at_zero : {z : ℤ} → OffsetRange z → Below z false → Above z false → pos 0 ≡ shrunk z
-at_zero {z} r s t = shrunk-rest z (under refl r s) (over refl r t)
+pub shrunk-back : {z s : ℤ} → OffsetRange z → s ≡ int_signum (again z) → again (again z -ℤ again s) ≡ shrunk z
+shrunk-back {z} r e =
+    back (ap₂ (λ x y. x -ℤ y) (back refl r) (back (e ∙ ap int_signum (back refl r)) (signum-range z)) ∙ towards-zero z) (shrunk-range z r)

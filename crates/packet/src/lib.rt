@@ -2,7 +2,7 @@
 // its name in the crate `network` (specs/Packet.antt, Calls.antt). The torus that packets cross is the crate `torus`.
 #![tactic(auto)]
 
-ghost use Rattle.std.specs.Prelude.{◌≡◌, ◌&&◌, ◌<◌, ◌≤◌, T, nat_abs};
+ghost use Rattle.std.specs.Prelude.{◌≡◌, ◌&&◌, ◌/◌, ◌%◌, ◌<◌, ◌≤◌, T, nat_abs};
 ghost use Rattle.base.specs.Digits.{digit, weight};
 ghost use Rattle.network.specs.Sizes.{shape_of, sizes_in_range, dimensions, largest_ring, most_chunks, nodes};
 ghost use Rattle.network.specs.Packet.{offset_values, fields, offset_field, signed, unsigned, offset, with_offset, shrunk, hop, destination, chunks, spare, upper_spare, shorter_way};
@@ -16,6 +16,7 @@ use network::{
     CHUNKS_AT, DESTINATION_AT, DESTINATION_VALUES, DIMENSIONS, MOST_CHUNKS, OFFSET_VALUES,
     SPARE_AT, SPARE_VALUES, Sign, Sizes, TAG_AT, UPPER_SPARE_AT, is_adaptive,
 };
+use std::cmp::Ordering;
 use torus::{coordinate, size};
 
 // Signed offsets ------------------------------------------------------------------------------------------------------------
@@ -36,7 +37,7 @@ pub fn nat_abs(z: i64) -> u64
     requires { OffsetRange z }
     ensures { result ≡ nat_abs z }
 {
-    if z < 0 { (-z) as u64 } else { z as u64 }
+    z.unsigned_abs()
 }
 
 // The field of such a number.
@@ -56,51 +57,50 @@ pub fn shrunk(z: i64) -> i64
     requires { OffsetRange z }
     ensures { result ≡ shrunk z }
 {
-    if z < 0 {
-        z + 1
-    } else if 0 < z {
-        z - 1
-    } else {
-        0
-    }
+    z - z.signum()
 }
 
 // The fields of a word ------------------------------------------------------------------------------------------------------
 
+// The field that stands from the weight AT on and has so many values.
+fn field<const AT: u64, const VALUES: u64>(p: u64) -> u64
+    requires { (0 < AT) × (0 < VALUES) }
+    ensures { result ≡ p / AT % VALUES }
+{
+    p / AT % VALUES
+}
+
 pub fn destination(p: u64) -> u64
     ensures { result ≡ destination p }
 {
-    p / DESTINATION_AT % DESTINATION_VALUES
+    field::<DESTINATION_AT, DESTINATION_VALUES>(p)
 }
 
 // How many chunks the packet has. The word has one less.
 pub fn chunks(p: u64) -> u64
     ensures { result ≡ chunks p }
 {
-    p / CHUNKS_AT % MOST_CHUNKS + 1
+    field::<CHUNKS_AT, MOST_CHUNKS>(p) + 1
 }
 
 // The bits above the offsets and above the chunks, of which nothing is made.
 pub fn spare(p: u64) -> u64
     ensures { result ≡ spare p }
 {
-    p / SPARE_AT % SPARE_VALUES
+    field::<SPARE_AT, SPARE_VALUES>(p)
 }
 
 pub fn upper_spare(p: u64) -> u64
     ensures { result ≡ upper_spare p }
 {
-    p / UPPER_SPARE_AT % SPARE_VALUES
+    field::<UPPER_SPARE_AT, SPARE_VALUES>(p)
 }
 
 // Whether both are 0.
 pub fn spares_clear(p: u64) -> bool
     ensures { result ≡ (spare_clear p && upper_spare_clear p) }
 {
-    if spare(p) != 0 {
-        return false;
-    }
-    upper_spare(p) == 0
+    spare(p) == 0 && upper_spare(p) == 0
 }
 
 // What the packet takes of queue q: its chunks in an adaptive queue, one slot in any other.
@@ -119,10 +119,11 @@ fn offset_weight(i: u64) -> u64
     requires { i < dimensions }
     ensures { result ≡ weight fields (offset_field i) }
 {
-    if i == 0 {
-        return OFFSET_VALUES * OFFSET_VALUES;
+    match i {
+        0 => OFFSET_VALUES * OFFSET_VALUES,
+        1 => OFFSET_VALUES,
+        _ => 1,
     }
-    if i == 1 { OFFSET_VALUES } else { 1 }
 }
 
 // The field of the offset of dimension i.
@@ -155,13 +156,10 @@ pub fn sign(i: u64, p: u64) -> Sign
     requires { i < dimensions }
     ensures { result ≡ sign (offset i p) }
 {
-    let z = offset(i, p);
-    if z < 0 {
-        Sign::Minus
-    } else if 0 < z {
-        Sign::Plus
-    } else {
-        Sign::Zero
+    match offset(i, p).cmp(&0) {
+        Ordering::Less => Sign::Minus,
+        Ordering::Equal => Sign::Zero,
+        Ordering::Greater => Sign::Plus,
     }
 }
 
@@ -209,10 +207,8 @@ pub fn offered(s: Sizes, n: u64, destination: u64, tag: u32, chunks: u64) -> u64
     ensures { result ≡ offered (shape_of s) n destination tag chunks }
 {
     let mut p = (tag as u64) * TAG_AT + (chunks - 1) * CHUNKS_AT + destination * DESTINATION_AT;
-    let mut i = 0;
-    while i < DIMENSIONS {
+    for i in 0..DIMENSIONS {
         p = with_offset(i, way(s, i, n, destination), p);
-        i += 1;
     }
     p
 }

@@ -5,8 +5,8 @@ use mathlib.Core.List.{List, [], ◌∷◌, ◌++◌}
 use Prim.Native.Nat.{ℕ, suc, ◌+◌, ◌-◌, ◌<◌}
 use native.Mathlib.Numerals.{add-one, one-add}
 use native.Mathlib.Omega.{arith}
-use lib.ListN.{length, get_or, take, drop, set, replicate, length-append, length-drop}
-use lib.Seq.{paste, paste-zero, paste-suc, length_paste_head, append_snoc, set-append_seam, take-append_seam, drop-append_seam, drop-cons, get_or-append-add, get_or-drop, get_or-take}
+use lib.ListN.{length, get_or, drop, set, replicate, length-append}
+use lib.Seq.{paste, append_snoc, set-append_seam, take-append_seam, drop-append_seam, drop-cons, get_or-drop, get_or-take}
 use Rattle.network.specs.Layout.{queue_words, count_of, packets_of}
 use Rattle.network.proofs.LayoutLaws.{queue_words-packets_of, length-packets_of}
 use Rattle.network.specs.Refusals.{head}
@@ -48,25 +48,6 @@ appended part p h room =
 -- the words with so many of the packets behind the head moved up by one place
 abbrev pub moved_up : List ℕ → ℕ → List ℕ
 moved_up part i = paste part 1 (drop 2 part) i
-
-pub moved_none : (part : List ℕ) → part ≡ moved_up part 0
-moved_none part = paste-zero part 1 (drop 2 part)
-
--- one packet more: the word behind is as it was
-pub moved_more : (part : List ℕ) (i : ℕ) → i + 2 < length part → set (moved_up part i) (i + 1) (get_or (moved_up part i) (i + 2) 0) ≡ moved_up part (i + 1)
-moved_more part i h =
-    let l : length (take 1 part ++ take i (drop 2 part)) ≡ 1 + i = length_paste_head part 1 (drop 2 part) i (omega arith) (omega (arith, length-drop 2 part)) in
-    ap₂ (λ (k v : ℕ). set (moved_up part i) k v) (omega arith) (behind l)
-    ∙ paste-suc part 1 (drop 2 part) i 0 (omega arith) (omega (arith, length-drop 2 part))
-    ∙ ap (moved_up part) (sym (add-one i))
-  where
-    behind : length (take 1 part ++ take i (drop 2 part)) ≡ 1 + i → get_or (moved_up part i) (i + 2) 0 ≡ get_or (drop 2 part) i 0
-    behind l =
-        ap (λ (k : ℕ). get_or (moved_up part i) k 0) (omega arith)
-        ∙ get_or-append-add (take 1 part ++ take i (drop 2 part)) (drop (1 + i) part) 1 0
-        ∙ get_or-drop (1 + i) part 1 0
-        ∙ ap (λ (k : ℕ). get_or part k 0) (omega arith)
-        ∙ sym (get_or-drop 2 part i 0)
 
 -- the head removed: the others moved up, the word of the last one cleared, the number held written
 remove-words : (c x : ℕ) (ps : List ℕ) → length ps < c

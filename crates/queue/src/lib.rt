@@ -20,6 +20,7 @@ use network::{
 };
 
 // The packet becomes the newest of a queue with a free slot.
+#[tactic(auto, unfolding(network::specs::Layout::count_of))]
 pub fn append(q: &mut [u64], p: u64)
     requires queue { IsQueue q.old }
     requires q_bound { count_of q.old < slots q.old }
@@ -32,6 +33,7 @@ pub fn append(q: &mut [u64], p: u64)
 }
 
 // The head leaves a queue that holds one. The packets behind it move up, and the word that the last one leaves is cleared.
+#[tactic(auto, unfolding(network::specs::Layout::count_of))]
 pub fn remove(q: &mut [u64]) -> u64
     requires queue { IsQueue q.old }
     requires q_nonzero { 0 < count_of q.old }
@@ -40,11 +42,7 @@ pub fn remove(q: &mut [u64]) -> u64
 {
     let count = q[0] as usize;
     let oldest = q[1];
-    let mut i = 0;
-    while i + 1 < count {
-        q[i + 1] = q[i + 2];
-        i += 1;
-    }
+    q.copy_within(2..count + 1, 1);
     q[count] = 0;
     q[0] = (count - 1) as u64;
     oldest
@@ -153,13 +151,7 @@ pub fn chunks_of(packets: &[u64]) -> u64
     requires { length packets.now ≤ largest_capacity }
     ensures { result ≡ sum_of chunks packets.now }
 {
-    let mut sum = 0;
-    let mut i = 0;
-    while i < packets.len() {
-        sum += packet::chunks(packets[i]);
-        i += 1;
-    }
-    sum
+    packets.iter().map(|&p| packet::chunks(p)).sum()
 }
 
 // How much of queue q of node n is taken: the chunks of its packets where it is adaptive, else their number.

@@ -1,4 +1,4 @@
--- Laws of the code's sizes and places. Order: the dimensions one by one; a coordinate by its weight; the neighbour by the weight; a node by its
+-- Laws of the code's sizes and places. Order: the nodes; a coordinate by its weight; the neighbour by the weight; a node by its
 -- place; the next place; a walk over all nodes; a coordinate moved. `s` are the code's sizes, `n` is a node. Assumes nothing.
 use Rattle.std.specs.Prelude.{◌≡◌, refl, List, ◌≢◌, ℕ, zero, suc, ◌+◌, ◌*◌, ◌-◌, ◌/◌, ◌%◌, ◌<◌, ◌≤◌, T, length, set, replicate}
 use Rattle.std.proofs.Math.Path.{ap, ap₂, sym}
@@ -22,10 +22,7 @@ use Rattle.network.specs.declared.Sizes.{Sizes}
 use Rattle.torus.specs.declared.Place.{Place}
 use Rattle.torus.specs.Geometry.{node_at, OnTorus, WalkTo}
 
--- The dimensions one by one -----------------------------------------------------------------------------------------------------------
-
-pub last-dimension : (i : ℕ) → i < dimensions → (i ≡ 0 → ⊥) → (i ≡ 1 → ⊥) → i ≡ 2
-last-dimension i h no-x no-y = omega arith
+-- The nodes -----------------------------------------------------------------------------------------------------------
 
 pub nodes-is : (s : Sizes) → s.x * s.y * s.z ≡ nodes (shape_of s)
 unfolding nodes shape_of product
@@ -38,30 +35,6 @@ plane-most s t =
     let m = mul-le-mul_left (s.x * s.y) (size-pos (shape_of s) 2 (sizes-torus s t) (omega arith)) in
     let o = mul-one (s.x * s.y) in
     subst (λ (n : ℕ). s.x * s.y ≤ n) (nodes-is s) (omega arith)
-
-pub size-x : (s : Sizes) (i : ℕ) → i ≡ 0 → s.x ≡ size (shape_of s) i
-unfolding size shape_of
-size-x s i e = rw e refl
-
-pub size-y : (s : Sizes) (i : ℕ) → i ≡ 1 → s.y ≡ size (shape_of s) i
-unfolding size shape_of
-size-y s i e = rw e refl
-
-pub size-z : (s : Sizes) (i : ℕ) → i ≡ 2 → s.z ≡ size (shape_of s) i
-unfolding size shape_of
-size-z s i e = rw e refl
-
-pub weight-x : (s : Sizes) (i : ℕ) → i ≡ 0 → 1 ≡ weight (shape_of s).sizes i
-unfolding weight shape_of
-weight-x s i e = rw e refl
-
-pub weight-y : (s : Sizes) (i : ℕ) → i ≡ 1 → s.x ≡ weight (shape_of s).sizes i
-unfolding weight shape_of
-weight-y s i e = rw e (sym (mul-one s.x))
-
-pub weight-z : (s : Sizes) (i : ℕ) → i ≡ 2 → s.x * s.y ≡ weight (shape_of s).sizes i
-unfolding weight shape_of
-weight-z s i e = rw e (ap (λ (y : ℕ). s.x * y) (sym (mul-one s.y)))
 
 -- A coordinate by its weight ------------------------------------------------------------------------------------------------------------
 

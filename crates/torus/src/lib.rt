@@ -21,10 +21,11 @@ pub fn size(s: Sizes, i: u64) -> u64
     requires { i < dimensions }
     ensures { result ≡ size (shape_of s) i }
 {
-    if i == 0 {
-        return s.x;
+    match i {
+        0 => s.x,
+        1 => s.y,
+        _ => s.z,
     }
-    if i == 1 { s.y } else { s.z }
 }
 
 // By how much the numbers of two nodes differ that are one step apart in dimension i.
@@ -32,10 +33,11 @@ pub fn weight(s: Sizes, i: u64) -> u64
     requires { T (sizes_in_range (shape_of s)) × (i < dimensions) }
     ensures { result ≡ weight (shape_of s).sizes i }
 {
-    if i == 0 {
-        return 1;
+    match i {
+        0 => 1,
+        1 => s.x,
+        _ => s.x * s.y,
     }
-    if i == 1 { s.x } else { s.x * s.y }
 }
 
 pub fn coordinate(s: Sizes, i: u64, n: u64) -> u64
@@ -87,15 +89,13 @@ pub fn next_place(s: Sizes, place: Place) -> Place
     ensures { OnTorus s result × (node_at s result ≡ (node_at s place + 1) % nodes (shape_of s)) }
 {
     let mut at = place.at;
-    let mut i = 0;
-    while i < DIMENSIONS {
+    for i in 0..DIMENSIONS {
         let c = at[i as usize] + 1;
         if c < size(s, i) {
             at[i as usize] = c;
             return Place { at };
         }
         at[i as usize] = 0;
-        i += 1;
     }
     Place { at }
 }

@@ -6,9 +6,6 @@ use Rattle.headset.proofs.lowest.Goals as goal
 pub returns-then-top-eq0 : goal.returns-then-top-eq0
 returns-then-top-eq0 c = lowest-empty c.args.set.now c.requires c.if-top-eq0.true
 
-pub bounds-set-i : goal.bounds-set-i
-bounds-set-i c = omega (arith, c.lowest_bit-i.ensures.some c.if-top-eq0.false, c.requires.words)
-
 pub bounds-set-j : goal.bounds-set-j
 bounds-set-j c =
     omega (

@@ -7,15 +7,6 @@ use Rattle.packet.proofs.Numbers.{back, range_back}
 use Rattle.packet.proofs.FieldWords.{sizes-way, word-start, word_more, word_end}
 use Rattle.packet.proofs.offered.Goals as goal
 
-pub overflow_sub-p : goal.overflow_sub-p
-overflow_sub-p c = omega (arith, c.requires.3)
-
-pub overflow_mul-p-2 : goal.overflow_mul-p-2
-overflow_mul-p-2 c = omega (arith, c.requires.3, c.requires.4)
-
-pub overflow_add-p : goal.overflow_add-p
-overflow_add-p c = omega (arith, c.requires.3, c.requires.4)
-
 pub overflow_mul-p-3 : goal.overflow_mul-p-3
 overflow_mul-p-3 c = let m = sizes-nodes c.args.s c.requires.0 in omega (arith, c.requires.2)
 
@@ -26,7 +17,7 @@ pub loop-i-init : goal.loop-i-init
 loop-i-init c =
     let m = sizes-nodes c.args.s c.requires.0 in
     let h = c.requires.2 in
-    (word-start c.args.tag c.args.chunks c.args.destination _ c.requires.3 c.requires.4 (omega arith), omega arith)
+    word-start c.args.tag c.args.chunks c.args.destination _ c.requires.3 c.requires.4 (omega arith)
 
 pub with_offset-p-requires : goal.with_offset-p-requires
 with_offset-p-requires c =
@@ -37,15 +28,9 @@ with_offset-p-requires c =
 pub loop-i-preserved : goal.loop-i-preserved
 loop-i-preserved c =
     let i = c.loop-i.i in
-    let h = c.loop-i-test.true in (
-      word_more i _ _ _ _ _ c.with_offset-p.ensures
-          (back c.way.ensures (sizes-way c.args.s c.args.n c.args.destination i c.requires.0 h)) c.loop-i.invariant.0,
-      omega arith,
-    )
+    word_more i _ _ _ _ _ c.with_offset-p.ensures
+    (back c.way.ensures (sizes-way c.args.s c.args.n c.args.destination i c.requires.0 c.loop-i-test.true)) c.loop-i.invariant
 
 pub returns : goal.returns
 unfolding offered packet_word
-returns c =
-    let l = c.loop-i.invariant.1 in
-    let h = c.loop-i-test.false in
-    word_end c.loop-i.i _ _ _ c.loop-i.invariant.0 (omega arith)
+returns c = word_end c.loop-i.i _ _ _ c.loop-i.invariant (omega arith)

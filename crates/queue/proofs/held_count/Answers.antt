@@ -1,12 +1,7 @@
 -- `queue::held_count` meets its contract. Assumes nothing.
 use Rattle.std.proofs.Common.{arith}
-use Rattle.queue.specs.HeldWords.{asked, inside-at, count-read}
+use Rattle.queue.specs.HeldWords.{inside-at, count-read}
 use Rattle.queue.proofs.held_count.Goals as goal
-
-pub queue_start-start-requires : goal.queue_start-start-requires
-queue_start-start-requires c =
-    let a = c.args in
-    asked a.s a.words.now a.n a.q c.requires
 
 pub offset_bounds-words-start : goal.offset_bounds-words-start
 offset_bounds-words-start c =

@@ -1,14 +1,8 @@
 -- `queue::pop` meets its contract: what `remove_at` does from the queue's start to its end is the change of that queue. Assumes nothing.
 use Rattle.std.proofs.Common.{drop}
 use Rattle.network.specs.Calls.{head_leaves}
-use Rattle.queue.specs.QueueLaws.{placed, places, queue-at, some_at, head_at, put-at}
+use Rattle.queue.specs.QueueLaws.{placed, queue-at, some_at, head_at, put-at}
 use Rattle.queue.proofs.pop.Goals as goal
-
-pub queue_start-start-requires : goal.queue_start-start-requires
-queue_start-start-requires c = places c.requires.checked_queue
-
-pub queue_end-end-requires : goal.queue_end-end-requires
-queue_end-end-requires c = places c.requires.checked_queue
 
 pub remove_at-requires : goal.remove_at-requires
 remove_at-requires c =

@@ -1,14 +1,8 @@
 -- `queue::push` meets its contract: what `append_at` does from the queue's start to its end is the change of that queue. Assumes nothing.
 use Rattle.std.proofs.Common.{List, [], ◌∷◌, ◌++◌, ℕ}
 use Rattle.network.specs.Calls.{packet_arrives}
-use Rattle.queue.specs.QueueLaws.{placed, places, queue-at, room_at, put-at}
+use Rattle.queue.specs.QueueLaws.{placed, queue-at, room_at, put-at}
 use Rattle.queue.proofs.push.Goals as goal
-
-pub queue_start-start-requires : goal.queue_start-start-requires
-queue_start-start-requires c = places c.requires.checked_queue
-
-pub queue_end-end-requires : goal.queue_end-end-requires
-queue_end-end-requires c = places c.requires.checked_queue
 
 pub append_at-requires : goal.append_at-requires
 append_at-requires c =

@@ -5,23 +5,15 @@ use Rattle.network.specs.Sizes.{shape_of}
 use Rattle.network.proofs.SizesLaws.{range-of, capacity-most}
 use Rattle.network.specs.Packet.{chunks}
 use Rattle.network.proofs.LayoutLaws.{taken-length, taken-chunks}
-use Rattle.queue.specs.HeldWords.{asked, held-part, held-end, held-few}
+use Rattle.queue.specs.HeldWords.{held-part, held-end, held-few}
 use Rattle.queue.proofs.taken.Goals as goal
 use Rattle.queue.proofs.taken.Goals.{After-queue_start-first}
-
-pub held_count-count-requires : goal.held_count-count-requires
-held_count-count-requires c = c.requires
 
 pub returns-then-not-is_adaptive : goal.returns-then-not-is_adaptive
 returns-then-not-is_adaptive c =
     let a = c.args in
     c.held_count-count.ensures
     ∙ sym (taken-length (shape_of a.s) a.words.now a.n a.q (sym c.is_adaptive.ensures ∙ c.if-not-is_adaptive.true))
-
-pub queue_start-first-requires : goal.queue_start-first-requires
-queue_start-first-requires c =
-    let a = c.args in
-    asked a.s a.words.now a.n a.q c.requires
 
 -- the packets end before the words do
 ends : (c : After-queue_start-first) → c.queue_start-first.result + 1 + c.held_count-count.result ≤ length c.args.words.now

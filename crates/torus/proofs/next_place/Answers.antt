@@ -8,23 +8,14 @@ use Rattle.torus.proofs.next_place.Goals as goal
 pub loop-i-init : goal.loop-i-init
 loop-i-init c = carry-start _ _ c.requires
 
-pub bounds-at-i : goal.bounds-at-i
-bounds-at-i c = c.loop-i-test.true
-
 pub overflow_add-c : goal.overflow_add-c
 overflow_add-c c =
     let b = c.loop-i.invariant.on.below c.loop-i.i c.loop-i-test.true in
     let m = in_range-size (shape_of c.args.s) c.loop-i.i c.requires.sizes in
     omega arith
 
-pub bounds-at-i-then-c-size : goal.bounds-at-i-then-c-size
-bounds-at-i-then-c-size c = c.loop-i-test.true
-
 pub returns-then-c-size : goal.returns-then-c-size
 returns-then-c-size c = carry-end _ _ _ _ _ _ c.requires c.loop-i.invariant c.loop-i-test.true refl c.size.ensures c.if-c-size.true
-
-pub bounds-at-i-in-loop-i : goal.bounds-at-i-in-loop-i
-bounds-at-i-in-loop-i c = c.loop-i-test.true
 
 pub loop-i-preserved : goal.loop-i-preserved
 loop-i-preserved c = carry-more _ _ _ _ _ _ c.loop-i.invariant c.loop-i-test.true refl c.size.ensures c.if-c-size.false

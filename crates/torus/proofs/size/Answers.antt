@@ -1,12 +1,16 @@
 -- `torus::size` meets its contract. Assumes nothing.
-use Rattle.torus.specs.GeometryLaws.{last-dimension, size-x, size-y, size-z}
+use Rattle.std.proofs.Common.{◌≡◌, refl, arith}
+use Rattle.network.specs.Sizes.{shape_of, size}
 use Rattle.torus.proofs.size.Goals as goal
 
-pub returns-then-i-eq0 : goal.returns-then-i-eq0
-returns-then-i-eq0 c = let a = c.args in size-x a.s a.i c.if-i-eq0.true
+pub returns-in-0 : goal.returns-in-0
+unfolding size shape_of
+returns-in-0 c = rw c.in-0.is refl
 
-pub returns-then-i-eq1 : goal.returns-then-i-eq1
-returns-then-i-eq1 c = let a = c.args in size-y a.s a.i c.if-i-eq1.true
+pub returns-in-1 : goal.returns-in-1
+unfolding size shape_of
+returns-in-1 c = rw c.in-1.is refl
 
-pub returns-else-i-eq1 : goal.returns-else-i-eq1
-returns-else-i-eq1 c = size-z c.args.s c.args.i (last-dimension c.args.i c.requires c.if-i-eq0.false c.if-i-eq1.false)
+pub returns-in_default : goal.returns-in_default
+unfolding size shape_of
+returns-in_default c = let e : c.args.i ≡ 2 = omega arith in rw e refl

@@ -1,17 +1,23 @@
 -- `torus::weight` meets its contract. Assumes nothing.
-use Rattle.std.proofs.Common.{arith}
+use Rattle.std.proofs.Common.{◌≡◌, refl, ap, sym, ℕ, ◌*◌, arith}
+use Rattle.std.proofs.Common.{mul-one}
+use Rattle.base.specs.Digits.{weight}
+use Rattle.network.specs.Sizes.{shape_of}
 use Rattle.network.proofs.TorusLaws.{sizes-nodes}
-use Rattle.torus.specs.GeometryLaws.{last-dimension, weight-x, weight-y, weight-z, plane-most}
+use Rattle.torus.specs.GeometryLaws.{plane-most}
 use Rattle.torus.proofs.weight.Goals as goal
-
-pub returns-then-i-eq0 : goal.returns-then-i-eq0
-returns-then-i-eq0 c = let a = c.args in weight-x a.s a.i c.if-i-eq0.true
-
-pub returns-then-i-eq1 : goal.returns-then-i-eq1
-returns-then-i-eq1 c = let a = c.args in weight-y a.s a.i c.if-i-eq1.true
 
 pub overflow_mul-result : goal.overflow_mul-result
 overflow_mul-result c = omega (arith, plane-most c.args.s c.requires.0, sizes-nodes c.args.s c.requires.0)
 
-pub returns-else-i-eq1 : goal.returns-else-i-eq1
-returns-else-i-eq1 c = weight-z c.args.s c.args.i (last-dimension c.args.i c.requires.1 c.if-i-eq0.false c.if-i-eq1.false)
+pub returns-in-0 : goal.returns-in-0
+unfolding weight shape_of
+returns-in-0 c = rw c.in-0.is refl
+
+pub returns-in-1 : goal.returns-in-1
+unfolding weight shape_of
+returns-in-1 c = rw c.in-1.is (sym (mul-one c.args.s.x))
+
+pub returns-in_default : goal.returns-in_default
+unfolding weight shape_of
+returns-in_default c = let e : c.args.i ≡ 2 = omega arith in rw e (ap (λ (y : ℕ). c.args.s.x * y) (sym (mul-one c.args.s.y)))
