@@ -12,8 +12,7 @@ ghost use Rattle.network.specs.Calls.{make_words, offer_words, move_words, move_
 ghost use Rattle.waveform.specs.Calls.{write_answer, written_number, write_page, write_list, read_answer, read_number, read_list};
 ghost use Rattle.bench_c.specs.Outs.{moved_out, credit_out, look_out, found_out, drained_out, written_out, read_out};
 
-use checker::Opened;
-use network::sized;
+use network::{number_of, sized};
 
 #[unsafe(no_mangle)]
 pub extern "C" fn bench_make(
@@ -29,14 +28,14 @@ pub extern "C" fn bench_make(
     ensures words { words.new ≡ make_words (shape_of (sized x y z e a j)) words.old }
 {
     let s = sized(x, y, z, e, a, j);
-    calls::make(words, s)
+    number_of(&calls::make(words, s))
 }
 
 #[unsafe(no_mangle)]
 pub extern "C" fn bench_check(words: &[u64]) -> u64
     ensures { result ≡ network_refusal words.now }
 {
-    calls::check(words)
+    number_of(&calls::check(words))
 }
 
 #[unsafe(no_mangle)]
@@ -50,7 +49,7 @@ pub extern "C" fn bench_offer(
     ensures answer { result ≡ offer_refusal words.old node destination chunks }
     ensures words { words.new ≡ offer_words words.old node destination tag chunks }
 {
-    calls::offer(words, node, destination, tag, chunks)
+    number_of(&calls::offer(words, node, destination, tag, chunks))
 }
 
 // out: how many packets were handed out, and the packet word.
@@ -86,18 +85,12 @@ pub extern "C" fn bench_look(words: &[u64], node: u64, queue: u64, out: &mut [u6
     ensures answer { result ≡ look_refusal words.now node queue }
     ensures out { out.new ≡ look_out words.now node queue }
 {
-    let opened = checker::open(words);
-    match opened {
-        Opened::Refused(broken) => {
+    match calls::open_look(words, node, queue) {
+        Err(refusal) => {
             *out = [0, 0];
-            broken
+            u64::from(refusal)
         }
-        Opened::Network(s) => {
-            let unknown = rules::look_rules(s, node, queue);
-            if unknown != 0 {
-                *out = [0, 0];
-                return unknown;
-            }
+        Ok(s) => {
             let start = queue::queue_start(s, node, queue);
             let count = queue::held_count(words, s, node, queue);
             let from = (start + 1) as u64;

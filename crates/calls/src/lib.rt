@@ -85,8 +85,8 @@ pub fn credit(words: &[u64], node: u64, output: u64) -> Result<u64, Refusal>
     Ok(flow::free_load(words, s, node, output))
 }
 
-// The sizes of the words of a Look that is not refused.
-fn open_look(words: &[u64], node: u64, queue: u64) -> Result<Sizes, Refusal>
+// What a Look begins with: the sizes of the words, if it is not refused.
+pub fn open_look(words: &[u64], node: u64, queue: u64) -> Result<Sizes, Refusal>
     ensures { numbered result ≡ look_opened words.now node queue }
 {
     let s = checker::open(words)?;

@@ -50,3 +50,26 @@ pub is-shut : {w : List ℕ} {r : Refusal} {o : Result Sizes Refusal} → number
 unfolding opened
 is-shut {w} {r} {o} e n =
     record { says = refusal-is (network_refusal w) _ _ (sym (ap (λ (r : Result Sizes Refusal). numbered r) n) ∙ e); refused = λ z. let p = number-positive r in omega arith }
+
+-- the same by the refusal, or by the sizes; and of the definition itself
+pub opened-shut : (w : List ℕ) (r : ℕ) → r ≡ network_refusal w → r ≢ 0 → ◌≡◌ {A = Answer Sizes} (Err r) (opened w)
+unfolding opened
+opened-shut w r e ne = rw (ne_eqb (network_refusal w) 0 (λ z. ne (e ∙ z))) (ap (λ (k : ℕ). Err k) e)
+
+pub opened-open : (w : List ℕ) (s : Sizes) → network_refusal w ≡ 0 → s ≡ sizes_in w → ◌≡◌ {A = Answer Sizes} (Ok s) (opened w)
+unfolding opened
+opened-open w s z e = rw (eq-eqb (network_refusal w) 0 z) (ap (λ (k : Sizes). Ok k) e)
+
+unfoldable pub Opens : List ℕ → Answer Sizes → Type 0
+Opens w (Err r) = Shut w r
+Opens w (Ok s) = Open w s
+
+opens : (w : List ℕ) → Opens w (opened w)
+unfolding opened Opens
+opens w = go (eqb (network_refusal w) 0) refl
+  where
+    go : (b : Bool) → eqb (network_refusal w) 0 ≡ b → Opens w (cond b (Ok (sizes_in w)) (Err (network_refusal w)))
+    go true e =
+        let z : network_refusal w ≡ 0 = eqb→eq (network_refusal w) 0 (true-T _ e) in
+        record { passed = z; same = refl; sizes = sizes-shape w; network = subst (λ (S : Shape). Network S w) (sym (sizes-shape w)) (network-passed w z) }
+    go false e = record { says = refl; refused = eqb-false (network_refusal w) 0 e }

@@ -6,3 +6,4 @@ pub mod Others
 pub mod FillsLaws
 pub mod StepsLaws
 pub mod Dumps
+pub mod Answered

@@ -3,7 +3,7 @@
 #![tactic(auto)]
 
 ghost use Rattle.std.specs.Prelude.{◌≡◌, List, ℕ, ◌<◌, ◌≤◌, eqb, length, is_some, IfSome};
-ghost use Rattle.network.specs.Calls.{moved_number};
+ghost use Rattle.network.specs.Refusals.{numbered};
 ghost use Rattle.waveform.specs.Calls.{written_length};
 ghost use Rattle.session.specs.Session.{store_words};
 ghost use Rattle.replay.specs.Whole.{Roomy};
@@ -11,10 +11,9 @@ ghost use Rattle.replay.specs.Steps.{bytes_shown, read_start, finished, finished
 ghost use Rattle.replay.specs.Replay.{FillsOf, shown, step_shown, carried_out, changed, begins_dump, command_shown, moves_asked, moved_on, makes_move, room_left, move_shown};
 
 use lines::HELD_BYTES;
-use network::{Moved, drained_delivered, drained_moves, sized};
+use network::{Refusal, drained_delivered, drained_moves, sized};
 use session::{Cursor, LEDGER_WORDS, NextCommand, STORE_WORDS};
 use sheet::Command;
-use waveform::Written;
 
 // A move of a D: the words of the ledger that are left, and the bytes of its step.
 #[derive(Clone, Copy)]
@@ -24,13 +23,10 @@ pub struct Replayed {
 }
 
 // How many bytes a call of the writer left on the page.
-fn bytes_of(written: Written) -> usize
-    ensures { result ≡ written_length written }
+fn bytes_of(written: Result<usize, Refusal>) -> usize
+    ensures { result ≡ written_length (numbered written) }
 {
-    match written {
-        Written::Refused(_) => 0,
-        Written::Bytes(n) => n,
-    }
+    written.unwrap_or(0)
 }
 
 // The step of the words as they are, a header or a later one: how many bytes it has.
@@ -49,18 +45,7 @@ fn make(store: &mut [u64], x: u32, y: u32, z: u32, e: u32, a: u32, j: u32) -> bo
     ensures changed { result ≡ changed (Command.Make x y z e a j) store.old }
 {
     let s = sized(x as u64, y as u64, z as u64, e as u64, a as u64, j as u64);
-    calls::make(store, s) == 0
-}
-
-// Whether an M made its move.
-fn was_made(answer: Moved) -> bool
-    ensures { result ≡ eqb (moved_number answer) 0 }
-{
-    match answer {
-        Moved::Refused(refusal) => refusal == 0,
-        Moved::Passed => true,
-        Moved::Delivered(_) => true,
-    }
+    calls::make(store, s).is_ok()
 }
 
 // What a command does at once to the store, and whether that changed something. A D does nothing here: its moves come one by one.
@@ -75,12 +60,12 @@ fn apply(store: &mut [u64], command: Command) -> bool
             destination,
             tag,
             chunks,
-        } => calls::offer(store, node as u64, destination as u64, tag, chunks as u64) == 0,
+        } => calls::offer(store, node as u64, destination as u64, tag, chunks as u64).is_ok(),
         Command::Move {
             node,
             queue,
             output,
-        } => was_made(calls::move_packet(store, node as u64, queue as u64, output as u64)),
+        } => calls::move_packet(store, node as u64, queue as u64, output as u64).is_ok(),
         Command::Drain { .. } => false,
         Command::Bad => false,
     }
@@ -136,11 +121,11 @@ pub fn drain_move(
     let mut ledger = [0u64; 1];
     let words = room.min(1);
     let answer = calls::drain(store, 1, &mut ledger[..words]);
-    let moves = drained_moves(answer);
+    let moves = drained_moves(&answer);
     if moves == 0 {
         return None;
     }
-    let left = room - drained_delivered(answer) as usize;
+    let left = room - drained_delivered(&answer) as usize;
     let bytes = show(false, store, fills, page);
     Some(Replayed { room: left, bytes })
 }

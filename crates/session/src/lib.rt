@@ -148,8 +148,8 @@ fn run_make(
     ensures printed { Put out.old 0 (perform (Command.Make x y z e a j) store.old).output out.new result }
 {
     let s = sized(x as u64, y as u64, z as u64, e as u64, a as u64, j as u64);
-    let refusal = calls::make(store, s);
-    writer::put_answer(out, 0, b'T', refusal)
+    let answer = calls::make(store, s);
+    writer::put_answer(out, 0, b'T', answer)
 }
 
 // O offers.
@@ -165,8 +165,8 @@ fn run_offer(
     ensures store { store.new ≡ (perform (Command.Offer node destination tag chunks) store.old).store }
     ensures printed { Put out.old 0 (perform (Command.Offer node destination tag chunks) store.old).output out.new result }
 {
-    let refusal = calls::offer(store, node as u64, destination as u64, tag, chunks as u64);
-    writer::put_answer(out, 0, b'O', refusal)
+    let answer = calls::offer(store, node as u64, destination as u64, tag, chunks as u64);
+    writer::put_answer(out, 0, b'O', answer)
 }
 
 // M moves.

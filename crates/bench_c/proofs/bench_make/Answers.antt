@@ -11,4 +11,4 @@ returns c =
     let call = c.make.ensures in
     let s = c.sized-s.ensures in
     let w = c.args.words.now in
-    record { answer = call.answer ∙ ap (λ (k : Sizes). make_refusal (shape_of k) w) s; words = call.words ∙ ap (λ (k : Sizes). make_words (shape_of k) w) s }
+    record { answer = c.number_of.ensures ∙ call.answer ∙ ap (λ (k : Sizes). make_refusal (shape_of k) w) s; words = call.words ∙ ap (λ (k : Sizes). make_words (shape_of k) w) s }

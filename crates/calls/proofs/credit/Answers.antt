@@ -5,7 +5,7 @@ use Rattle.network.specs.Routes.{free_load}
 use Rattle.network.specs.Calls.{Answer, credit_answer}
 use Rattle.network.specs.Answers.{CreditTells}
 use Rattle.network.proofs.Answers.{credit-tells, passed-numbered, same-number, refused-says, made-says}
-use Rattle.calls.specs.Returns.{credit-shut, credit-rules, credit-place}
+use Rattle.calls.specs.Returns.{credit-shut, credit-by, credit-place}
 use Rattle.checker.specs.Opened.{is_open, is-shut}
 use Rattle.calls.proofs.credit.Goals as goal
 
@@ -27,7 +27,7 @@ pub returns-in_err-credit_rules : goal.returns-in_err-credit_rules
 unfolding credit_answer
 returns-in_err-credit_rules c =
     let a = c.args in
-    let x = credit-rules a.node a.output (is_open c.open.ensures c.in_ok-s.was) (sym c.credit_rules.ensures ∙ same-number c.in_err-credit_rules.was) in
+    let x = credit-by a.node a.output (is_open c.open.ensures c.in_ok-s.was) (sym c.credit_rules.ensures ∙ same-number c.in_err-credit_rules.was) in
     let e = passed-numbered _ _ c.from_residual-in_err-credit_rules.ensures.1 ∙ refused-says c.in_err-credit_rules.field-0.0 _ x in
     record { answer = e; told = told e }
 
@@ -43,6 +43,6 @@ unfolding credit_answer
 returns c =
     let a = c.args in
     let k = is_open c.open.ensures c.in_ok-s.was in
-    let z = credit-rules a.node a.output k (sym c.credit_rules.ensures ∙ same-number c.in_ok-credit_rules.was) in
+    let z = credit-by a.node a.output k (sym c.credit_rules.ensures ∙ same-number c.in_ok-credit_rules.was) in
     let e = made-says z (c.free_load.ensures ∙ ap (λ (T : Shape). free_load T a.words.now a.node a.output) k.sizes) in
     record { answer = e; told = told e }

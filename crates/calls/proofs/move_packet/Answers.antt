@@ -5,7 +5,7 @@ use Rattle.network.proofs.RefusalLaws.{permitted-of}
 use Rattle.network.specs.Calls.{Answer, after_move, move_answer, move_words}
 use Rattle.network.specs.Answers.{MoveTells}
 use Rattle.network.proofs.Answers.{move-tells, passed-numbered, same-number, refused-says, refused-leaves, made-says, made-leaves}
-use Rattle.calls.specs.Returns.{move-shut, move-rules, handed-head, handed-none}
+use Rattle.calls.specs.Returns.{move-shut, move-by, handed-head, handed-none}
 use Rattle.checker.specs.Opened.{is_open, is-shut}
 use Rattle.calls.proofs.move_packet.Goals as goal
 
@@ -27,7 +27,7 @@ pub returns-in_err-move_rules : goal.returns-in_err-move_rules
 unfolding move_answer move_words
 returns-in_err-move_rules c =
     let a = c.args in
-    let x = move-rules a.node a.queue a.output (is_open c.open.ensures c.in_ok-s.was) (sym c.move_rules.ensures ∙ same-number c.in_err-move_rules.was) in
+    let x = move-by a.node a.queue a.output (is_open c.open.ensures c.in_ok-s.was) (sym c.move_rules.ensures ∙ same-number c.in_err-move_rules.was) in
     let e = passed-numbered _ _ c.from_residual-in_err-move_rules.ensures.1 ∙ refused-says c.in_err-move_rules.field-0.0 _ x in
     record { answer = e; words = refused-leaves c.in_err-move_rules.field-0.0 _ _ x; told = told _ _ _ _ e }
 
@@ -45,7 +45,7 @@ unfolding move_answer move_words
 returns-then-output-eq-DELIVER c =
     let a = c.args in
     let k = is_open c.open.ensures c.in_ok-s.was in
-    let z = move-rules a.node a.queue a.output k (sym c.move_rules.ensures ∙ same-number c.in_ok-move_rules.was) in
+    let z = move-by a.node a.queue a.output k (sym c.move_rules.ensures ∙ same-number c.in_ok-move_rules.was) in
     let e = made-says z (handed-head a.node a.queue a.output k c.if-output-eq-DELIVER.true c.make_move-p.ensures.head) in
     record {
       answer = e;
@@ -58,7 +58,7 @@ unfolding move_answer move_words
 returns c =
     let a = c.args in
     let k = is_open c.open.ensures c.in_ok-s.was in
-    let z = move-rules a.node a.queue a.output k (sym c.move_rules.ensures ∙ same-number c.in_ok-move_rules.was) in
+    let z = move-by a.node a.queue a.output k (sym c.move_rules.ensures ∙ same-number c.in_ok-move_rules.was) in
     let e = made-says z (handed-none a.output _ c.if-output-eq-DELIVER.false) in
     record {
       answer = e;

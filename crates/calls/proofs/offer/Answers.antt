@@ -6,7 +6,7 @@ use Rattle.network.proofs.LayoutLaws.{length_taken}
 use Rattle.network.specs.Calls.{after_offer, offer_words}
 use Rattle.network.proofs.CallLaws.{accepting}
 use Rattle.network.proofs.Answers.{passed-number, same-number, refused-leaves, made-leaves}
-use Rattle.calls.specs.Returns.{offer-shut, offer-rules}
+use Rattle.calls.specs.Returns.{offer-shut, offer-by}
 use Rattle.checker.specs.Opened.{is_open, is-shut}
 use Rattle.calls.proofs.offer.Goals as goal
 
@@ -24,7 +24,7 @@ pub returns-in_err-offer_rules : goal.returns-in_err-offer_rules
 unfolding offer_words
 returns-in_err-offer_rules c =
     let a = c.args in
-    let x = offer-rules a.node a.destination a.chunks (is_open c.open.ensures c.in_ok-s.was) (sym c.offer_rules.ensures ∙ same-number c.in_err-offer_rules.was) in
+    let x = offer-by a.node a.destination a.chunks (is_open c.open.ensures c.in_ok-s.was) (sym c.offer_rules.ensures ∙ same-number c.in_err-offer_rules.was) in
     record { answer = passed-number _ _ c.from_residual-in_err-offer_rules.ensures.1 ∙ sym x; words = refused-leaves c.in_err-offer_rules.field-0.0 _ _ x }
 
 pub accept-requires : goal.accept-requires
@@ -41,7 +41,7 @@ unfolding offer_words
 returns c =
     let a = c.args in
     let k = is_open c.open.ensures c.in_ok-s.was in
-    let z = offer-rules a.node a.destination a.chunks k (sym c.offer_rules.ensures ∙ same-number c.in_ok-offer_rules.was) in
+    let z = offer-by a.node a.destination a.chunks k (sym c.offer_rules.ensures ∙ same-number c.in_ok-offer_rules.was) in
     record {
       answer = sym z;
       words = made-leaves _ z (c.accept.ensures ∙ ap (λ (T : Shape). after_offer T a.words.now a.node a.destination a.tag a.chunks) k.sizes);

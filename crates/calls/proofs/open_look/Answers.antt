@@ -1,7 +1,7 @@
 -- `calls::open_look` meets its contract. Assumes nothing.
 use Rattle.std.proofs.Common.{sym, ◌∙◌}
 use Rattle.network.proofs.Answers.{passed-numbered, same-number, refused-says, made-says}
-use Rattle.calls.specs.Returns.{look-by-check, look-rules, look_opened}
+use Rattle.calls.specs.Returns.{look-by-check, look-by, look_opened}
 use Rattle.checker.specs.Opened.{is_open, is-shut}
 use Rattle.calls.proofs.open_look.Goals as goal
 
@@ -19,7 +19,7 @@ pub returns-in_err-look_rules : goal.returns-in_err-look_rules
 unfolding look_opened
 returns-in_err-look_rules c =
     let a = c.args in
-    let x = look-rules a.node a.queue (is_open c.open.ensures c.in_ok-s.was) (sym c.look_rules.ensures ∙ same-number c.in_err-look_rules.was) in
+    let x = look-by a.node a.queue (is_open c.open.ensures c.in_ok-s.was) (sym c.look_rules.ensures ∙ same-number c.in_err-look_rules.was) in
     passed-numbered _ _ c.from_residual-in_err-look_rules.ensures.1 ∙ refused-says c.in_err-look_rules.field-0.0 _ x
 
 pub returns : goal.returns
@@ -27,5 +27,5 @@ unfolding look_opened
 returns c =
     let a = c.args in
     let k = is_open c.open.ensures c.in_ok-s.was in
-    let z = look-rules a.node a.queue k (sym c.look_rules.ensures ∙ same-number c.in_ok-look_rules.was) in
+    let z = look-by a.node a.queue k (sym c.look_rules.ensures ∙ same-number c.in_ok-look_rules.was) in
     made-says z k.same

@@ -2,6 +2,7 @@
 use Rattle.std.proofs.Common.{refl, ap, ◌∙◌, eqb}
 use Rattle.session.specs.Session.{perform}
 use Rattle.replay.specs.Replay.{carried_out, changed}
+use Rattle.replay.proofs.Answered.{ok-by-number, moved-by-number}
 use Rattle.replay.proofs.apply.Goals as goal
 
 pub returns-in-Make : goal.returns-in-Make
@@ -9,13 +10,13 @@ returns-in-Make c = rw c.in-Make.is c.make.ensures
 
 pub returns-in-Offer : goal.returns-in-Offer
 unfolding carried_out changed perform
-returns-in-Offer c = rw c.in-Offer.is (record { store = c.offer.ensures.words; changed = ap (λ k. eqb k 0) c.offer.ensures.answer })
+returns-in-Offer c = rw c.in-Offer.is (record { store = c.offer.ensures.words; changed = c.is_ok.ensures.value ∙ ok-by-number _ c.offer.ensures.answer })
 
 pub returns-in-Move : goal.returns-in-Move
 unfolding carried_out changed perform
 returns-in-Move c =
     let made = c.move_packet.ensures in
-    rw c.in-Move.is (record { store = made.words; changed = c.was_made.ensures ∙ ap (λ k. eqb k 0) made.told.number })
+    rw c.in-Move.is (record { store = made.words; changed = c.is_ok-2.ensures.value ∙ ok-by-number _ (moved-by-number _ ∙ made.told.number) })
 
 pub returns-in-Drain : goal.returns-in-Drain
 unfolding carried_out changed

@@ -1,7 +1,8 @@
 -- `replay::drain_move` meets its contract: the Drain's answer, and the step of the words that it left. Assumes nothing.
 use Rattle.std.proofs.Common.{◌≡◌, ◌≢◌, refl, ap, sym, ◌∙◌, true, false, not, List, [], ◌∷◌, ℕ, zero, suc, ◌-◌, ◌≤◌, min, arith, eqb, eq-eqb, ne_eqb, length, take, length-take-le}
 use Rattle.network.specs.declared.Drained.{Drained}
-use Rattle.network.specs.Calls.{drain_words, drain_answer, drained_moves, drained_delivered}
+use Rattle.network.specs.Refusals.{numbered}
+use Rattle.network.specs.Calls.{Answer, drain_words, drain_answer, drained_moves, drained_delivered}
 use Rattle.network.proofs.DrainLaws.{delivered-within}
 use Rattle.replay.specs.Replay.{Shown, shown, step_shown, one_word, moved_on, makes_move, room_left, move_shown}
 use Rattle.replay.specs.Steps.{bytes_shown}
@@ -25,14 +26,14 @@ slice_bounds-drain-end c = (c.min-words.ensures ∙ word c.args.room) ∙ sym (l
 pub overflow_sub-left : goal.overflow_sub-left
 overflow_sub-left c =
     let room = c.args.room in
-    let within : drained_delivered c.drain-answer.result ≤ one_word room
+    let within : drained_delivered (numbered c.drain-answer.result) ≤ one_word room
     = rw (c.drain-answer.ensures.answer, lent (goal.at.overflow_sub-left c).After-min-words) (delivered-within _ _ (one_word room)) in
     let few = word room in
     let e = c.drained_delivered.ensures in
     omega arith
 
 -- what a Drain of one move leaves, answers and shows
-module _ (w : List ℕ) (room words : ℕ) (answer : Drained) (w' : List ℕ) (moves : ℕ) (e : words ≡ one_word room) (a : answer ≡ drain_answer w 1 words) (b : w' ≡ drain_words w 1 words) (m : moves ≡ drained_moves answer) where
+module _ (w : List ℕ) (room words : ℕ) (answer : Answer Drained) (w' : List ℕ) (moves : ℕ) (e : words ≡ one_word room) (a : answer ≡ drain_answer w 1 words) (b : w' ≡ drain_words w 1 words) (m : moves ≡ drained_moves answer) where
   left : w' ≡ moved_on w room
   unfolding moved_on
   left = b ∙ ap (drain_words w 1) e

@@ -11,7 +11,7 @@ pub returns : goal.returns
 unfolding perform
 returns c =
     let line = c.put_answer.ensures in
-    let call = c.make-refusal.ensures in
+    let call = c.make-answer.ensures in
     let s = c.sized-s.ensures in
     let a = c.args in
     let told = sym {b = make_refusal (shape_of (sized a.x a.y a.z a.e a.a a.j)) a.store.now} (call.answer ∙ ap (λ (k : Sizes). make_refusal (shape_of k) a.store.now) s) in

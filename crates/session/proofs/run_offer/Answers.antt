@@ -7,5 +7,5 @@ pub returns : goal.returns
 unfolding perform
 returns c =
     let line = c.put_answer.ensures in
-    let call = c.offer-refusal.ensures in
+    let call = c.offer-answer.ensures in
     record { store = call.words; printed = rw (sym call.answer) line }

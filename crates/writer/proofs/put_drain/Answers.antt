@@ -2,10 +2,10 @@
 use Rattle.sheet.specs.Output.{drain_line}
 use Rattle.writer.proofs.put_drain.Goals as goal
 
-pub returns-in-Refused : goal.returns-in-Refused
+pub returns-in-Err : goal.returns-in-Err
 unfolding drain_line
-returns-in-Refused c = rw c.in-Refused.is c.put_answer.ensures
+returns-in-Err c = rw c.in-Err.is c.put_answer.ensures
 
-pub returns-in-Stopped : goal.returns-in-Stopped
+pub returns-in-Ok : goal.returns-in-Ok
 unfolding drain_line
-returns-in-Stopped c = rw c.in-Stopped.is c.put_stopped.ensures
+returns-in-Ok c = rw c.in-Ok.is c.put_stopped.ensures

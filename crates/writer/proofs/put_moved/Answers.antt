@@ -2,10 +2,10 @@
 use Rattle.sheet.specs.Output.{moved_lines}
 use Rattle.writer.proofs.put_moved.Goals as goal
 
-pub returns-in-Refused : goal.returns-in-Refused
+pub returns-in-Err : goal.returns-in-Err
 unfolding moved_lines
-returns-in-Refused c = rw c.in-Refused.is c.put_answer.ensures
+returns-in-Err c = rw c.in-Err.is c.put_answer.ensures
 
-pub returns-in-Passed : goal.returns-in-Passed
+pub returns-in-Ok-None : goal.returns-in-Ok-None
 unfolding moved_lines
-returns-in-Passed c = rw c.in-Passed.is c.put_answer-in-Passed.ensures
+returns-in-Ok-None c = rw c.in-Ok-None.is c.put_answer-in-Ok-None.ensures

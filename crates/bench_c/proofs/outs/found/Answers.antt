@@ -1,17 +1,20 @@
 -- `bench_c::outs::found` meets its contract: each case of the answer by its definition. Assumes nothing.
-use Rattle.std.proofs.Common.{ap, sym}
+use Rattle.std.proofs.Common.{Result, Option, ℕ, ap, sym}
 use Rattle.network.specs.Calls.{found_number, found_move}
+use Rattle.network.specs.declared.Refusal.{Refusal}
+use Rattle.network.specs.Refusals.{numbered}
+use Rattle.network.specs.declared.NamedMove.{NamedMove}
 use Rattle.bench_c.specs.Outs.{found_out}
 use Rattle.bench_c.proofs.outs.found.Goals as goal
 
-pub returns-in-Refused : goal.returns-in-Refused
+pub returns-in-Err : goal.returns-in-Err
 unfolding found_number found_move found_out
-returns-in-Refused c = let e = c.in-Refused.is in record { answer = sym (ap found_number e); out = sym (ap found_out e) }
+returns-in-Err c = let e = c.in-Err.is in record { answer = sym (ap (λ (r : Result (Option NamedMove) Refusal). found_number (numbered r)) e); out = sym (ap (λ (r : Result (Option NamedMove) Refusal). found_out (numbered r)) e) }
 
-pub returns-in-Nothing : goal.returns-in-Nothing
+pub returns-in-Ok-None : goal.returns-in-Ok-None
 unfolding found_number found_move found_out
-returns-in-Nothing c = let e = c.in-Nothing.is in record { answer = sym (ap found_number e); out = sym (ap found_out e) }
+returns-in-Ok-None c = let e = c.in-Ok-None.is in record { answer = sym (ap (λ (r : Result (Option NamedMove) Refusal). found_number (numbered r)) e); out = sym (ap (λ (r : Result (Option NamedMove) Refusal). found_out (numbered r)) e) }
 
-pub returns-in-Move : goal.returns-in-Move
+pub returns-in-Ok-Some : goal.returns-in-Ok-Some
 unfolding found_number found_move found_out
-returns-in-Move c = let e = c.in-Move.is in record { answer = sym (ap found_number e); out = sym (ap found_out e) }
+returns-in-Ok-Some c = let e = c.in-Ok-Some.is in record { answer = sym (ap (λ (r : Result (Option NamedMove) Refusal). found_number (numbered r)) e); out = sym (ap (λ (r : Result (Option NamedMove) Refusal). found_out (numbered r)) e) }

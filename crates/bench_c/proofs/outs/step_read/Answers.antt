@@ -1,17 +1,20 @@
 -- `bench_c::outs::step_read` meets its contract: each case of the answer by its definition. Assumes nothing.
-use Rattle.std.proofs.Common.{ap, sym}
+use Rattle.std.proofs.Common.{Result, Option, ℕ, ap, sym}
 use Rattle.waveform.specs.Calls.{read_number, read_headers, read_time, read_named}
+use Rattle.network.specs.declared.Refusal.{Refusal}
+use Rattle.network.specs.Refusals.{numbered}
+use Rattle.waveform.specs.declared.StepRead.{StepRead}
 use Rattle.bench_c.specs.Outs.{read_out}
 use Rattle.bench_c.proofs.outs.step_read.Goals as goal
 
-pub returns-in-Refused : goal.returns-in-Refused
+pub returns-in-Err : goal.returns-in-Err
 unfolding read_number read_headers read_time read_named read_out
-returns-in-Refused c = let e = c.in-Refused.is in record { answer = sym (ap read_number e); out = sym (ap read_out e) }
+returns-in-Err c = let e = c.in-Err.is in record { answer = sym (ap (λ (r : Result StepRead Refusal). read_number (numbered r)) e); out = sym (ap (λ (r : Result StepRead Refusal). read_out (numbered r)) e) }
 
-pub returns-in-Header : goal.returns-in-Header
+pub returns-in-Ok-Header : goal.returns-in-Ok-Header
 unfolding read_number read_headers read_time read_named read_out
-returns-in-Header c = let e = c.in-Header.is in record { answer = sym (ap read_number e); out = sym (ap read_out e) }
+returns-in-Ok-Header c = let e = c.in-Ok-Header.is in record { answer = sym (ap (λ (r : Result StepRead Refusal). read_number (numbered r)) e); out = sym (ap (λ (r : Result StepRead Refusal). read_out (numbered r)) e) }
 
-pub returns-in-Later : goal.returns-in-Later
+pub returns-in-Ok-Later : goal.returns-in-Ok-Later
 unfolding read_number read_headers read_time read_named read_out
-returns-in-Later c = let e = c.in-Later.is in record { answer = sym (ap read_number e); out = sym (ap read_out e) }
+returns-in-Ok-Later c = let e = c.in-Ok-Later.is in record { answer = sym (ap (λ (r : Result StepRead Refusal). read_number (numbered r)) e); out = sym (ap (λ (r : Result StepRead Refusal). read_out (numbered r)) e) }
