@@ -1,7 +1,9 @@
 -- What a call finds that opens the lent words (R181): the refusal, or that they are a network, with its sizes. Order: the answer; what holds in
 -- each case; that the code shows it. Assumes nothing.
 use Rattle.std.specs.Prelude.{◌≡◌, refl, ◌≢◌, List, ℕ, get_or, Result, Ok, Err}
-use Rattle.std.proofs.Common.{arith, ap, sym, ◌∙◌, subst}
+use Rattle.std.proofs.lemmas.Bool.{eqb-false}
+use Rattle.base.proofs.Tests.{true-T}
+use Rattle.std.proofs.Common.{Bool, true, false, cond, eqb, ne_eqb, eq-eqb, eqb→eq, arith, ap, sym, ◌∙◌, subst}
 use Rattle.network.specs.declared.Sizes.{Sizes}
 use Rattle.network.specs.Sizes.{Shape, shape_of, sized}
 use Rattle.network.specs.Layout.{shape}

@@ -69,6 +69,7 @@ fn put_delivery(out: &mut [u8], at: usize, p: u64) -> usize
 }
 
 // What a Move prints.
+#[tactic(auto, unfolding(sheet::specs::Output::moved_lines))]
 pub fn put_moved(out: &mut [u8], at: usize, answer: Result<Option<u64>, Refusal>) -> usize
     requires { at + moved_room ≤ length out.old }
     ensures { Put out.old at (moved_lines (numbered answer)) out.new result }
