@@ -14,6 +14,7 @@ ghost use Rattle.network.specs.Calls.{empty_network, after_offer, after_move};
 use network::{ACCEPTED_AT, DELIVER, DELIVERED_AT, INJECTION_QUEUE, MOVES_AT, Sizes, direction_of};
 
 // One word rises by one, as a counter of the header does.
+#[tactic(auto, unfolding(network::specs::Layout::raised))]
 fn raise(words: &mut [u64], at: usize)
     requires at_in_bounds { at < length words.old }
     requires at_bound { get_or words.old at 0 < 2 ^ 64 - 1 }
