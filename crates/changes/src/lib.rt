@@ -2,7 +2,7 @@
 // asks is what the tests before it have shown. Every function leaves exactly the words of the definition that it names.
 #![tactic(auto)]
 
-ghost use Rattle.std.specs.Prelude.{◌≡◌, ◌++◌, ◌≢◌, ◌-◌, ◌^◌, ◌<◌, ◌≤◌, T, length, get_or, drop, replicate};
+ghost use Rattle.std.specs.Prelude.{◌≡◌, ◌++◌, ◌≢◌, ◌-◌, ◌^◌, ◌<◌, ◌≤◌, T, length, get_or, drop};
 ghost use Rattle.network.specs.Sizes.{shape_of, sizes_in_range, nodes, capacity, injection_queue, most_chunks};
 ghost use Rattle.network.specs.Routes.{deliver, target};
 ghost use Rattle.network.specs.Layout.{need, held, raised};
