@@ -2,7 +2,7 @@
 // asks is what the tests before it have shown. Every function leaves exactly the words of the definition that it names.
 #![tactic(auto)]
 
-ghost use Rattle.std.specs.Prelude.{◌≡◌, ◌++◌, ◌≢◌, ◌-◌, ◌^◌, ◌<◌, ◌≤◌, T, length, get_or, drop, replicate};
+ghost use Rattle.std.specs.Prelude.{◌≡◌, ◌++◌, ◌≢◌, ◌-◌, ◌^◌, ◌<◌, ◌≤◌, T, length, get_or, drop};
 ghost use Rattle.network.specs.Sizes.{shape_of, sizes_in_range, nodes, capacity, injection_queue, most_chunks};
 ghost use Rattle.network.specs.Routes.{deliver, target};
 ghost use Rattle.network.specs.Layout.{need, held, raised};
@@ -14,6 +14,7 @@ ghost use Rattle.network.specs.Calls.{empty_network, after_offer, after_move};
 use network::{ACCEPTED_AT, DELIVER, DELIVERED_AT, INJECTION_QUEUE, MOVES_AT, Sizes, direction_of};
 
 // One word rises by one, as a counter of the header does.
+#[tactic(auto, unfolding(network::specs::Layout::raised))]
 fn raise(words: &mut [u64], at: usize)
     requires at_in_bounds { at < length words.old }
     requires at_bound { get_or words.old at 0 < 2 ^ 64 - 1 }

@@ -141,6 +141,7 @@ fn set_bit(set: &mut [u64], k: u64)
 }
 
 // Bit k of the words is cleared. The answer: whether its word is 0 now.
+// One function for this and `set_bit` would be no plainer: it would take a switch on what it does.
 fn clear_bit(set: &mut [u64], k: u64) -> bool
     requires { k / 64 < length set.old }
     ensures answer { result ≡ eqb (get_or set.new (k / 64) 0) 0 }

@@ -97,6 +97,7 @@ pub fn upper_spare(p: u64) -> u64
 }
 
 // Whether both are 0.
+#[tactic(auto, unfolding(network::specs::Check::spare_clear, network::specs::Check::upper_spare_clear))]
 pub fn spares_clear(p: u64) -> bool
     ensures { result ≡ (spare_clear p && upper_spare_clear p) }
 {
@@ -115,6 +116,7 @@ pub fn load(q: u64, p: u64) -> u64
 
 // By how much a word grows when the offset of dimension i is one more: that of the last dimension stands lowest. All are powers of two, so that no
 // division is left.
+#[tactic(auto, unfolding(base::specs::Digits::weight))]
 fn offset_weight(i: u64) -> u64
     requires { i < dimensions }
     ensures { result ≡ weight fields (offset_field i) }

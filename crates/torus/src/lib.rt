@@ -17,6 +17,7 @@ pub fn nodes(s: Sizes) -> u64
     s.x * s.y * s.z
 }
 
+#[tactic(auto, unfolding(network::specs::Sizes::size, network::specs::Sizes::shape_of))]
 pub fn size(s: Sizes, i: u64) -> u64
     requires { i < dimensions }
     ensures { result ≡ size (shape_of s) i }
@@ -29,6 +30,7 @@ pub fn size(s: Sizes, i: u64) -> u64
 }
 
 // By how much the numbers of two nodes differ that are one step apart in dimension i.
+#[tactic(auto, unfolding(base::specs::Digits::weight, network::specs::Sizes::shape_of))]
 pub fn weight(s: Sizes, i: u64) -> u64
     requires { T (sizes_in_range (shape_of s)) × (i < dimensions) }
     ensures { result ≡ weight (shape_of s).sizes i }

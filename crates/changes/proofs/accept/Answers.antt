@@ -8,14 +8,8 @@ use Rattle.changes.proofs.ChangeLaws.{accepted-may, arrives-may, offered-words}
 use Rattle.changes.proofs.accept.Goals as goal
 use Rattle.changes.proofs.accept.Goals.{Start}
 
-pub offered-p-requires : goal.offered-p-requires
-offered-p-requires c = (c.requires.network.in-range, c.requires.n_bound, c.requires.destination_bound, c.requires.le_chunks.0, c.requires.le_chunks.1)
-
 injection-checked : (s : Start) → CheckedQueue (shape_of s.args.s) s.args.words.now s.args.n injection_queue
 injection-checked s = checked (shape_of s.args.s) s.args.words.now s.args.n injection_queue s.requires.network s.requires.n_bound (omega arith)
-
-pub push-requires : goal.push-requires
-push-requires c = record { checked_queue = injection-checked (goal.at.push-requires c).Start; q_len_bound = c.requires.injection_queue_len_bound }
 
 pub raise-requires : goal.raise-requires
 raise-requires c =

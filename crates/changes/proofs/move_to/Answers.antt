@@ -1,21 +1,13 @@
 -- `changes::move_to` meets its contract. What is known once the head has left is one record, `left`; each need after it cites a law of that
 -- record. Assumes nothing.
-use Rattle.std.proofs.Common.{◌≡◌, ap, ◌∙◌, ℕ, ◌/◌, arith}
+use Rattle.std.proofs.Common.{◌≡◌, ap, ◌∙◌, ℕ, ◌/◌}
 use Rattle.network.specs.Sizes.{shape_of, dimension_of, direction_of}
 use Rattle.network.specs.Packet.{hop}
 use Rattle.network.proofs.TorusLaws.{sizes-torus}
 use Rattle.network.specs.Routes.{target}
-use Rattle.queue.specs.QueueLaws.{checked}
 use Rattle.changes.proofs.ChangeLaws.{Left, delivered-left, moves-handed, handed-words, target-checked, target_room, moves-arrived, moved-words}
 use Rattle.changes.proofs.move_to.Goals as goal
 use Rattle.changes.proofs.move_to.Goals.{After-hop-hopped, After-pop-p}
-
-pub pop-p-requires : goal.pop-p-requires
-pop-p-requires c =
-    let a = c.args in
-    let P = c.requires.permitted in
-    let h = P.holds in
-    record { checked_queue = checked (shape_of a.s) a.words.now a.n a.q c.requires.network P.node P.queue; nonzero = omega arith }
 
 left : (c : After-pop-p)
     → let a = c.args in Left (shape_of a.s) a.words.now c.pop-p.new.words a.n a.q a.o
