@@ -213,16 +213,10 @@ fn tells_all(bytes: &[u8], count: usize) -> bool
     ensures { result ≡ tells_all count bytes.now }
 {
     let run = read_run(bytes);
-    if run.named != count {
-        return false;
-    }
-    if run.needed != count {
-        return false;
-    }
-    if !starts_with(bytes, run.length, b"$end\n") {
-        return false;
-    }
-    run.length + VALUES_END_BYTES == bytes.len()
+    run.named == count
+        && run.needed == count
+        && starts_with(bytes, run.length, b"$end\n")
+        && run.length + VALUES_END_BYTES == bytes.len()
 }
 
 // A step as it was parsed, and where its values begin.

@@ -1,17 +1,16 @@
 -- Digits read one after another: what `digits_from` is at each way out of the loop, and what a turn leaves of it.
 -- Order: one byte; one digit more; the value only grows; the loop's invariant and its steps; leading zeros. Assumes nothing.
 use mathlib.Core.Path.{◌≡◌, refl, ap, sym, ◌∙◌}
-use mathlib.Core.Logic.{◌≢◌}
-use mathlib.Core.Bool.{true, false, and-false}
+use mathlib.Core.Bool.{Bool, true, false, not, cond, ◌&&◌, and-false}
 use mathlib.Core.List.{List, [], ◌∷◌}
 use Prim.Native.Nat.{ℕ, suc, ◌+◌, ◌*◌, ◌-◌, ◌/◌, ◌<◌, ◌≤◌}
 use native.Mathlib.Numerals.{add-one}
 use native.Mathlib.Nat.{mul-le-mul_left, le-div_iff_mul-le, div-lt_iff_lt-mul}
 use native.Mathlib.Omega.{arith}
-use lib.Dec.{leb}
+use lib.Dec.{leb, eqb, ltb}
 use lib.ListN.{length, get_or, drop}
 use lib.Seq.{drop-cons, drop-length}
-use borrow.Author.Tests.{le-leb, lt-leb, le-ltb, lt-ltb, eq-eqb}
+use borrow.Author.Tests.{le-leb, lt-leb, le-ltb, lt-ltb, ne_eqb}
 use Rattle.base.specs.Tests.{all_of}
 use Rattle.std.specs.Prelude.{Some, None}
 use Rattle.sheet.specs.Commands.{is_digit, value_from, value, no_leading_zero, is_number}
@@ -138,29 +137,18 @@ end {base} {most} {field} {value} {i} r h =
     ∙ ap (digits_from base most value) (drop-length field)
     ∙ digits-end base most value r.fits)
 
--- a field whose first byte is no leading zero, and one where it is, by the tests of `read_number`
-module _ (base most : ℕ) (field : List ℕ) where
-  pub number-of-digits : no_leading_zero field ≡ true → digits_from base most 0 field ≡ number_of base most field
-  unfolding number_of is_number digits_from value
-  number-of-digits e = rw e refl
-
-  pub no_number : no_leading_zero field ≡ false → None ≡ number_of base most field
-  unfolding number_of is_number
-  no_number e = rw e refl
-
-pub empty : (field : List ℕ) → length field ≡ 0 → no_leading_zero field ≡ false
-unfolding no_leading_zero
-empty [] h = refl
-empty (b ∷ bs) h = absurd (omega arith)
-
-pub leading : (field : List ℕ) → 1 < length field → get_or field 0 0 ≡ 48 → no_leading_zero field ≡ false
-unfolding no_leading_zero
-leading [] h e = absurd (omega arith)
-leading (b ∷ []) h e = absurd (omega arith)
-leading (b ∷ c ∷ bs) h e = rw (eq-eqb b 48 e) refl
-
-pub single : (field : List ℕ) → length field ≤ 1 → length field ≢ 0 → no_leading_zero field ≡ true
-unfolding no_leading_zero
-single [] l h = absurd (h refl)
-single (b ∷ []) l h = refl
-single (b ∷ c ∷ bs) l h = absurd (omega arith)
+-- a field by the tests of `read_number`: whether it is empty, and whether a zero stands before another digit
+pub number_by : (base most : ℕ) (field : List ℕ)
+    → number_of base most field
+    ≡ cond (eqb (length field) 0) None (cond (ltb 1 (length field) && eqb (get_or field 0 0) 48) None (digits_from base most 0 field))
+unfolding number_of digits_from is_number no_leading_zero value
+number_by base most [] = refl
+number_by base most (b ∷ []) = refl
+number_by base most (b ∷ c ∷ bs) =
+    rw (ne_eqb (length (b ∷ c ∷ bs)) 0 (λ e. omega arith), lt-ltb 1 (length (b ∷ c ∷ bs)) (omega arith)) (go (eqb b 48))
+  where
+    go : (t : Bool)
+        → cond (not t && (all_of (is_digit base) (b ∷ c ∷ bs) && leb (value_from base 0 (b ∷ c ∷ bs)) most)) (Some (value_from base 0 (b ∷ c ∷ bs))) None
+        ≡ cond t None (cond (all_of (is_digit base) (b ∷ c ∷ bs) && leb (value_from base 0 (b ∷ c ∷ bs)) most) (Some (value_from base 0 (b ∷ c ∷ bs))) None)
+    go true = refl
+    go false = refl

@@ -38,6 +38,7 @@ fn read_digits(field: &[u8], base: u64, most: u64) -> Option<u64>
 }
 
 // The number of a field, in digits of the base, if it is at most `most`.
+#[tactic(auto, using(crate::proofs::ReadDigits::number_by))]
 pub fn read_number(field: &[u8], base: u64, most: u64) -> Option<u64>
     requires { 2 ≤ base }
     ensures { result ≡ number_of base most field.now }
@@ -46,10 +47,8 @@ pub fn read_number(field: &[u8], base: u64, most: u64) -> Option<u64>
     if n == 0 {
         return None;
     }
-    if 1 < n {
-        if field[0] == b'0' {
-            return None;
-        }
+    if 1 < n && field[0] == b'0' {
+        return None;
     }
     read_digits(field, base, most)
 }

@@ -162,6 +162,7 @@ header_step n s rest =
       changes = (value_run (drop (length values_begin) rest)).changes;
     }
 
+-- `behind` is what stands behind the names
 unfoldable pub read_stamped : Names → List ℕ → Step
 read_stamped n behind = option_map_or (λ s. header_step n s (drop s.length behind)) (read_stamp behind) no_step
 
