@@ -1,6 +1,6 @@
 -- What each call answers and leaves, test by test: the definitions of Calls.antt at each place where the code returns. `S` are the sizes that the code
 -- has read from the words. Order: Make; Offer; Move; Credit; Look; First; Drain. Assumes nothing.
-use Rattle.std.specs.Prelude.{◌≡◌, refl, ◌≢◌, List, [], ◌++◌, map, ℕ, ◌<◌, ◌≤◌, eqb, leb, length, drop, Option, None, Some, Result, Ok, Err}
+use Rattle.std.specs.Prelude.{◌≡◌, refl, ◌≢◌, List, [], ◌∷◌, ◌++◌, map, ℕ, ◌<◌, ◌≤◌, eqb, leb, length, drop, Option, None, Some, Result, Ok, Err}
 use Rattle.std.proofs.Common.{ap, sym, ◌∙◌, subst, arith, eq-eqb, ne_eqb, lt-ltb, le-ltb, leb-false}
 use mathlib.Core.Bool.{Bool, true, false, cond, ◌||◌}
 use Rattle.std.proofs.lemmas.Bool.{eqb-false}
@@ -12,12 +12,13 @@ use Rattle.network.specs.declared.Stop.{Stop}
 use Rattle.network.specs.Sizes.{Shape, shape_of, sizes_in_range, nodes, queues}
 use Rattle.network.specs.Layout.{shape, need, held}
 use Rattle.queue.specs.QueueOf.{QueueOf}
-use Rattle.network.specs.Routes.{deliver}
+use Rattle.network.specs.CheckLaws.{Network}
+use Rattle.network.specs.Routes.{deliver, free_load}
 use Rattle.network.specs.Refusals.{refusal_number, numbered, network_refusal, make_refusal, offer_rules, offer_refusal, move_rules, move_refusal, credit_rules, credit_refusal, look_rules, look_refusal, head, else_by}
+use Rattle.network.proofs.RefusalLaws.{else_by-zero, else_by-first, neither, not-refused, network-passed}
+use Rattle.network.specs.Calls.{Answer, unless_refused, Delivery, empty_network, make_words, after_offer, offer_words, after_move, move_words, move_answer, credit_answer, look_part, first_move, first_answer, drain_from, drained, drain_of, drain_words, drain_ledger, drain_answer}
 use Rattle.network.proofs.Answers.{value-is, refusal-is}
 use Rattle.checker.specs.Opened.{Open, Shut, broken, sizes_in, sizes-shape}
-use Rattle.network.proofs.RefusalLaws.{else_by-zero, else_by-first, neither, not-refused, network-passed}
-use Rattle.network.specs.Calls.{Answer, unless_refused, Delivery, empty_network, make_words, look_part, drain_from, drained, drain_ledger, drain_of}
 
 -- The refusal of a call, which tests the words and then its own rules f of the sizes S that the words begin with -------------------------------
 
