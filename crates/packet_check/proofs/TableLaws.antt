@@ -1,9 +1,9 @@
 -- The tables. Order: a part filled word by word; a ring's coordinates one after the other; the parts of the dimensions; a coordinate moved, looked up. Assumes nothing.
-use mathlib.Core.Path.{◌≡◌, refl, ap, sym, subst, ◌∙◌}
+use mathlib.Core.Path.{◌≡◌, ap, sym, subst, ◌∙◌}
 use mathlib.Core.Logic.{◌≢◌}
 use mathlib.Core.List.{List}
 use Prim.Native.Nat.{ℕ, ◌+◌, ◌*◌, ◌-◌, ◌%◌, ◌<◌, ◌≤◌}
-use native.Mathlib.Nat.{mod-lt, mod-eq_of_lt, mod_self, mod-add-mod}
+use native.Mathlib.Nat.{mod-eq_of_lt, mod_self, mod-add-mod}
 use native.Mathlib.Decide.{ℕ_discrete}
 use native.Mathlib.Omega.{arith}
 use lib.Dec.{T}
@@ -20,12 +20,6 @@ use Rattle.packet_check.proofs.Offsets.{moved-above}
 -- A part filled word by word ---------------------------------------------------------------------------------------------------------------
 
 module _ (before : List ℕ) (start : ℕ) (g : ℕ → ℕ) where
-  pub filled_none : PartWritten before before start 0 g
-  filled_none = record { words = refl; part = λ j h. absurd (none j h); kept = λ j h. refl }
-    where
-      none : (j : ℕ) → j < 0 → ⊥
-      none j h = omega arith
-
   pub filled_more : (tables : List ℕ) (j v : ℕ) → start + j < length before → PartWritten before tables start j g → v ≡ g j → PartWritten before (set tables (start + j) v) start (j + 1) g
   filled_more tables j v within f e =
       record {
@@ -46,9 +40,6 @@ module _ (before : List ℕ) (start : ℕ) (g : ℕ → ℕ) where
           ap (λ (n : ℕ). get_or (set tables (start + j) v) (start + n) 0) s ∙ get_or-set_same tables (start + j) v 0 (omega arith) ∙ e ∙ ap g (sym s)
       each m l (no n) = get_or-set_other tables (start + j) (start + m) v 0 (behind m n) ∙ f.part m (omega arith)
 
-  pub filled-all : (tables : List ℕ) (j count : ℕ) → PartWritten before tables start j g → j ≤ count → count ≤ j → PartWritten before tables start count g
-  filled-all tables j count f l m = subst (λ (n : ℕ). PartWritten before tables start n g) (let e : j ≡ count = omega arith in e) f
-
 -- a part that ends before another one is filled stays
 pub part-kept : (before after : List ℕ) (start count other more : ℕ) (g h : ℕ → ℕ) → Part before start count g → PartWritten before after other more h
     → start + count ≤ other → Part after start count g
@@ -65,9 +56,6 @@ next-on c k h = sym (mod-eq_of_lt h)
 -- the coordinate that is carried along
 pub carried : (j c k next : ℕ) → c ≡ j % k → next ≡ (c + 1) % k → next ≡ (j + 1) % k
 carried j c k next here e = e ∙ ap (λ (n : ℕ). (n + 1) % k) here ∙ mod-add-mod j k 1
-
-pub on-ring : (j c k : ℕ) → c ≡ j % k → 1 ≤ k → c < k
-on-ring j c k e h = let l = mod-lt j h in omega arith
 
 -- The parts of the dimensions --------------------------------------------------------------------------------------------------------------
 

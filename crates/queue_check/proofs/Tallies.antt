@@ -43,9 +43,6 @@ pub record Left (f : ℕ → Bool) (g : ℕ → ℕ) (l : List ℕ) (i sum : ℕ
   pub sums : sum + sum_of g (drop i l) ≡ sum_of g l
 
 module _ (f : ℕ → Bool) (g : ℕ → ℕ) (l : List ℕ) where
-  pub left-start : Left f g l 0 0
-  left-start = record { tests = refl; sums = omega arith }
-
   pub left-stop : (i sum : ℕ) → Left f g l i sum → i < length l → f (get_or l i 0) ≡ false → all_of f l ≡ false
   left-stop i sum left h e = sym left.tests ∙ all_from f l i h ∙ and-stop _ _ e
 

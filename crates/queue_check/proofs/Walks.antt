@@ -181,10 +181,6 @@ module _ (s : Sizes) (w : List ℕ) where
         within = omega arith;
       }
 
-  pub net-first : (n : ℕ) (place : Place) (start held work : ℕ) → NetWalk s w n place start held work → n < nodes (shape_of s)
-      → start ≡ queue_start (shape_of s) (node_at s place) 0
-  net-first n place start held work net h = net.first ∙ ap (λ (m : ℕ). queue_start (shape_of s) m 0) (sym (net.walk.node h))
-
   pub net-tally : (n : ℕ) (place : Place) (start held work : ℕ) (t : Option Tally) → NetWalk s w n place start held work → n < nodes (shape_of s) → t ≡ node_tally (shape_of s) w (node_at s place)
       → t ≡ tally (node_fits (shape_of s) w n) (node_holds (shape_of s) w n) (node_works (shape_of s) w n)
   unfolding node_tally

@@ -1,7 +1,7 @@
 // The queues' clauses of the check, and the sums over their packets, in one pass over the words: from a queue's own words to all nodes.
 #![tactic(auto)]
 
-ghost use Rattle.std.specs.Prelude.{◌≡◌, ◌+◌, ◌<◌, ◌≤◌, eqb, leb, length, drop};
+ghost use Rattle.std.specs.Prelude.{◌≡◌, ◌+◌, ◌<◌, ◌≤◌, eqb, leb, length};
 ghost use Rattle.std.specs.List.{list_all};
 ghost use Rattle.base.specs.Tests.{all_of};
 ghost use Rattle.base.specs.Sums.{sum_of};

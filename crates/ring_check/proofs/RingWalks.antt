@@ -6,7 +6,7 @@ use mathlib.Core.Bool.{Bool, true, false, cond}
 use mathlib.Core.List.{List}
 use mathlib.Core.Logic.{◌⊎◌, inl, inr}
 use Prim.Native.Nat.{ℕ, suc, ◌+◌, ◌*◌, ◌-◌, ◌/◌, ◌%◌, ◌<◌, ◌≤◌}
-use native.Mathlib.Nat.{add-zero, eq-or-lt_of_le, le_of_suc-le-suc, not-suc-le-zero, mod-lt, mod-eq_of_lt, mod-add-div, add-mul-mod_self_right, mul-pos, mul-div_cancel, mul-le-mul_right, lt_of_mul-lt-mul_right, le_of_mul-le-mul_right}
+use native.Mathlib.Nat.{add-zero, eq-or-lt_of_le, le_of_suc-le-suc, mod-lt, mod-eq_of_lt, mod-add-div, add-mul-mod_self_right, mul-pos, mul-div_cancel, mul-le-mul_right, lt_of_mul-lt-mul_right, le_of_mul-le-mul_right}
 use native.Mathlib.Omega.{arith}
 use lib.Dec.{T, ltb, ltb→lt, lt→ltb}
 use lib.ListN.{length, get_or, take, drop, length-take, length-drop}
@@ -39,9 +39,6 @@ pub record Walk (P : ℕ → Type 0) (first step at : ℕ) : Type 0 where
   pub done : ℕ
   pub before : (j : ℕ) → j < done → P (first + j * step)
   pub place : at ≡ first + done * step
-
-pub walk_start : (P : ℕ → Type 0) (first step : ℕ) → Walk P first step first
-walk_start P first step = record { done = 0; before = λ j h. absurd (not-suc-le-zero h); place = omega arith }
 
 pub walk_more : {P : ℕ → Type 0} {first step at : ℕ} → Walk P first step at → P at → Walk P first step (at + step)
 walk_more {P} {first} {step} {at} walk p =

@@ -1,17 +1,10 @@
 -- `packet_check::fill_tables` meets its contract: the goals that the check does not find by itself. Assumes nothing.
-use Rattle.std.proofs.Common.{sym, ◌∙◌, ℕ, ◌<◌, arith}
+use Rattle.std.proofs.Common.{◌∙◌, arith}
 use Rattle.base.proofs.Numbers.{weight-most}
 use Rattle.network.specs.Sizes.{shape_of, nodes}
 use Rattle.network.proofs.TorusLaws.{sizes-torus, sizes-nodes, in_range-size, size-pos}
 use Rattle.packet_check.proofs.TableLaws.{dimension-more, dimension-kept}
 use Rattle.packet_check.proofs.fill_tables.Goals as goal
-
-pub loop-i-init : goal.loop-i-init
-loop-i-init c =
-    (λ m h. absurd (none m h), c.requires.1)
-  where
-    none : (m : ℕ) → m < 0 → ⊥
-    none m h = omega arith
 
 pub fill_ring-requires : goal.fill_ring-requires
 unfolding nodes
@@ -29,9 +22,6 @@ fill_ring-requires c =
     let n = sizes-nodes s t in
     (c.loop-i.invariant.1, h, omega arith, omega arith, omega arith)
 
-pub fill_passing-requires : goal.fill_passing-requires
-fill_passing-requires c = (c.requires.0, c.fill_ring.ensures.words ∙ c.loop-i.invariant.1, c.loop-i-test.true)
-
 pub loop-i-preserved : goal.loop-i-preserved
 loop-i-preserved c =
     let h = c.loop-i-test.true in (
@@ -39,12 +29,6 @@ loop-i-preserved c =
           c.fill_passing.ensures,
       c.fill_passing.ensures.words ∙ c.fill_ring.ensures.words ∙ c.loop-i.invariant.1,
     )
-
-pub fill_distances-requires : goal.fill_distances-requires
-fill_distances-requires c = c.loop-i.invariant.1
-
-pub shape_of-tables : goal.shape_of-tables
-shape_of-tables c = c.fill_distances.ensures.words ∙ c.loop-i.invariant.1 ∙ sym c.requires.1
 
 pub returns : goal.returns
 returns c =

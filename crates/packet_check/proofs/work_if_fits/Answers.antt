@@ -16,9 +16,6 @@ loop-i-init c = judged-none _ _ _ _
 clear : (c : At-loop-i) → spares_clear c.args.p ≡ true
 clear c = sym c.spares_clear.ensures ∙ c.if-not-spares_clear.false
 
-pub passes-requires : goal.passes-requires
-passes-requires c = (c.requires.1.words, c.requires.2, c.loop-i-test.true, c.above-a.ensures.small)
-
 -- what the test says
 along : (c : After-passes)
     → c.passes.result ≡ below_along (shape_of c.args.s) c.args.q c.args.p c.loop-i.i
@@ -42,9 +39,6 @@ once : (c : Else-not-passes)
     → Short c.args.s c.args.q c.args.p
     c.loop-i.i c.above-a.result c.loop-i-test.true c.above-a.ensures.offset
 once c = short _ _ _ _ _ _ _ c.requires.0.sizes (below c)
-
-pub bounds-at-i : goal.bounds-at-i
-bounds-at-i c = c.loop-i-test.true
 
 pub moved-node-requires : goal.moved-node-requires
 moved-node-requires c =
@@ -70,12 +64,6 @@ more c =
 
 pub overflow_add-node : goal.overflow_add-node
 overflow_add-node c = let l = (more (goal.at.overflow_add-node c).After-moved-node).small in omega arith
-
-pub bounds-tables-a : goal.bounds-tables-a
-bounds-tables-a c =
-    let l = c.above-a.ensures.small in
-    let w = c.requires.1.words in
-    omega arith
 
 pub overflow_add-work-in-loop-i : goal.overflow_add-work-in-loop-i
 overflow_add-work-in-loop-i c = let l = (more (goal.at.overflow_add-work-in-loop-i c).After-moved-node).few in omega arith

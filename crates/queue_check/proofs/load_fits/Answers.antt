@@ -1,7 +1,7 @@
 -- `queue_check::load_fits` meets its contract. Assumes nothing.
 use Rattle.std.proofs.Common.{refl, sym, ◌∙◌, arith}
 use Rattle.network.specs.Layout.{count_of}
-use Rattle.queue_check.proofs.Loads.{slots-fit, behind-few, chunks_fit}
+use Rattle.queue_check.proofs.Loads.{slots-fit, chunks_fit}
 use Rattle.queue_check.proofs.load_fits.Goals as goal
 
 pub returns-then-not-is_adaptive : goal.returns-then-not-is_adaptive
@@ -14,10 +14,6 @@ overflow_add-count c = omega (arith, c.requires.0)
 pub slice_bounds-chunks_of-end : goal.slice_bounds-chunks_of-end
 unfolding count_of
 slice_bounds-chunks_of-end c = omega (arith, c.requires.0)
-
-pub chunks_of-requires : goal.chunks_of-requires
-unfolding count_of
-chunks_of-requires c = behind-few c.args.q c.args.part.now c.requires.0 _ refl c.requires.1
 
 pub returns : goal.returns
 unfolding count_of

@@ -10,7 +10,7 @@ use Rattle.torus.specs.declared.Place.{Place}
 use Rattle.torus.specs.Geometry.{node_at}
 use Rattle.queue_check.specs.TallyLaws.{tally-fails}
 use Rattle.queue_check.proofs.Loads.{behind, behind-few, packets-behind}
-use Rattle.queue_check.proofs.Tallies.{left-start, left-stop, work_none, work-some, packets-length, packets-more, packets-small, packets-end}
+use Rattle.queue_check.proofs.Tallies.{left-stop, work_none, work-some, packets-length, packets-more, packets-small, packets-end}
 use Rattle.queue_check.proofs.packets_fit.Goals as goal
 use Rattle.queue_check.proofs.packets_fit.Goals.{In_ok-work}
 
@@ -24,9 +24,6 @@ overflow_add-packets c = omega (arith, c.requires.2)
 pub slice_bounds-packets-end : goal.slice_bounds-packets-end
 unfolding count_of
 slice_bounds-packets-end c = omega (arith, c.requires.2)
-
-pub loop-p-init : goal.loop-p-init
-loop-p-init c = left-start _ work _
 
 pub returns-in_err-work : goal.returns-in_err-work
 unfolding count_of

@@ -1,11 +1,8 @@
 -- `ring_check::groups_room` meets its contract: the goals that the check does not find by itself. Assumes nothing.
 use Rattle.std.proofs.Common.{sym, ◌∙◌, arith}
 use Rattle.ring_check.specs.RingLines.{group_room, groups_room}
-use Rattle.ring_check.proofs.RingWalks.{walk_start, walk_more, walk-room, walk-fails, walk-all, rings-at}
+use Rattle.ring_check.proofs.RingWalks.{walk_more, walk-room, walk-fails, walk-all, rings-at}
 use Rattle.ring_check.proofs.groups_room.Goals as goal
-
-pub loop-at-init : goal.loop-at-init
-loop-at-init c = walk_start _ _ _
 
 pub group_room-requires : goal.group_room-requires
 group_room-requires c = let n = walk-room c.requires.groups c.loop-at.invariant c.loop-at-test.true in rings-at c.requires (omega (arith, c.requires))

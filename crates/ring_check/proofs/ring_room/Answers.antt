@@ -1,11 +1,8 @@
 -- `ring_check::ring_room` meets its contract: the goals that the check does not find by itself. Assumes nothing.
 use Rattle.std.proofs.Common.{lt-ltb, le-ltb, sym, arith, ltb, get_or}
 use Rattle.ring_check.specs.RingLines.{ring_room}
-use Rattle.ring_check.proofs.RingWalks.{walk_start, walk_more, walk-room, walk-passes, walk_none}
+use Rattle.ring_check.proofs.RingWalks.{walk_more, walk-room, walk-passes, walk_none}
 use Rattle.ring_check.proofs.ring_room.Goals as goal
-
-pub loop-at-init : goal.loop-at-init
-loop-at-init c = walk_start _ _ _
 
 -- the place is among the words
 pub bounds-words-at : goal.bounds-words-at

@@ -15,9 +15,6 @@ pub loop-d-init : goal.loop-d-init
 unfolding all_below
 loop-d-init c = refl
 
-pub direction_has_room-requires : goal.direction_has_room-requires
-direction_has_room-requires c = (c.requires, c.loop-d-test.true)
-
 -- what the call says
 found : (c : After-direction_has_room)
     → c.direction_has_room.result ≡ rooms (shape_of c.args.s) c.args.words.now c.loop-d.d
