@@ -38,7 +38,8 @@ fn read_once<R: Read, W: Write>(
     Ok(n)
 }
 
-// Every read. A proved loop has to end, and nothing says that the input does: it goes over a range that no run uses up.
+// Every read. A proved loop has to end, and nothing says that the input does: it goes over a range that no run uses up. `wave` has
+// the like of its own: the proof's invariant is of what the program holds between reads, and a loop that both share would not see it.
 fn main(rt: HostRuntime) -> ExitCode {
     let mut input = rt.stdin();
     let mut output = rt.stdout();

@@ -1,6 +1,6 @@
 -- Laws of a read that is replayed. Order: from its start on; a step on; a move; a command; the end; told by the next step; what is left to
 -- do. Assumes nothing.
-use Rattle.std.specs.Prelude.{◌≡◌, refl, true, false, cond, List, [], ◌++◌, ℕ, suc, ◌-◌, ◌<◌, ◌≤◌, length, take}
+use Rattle.std.specs.Prelude.{◌≡◌, refl, true, false, cond, List, [], ◌++◌, ℕ, suc, ◌-◌, ◌<◌, ◌≤◌, length, take, Option, None, Some}
 use Rattle.std.proofs.Math.Path.{ap, sym}
 use Rattle.std.proofs.Common.{◌∙◌, subst, append-nil, append_assoc, arith}
 use Rattle.sheet.specs.declared.Command.{Command}
@@ -11,7 +11,6 @@ use Rattle.session.specs.Reads.{sheet, answer_read}
 use Rattle.session.specs.Coming.{Coming, cursor_at, coming, command_before, none_coming, carry_coming}
 use Rattle.session.proofs.ComingLaws.{read-coming, fewer-coming, carry-command, carry-none}
 use Rattle.replay.specs.declared.ReplayCursor.{ReplayCursor}
-use Rattle.replay.specs.declared.NextStep.{NextStep}
 use Rattle.replay.specs.Replay.{carried_out, moves_asked, moved_on, makes_move, room_left, replayed, command_bytes, move_bytes, moves_bytes, dump_all, FillsOf}
 use Rattle.replay.proofs.ReplayLaws.{move-stays, command-replayed}
 use Rattle.replay.specs.Steps.{read_start, finished, finished_by, unwritten, unwritten_by, Shows, left_to_do, GoesOn}
@@ -102,49 +101,48 @@ module _ (piece w buffer : List ℕ) (c : ReplayCursor) (none : c.moves ≡ 0) w
       }
 
   -- nothing is left
-  pub read-ended : (buffer' : List ℕ) (pending : ℕ) → coming piece buffer c.read ≡ none_coming buffer' pending
-      → (finished piece w buffer c ≡ finished_by piece w buffer' (NextStep.UsedUp pending))
-      × ((list page : List ℕ) → Shows piece w buffer list c w buffer' page (NextStep.UsedUp pending) × GoesOn piece buffer c buffer' page (NextStep.UsedUp pending))
+  pub read-ended : (buffer' : List ℕ) (c' : ReplayCursor) → coming piece buffer c.read ≡ none_coming buffer' c'.read.pending
+      → (finished piece w buffer c ≡ finished_by piece w buffer' c' None)
+      × ((list page : List ℕ) → Shows piece w buffer list c w buffer' page c' None × GoesOn piece buffer c buffer' page c' None)
   unfolding dump_all finished_by unwritten_by Shows GoesOn
-  read-ended buffer' pending e = (
-    idle-finished ∙ ap (λ r. (carry_coming w r).sheet) e ∙ ap (λ a. a.sheet) (carry-none w buffer' pending),
+  read-ended buffer' c' e = (
+    idle-finished ∙ ap (λ r. (carry_coming w r).sheet) e ∙ ap (λ a. a.sheet) (carry-none w buffer' c'.read.pending),
     λ list page. (λ is. idle-unwritten ∙ ap (λ r. dump_all r.commands w) e, tt),
   )
 
 -- what a step on tells, where its bytes are the first of the page
 module _ {piece w buffer : List ℕ} {c : ReplayCursor} {bytes v buffer' : List ℕ} {c' : ReplayCursor} (o : Onward piece w buffer c bytes v buffer' c') (n : ℕ) where
-  pub onward-leads : finished piece w buffer c ≡ finished_by piece v buffer' (NextStep.Done n c')
+  pub onward-leads : finished piece w buffer c ≡ finished_by piece v buffer' c' (Some n)
   unfolding finished_by
   onward-leads = o.leads
 
-  pub onward-shows : (list page : List ℕ) → (FillsOf w list → take n page ≡ bytes) → Shows piece w buffer list c v buffer' page (NextStep.Done n c')
+  pub onward-shows : (list page : List ℕ) → (FillsOf w list → take n page ≡ bytes) → Shows piece w buffer list c v buffer' page c' (Some n)
   unfolding unwritten_by Shows
   onward-shows list page t is = o.writes ∙ ap (λ l. l ++ unwritten piece v buffer' c') (sym (t is))
 
 -- told by the next step
-module _ (piece w buffer : List ℕ) (c : ReplayCursor) (v buffer' : List ℕ) (r : NextStep) where
-  pub done-leads : (n : ℕ) (c' : ReplayCursor) → finished piece w buffer c ≡ finished_by piece v buffer' r → r ≡ NextStep.Done n c'
-      → finished piece w buffer c ≡ finished piece v buffer' c'
+module _ (piece w buffer : List ℕ) (c : ReplayCursor) (v buffer' : List ℕ) (c' : ReplayCursor) (r : Option ℕ) where
+  pub done-leads : (n : ℕ) → finished piece w buffer c ≡ finished_by piece v buffer' c' r → r ≡ Some n → finished piece w buffer c ≡ finished piece v buffer' c'
   unfolding finished_by
-  done-leads n c' e d = e ∙ ap (finished_by piece v buffer') d
+  done-leads n e d = e ∙ ap (finished_by piece v buffer' c') d
 
-  pub used-leads : (pending : ℕ) → finished piece w buffer c ≡ finished_by piece v buffer' r → r ≡ NextStep.UsedUp pending → finished piece w buffer c ≡ sheet v buffer' pending
+  pub used-leads : finished piece w buffer c ≡ finished_by piece v buffer' c' r → r ≡ None → finished piece w buffer c ≡ sheet v buffer' c'.read.pending
   unfolding finished_by
-  used-leads pending e d = e ∙ ap (finished_by piece v buffer') d
+  used-leads e d = e ∙ ap (finished_by piece v buffer' c') d
 
-pub done_on : (piece buffer : List ℕ) (c : ReplayCursor) (buffer' page : List ℕ) (r : NextStep) (n : ℕ) (c' : ReplayCursor) → GoesOn piece buffer c buffer' page r
-    → r ≡ NextStep.Done n c' → (left_to_do piece buffer' c' < left_to_do piece buffer c) × (n ≤ length page)
+pub done_on : (piece buffer : List ℕ) (c : ReplayCursor) (buffer' page : List ℕ) (c' : ReplayCursor) (r : Option ℕ) (n : ℕ) → GoesOn piece buffer c buffer' page c' r
+    → r ≡ Some n → (left_to_do piece buffer' c' < left_to_do piece buffer c) × (n ≤ length page)
 unfolding GoesOn
-done_on piece buffer c buffer' page r n c' g d = subst (GoesOn piece buffer c buffer' page) d g
+done_on piece buffer c buffer' page c' r n g d = subst (GoesOn piece buffer c buffer' page c') d g
 
 -- what is left to do grows less
 pub move-fewer : (piece buffer : List ℕ) (c : ReplayCursor) (moves room bytes : ℕ) (page : List ℕ) → moves < c.moves → bytes ≤ length page
-    → GoesOn piece buffer c buffer page (NextStep.Done bytes (replay_at c.read moves room))
+    → GoesOn piece buffer c buffer page (replay_at c.read moves room) (Some bytes)
 unfolding GoesOn left_to_do
 move-fewer piece buffer c moves room bytes page less within = (omega arith, within)
 
 pub command-fewer : (piece buffer : List ℕ) (c : ReplayCursor) (buffer' : List ℕ) (command : Command) (behind : Cursor) (moves room bytes : ℕ) (page : List ℕ)
     → coming piece buffer c.read ≡ command_before command (coming piece buffer' behind) → moves ≤ largest_number → bytes ≤ length page
-    → GoesOn piece buffer c buffer' page (NextStep.Done bytes (replay_at behind moves room))
+    → GoesOn piece buffer c buffer' page (replay_at behind moves room) (Some bytes)
 unfolding GoesOn left_to_do
 command-fewer piece buffer c buffer' command behind moves room bytes page e few within = let l = fewer-coming e in (omega arith, within)

@@ -2,7 +2,7 @@
 // replayed move by move, so that each of its moves is a step of its own. Order: a step; a command at once; a move of a D; the next of a read.
 #![tactic(auto)]
 
-ghost use Rattle.std.specs.Prelude.{◌≡◌, List, ℕ, ◌<◌, ◌≤◌, eqb, length, is_some, IfSome};
+ghost use Rattle.std.specs.Prelude.{◌≡◌, List, ℕ, ◌<◌, ◌≤◌, length, is_some, IfSome, Some};
 ghost use Rattle.network.specs.Refusals.{numbered};
 ghost use Rattle.waveform.specs.Calls.{written_length};
 ghost use Rattle.session.specs.Session.{store_words};
@@ -12,7 +12,7 @@ ghost use Rattle.replay.specs.Replay.{FillsOf, shown, step_shown, carried_out, c
 
 use lines::HELD_BYTES;
 use network::{Refusal, drained_delivered, drained_moves, sized};
-use session::{Cursor, LEDGER_WORDS, NextCommand, STORE_WORDS};
+use session::{Cursor, LEDGER_WORDS, STORE_WORDS};
 use sheet::Command;
 
 // A move of a D: the words of the ledger that are left, and the bytes of its step.
@@ -139,15 +139,6 @@ pub struct ReplayCursor {
     pub room: usize,
 }
 
-// What comes next of a read that is replayed.
-#[derive(Clone, Copy)]
-pub enum NextStep {
-    // A command or a move was carried out. The first so many bytes of the page show it; none, if nothing changed.
-    Done { bytes: usize, cursor: ReplayCursor },
-    // The read is used up, and so many bytes are pending.
-    UsedUp(usize),
-}
-
 // The start of a read: no D is under way.
 pub fn start_read(pending: usize) -> ReplayCursor
     ensures { result ≡ read_start pending }
@@ -159,95 +150,78 @@ pub fn start_read(pending: usize) -> ReplayCursor
     }
 }
 
-// The next move of the D that is under way. If it makes none, the D has ended.
+// The next move of the D that is under way: how many bytes its step has. If it makes none, the D has ended.
 fn next_move(
     store: &mut [u64; STORE_WORDS],
-    cursor: ReplayCursor,
+    cursor: &mut ReplayCursor,
     fills: &mut [u8],
     page: &mut [u8],
-) -> NextStep
-    requires moves_nonzero { 0 < cursor.moves }
+) -> usize
+    requires moves_nonzero { 0 < cursor.old.moves }
     requires roomy { Roomy store_words fills.old page.old }
-    ensures sheet { (piece line : List ℕ) → finished piece store.old line cursor ≡ finished_by piece store.new line result }
-    ensures shown { (piece line : List ℕ) → Shows piece store.old line fills.old cursor store.new line page.new result }
+    ensures sheet { (piece line : List ℕ) → finished piece store.old line cursor.old ≡ finished_by piece store.new line cursor.new (Some result) }
+    ensures shown { (piece line : List ℕ) → Shows piece store.old line fills.old cursor.old store.new line page.new cursor.new (Some result) }
     ensures fills { FillsOf store.old fills.old → FillsOf store.new fills.new }
-    ensures onward { (piece line : List ℕ) → GoesOn piece line cursor line page.old result }
+    ensures onward { (piece line : List ℕ) → GoesOn piece line cursor.old line page.old cursor.new (Some result) }
 {
-    let read = cursor.read;
     match drain_move(store, cursor.room, fills, page) {
-        Some(step) => NextStep::Done {
-            bytes: step.bytes,
-            cursor: ReplayCursor {
-                read,
-                moves: cursor.moves - 1,
-                room: step.room,
-            },
-        },
-        None => NextStep::Done {
-            bytes: 0,
-            cursor: ReplayCursor {
-                read,
-                moves: 0,
-                room: 0,
-            },
-        },
+        Some(step) => {
+            cursor.moves -= 1;
+            cursor.room = step.room;
+            step.bytes
+        }
+        None => {
+            cursor.moves = 0;
+            cursor.room = 0;
+            0
+        }
     }
 }
 
-// The next command of the read, and what it does at once. A D's moves come after it, with a ledger of their own.
+// The next command of the read, and what it does at once: how many bytes show it. A D's moves come after it, with a ledger of their own.
 fn next_line(
     store: &mut [u64; STORE_WORDS],
     line: &mut [u8; HELD_BYTES],
     piece: &[u8],
-    cursor: ReplayCursor,
+    cursor: &mut ReplayCursor,
     fills: &mut [u8],
     page: &mut [u8],
-) -> NextStep
-    requires moves_value { cursor.moves ≡ 0 }
+) -> Option<usize>
+    requires moves_value { cursor.old.moves ≡ 0 }
     requires roomy { Roomy store_words fills.old page.old }
-    ensures sheet { finished piece.now store.old line.old cursor ≡ finished_by piece.now store.new line.new result }
-    ensures shown { Shows piece.now store.old line.old fills.old cursor store.new line.new page.new result }
+    ensures sheet { finished piece.now store.old line.old cursor.old ≡ finished_by piece.now store.new line.new cursor.new result }
+    ensures shown { Shows piece.now store.old line.old fills.old cursor.old store.new line.new page.new cursor.new result }
     ensures fills { FillsOf store.old fills.old → FillsOf store.new fills.new }
-    ensures onward { GoesOn piece.now line.old cursor line.new page.old result }
+    ensures onward { GoesOn piece.now line.old cursor.old line.new page.old cursor.new result }
 {
-    match session::next_command(line, piece, cursor.read) {
-        NextCommand::Given {
-            command,
-            cursor: behind,
-        } => {
-            let bytes = carry_out(store, command, fills, page);
-            let moves = moves_asked(command);
-            NextStep::Done {
-                bytes,
-                cursor: ReplayCursor {
-                    read: behind,
-                    moves,
-                    room: LEDGER_WORDS,
-                },
-            }
-        }
-        NextCommand::UsedUp(pending) => NextStep::UsedUp(pending),
-    }
+    let command = session::next_command(line, piece, &mut cursor.read)?;
+    let bytes = carry_out(store, command, fills, page);
+    let moves = moves_asked(command);
+    cursor.moves = moves;
+    cursor.room = LEDGER_WORDS;
+    Some(bytes)
 }
 
-// The next step of a read: the next move of the D that is under way, or else the next command. List and page have room for every step of every
-// network that the store can hold, so that none is lost (specs/Whole.antt). The theorem `dump-right` says what all steps of all reads are together.
+// The next step of a read, a command or a move that is carried out: the next move of the D that is under way, or else the next command. The first so many
+// bytes of the page show it, none, if nothing changed; the cursor comes to stand behind it. None, if the read is used up. List and page have room for every
+// step of every network that the store can hold, so that none is lost (specs/Whole.antt). The theorem `dump-right` says what all steps of all reads are
+// together.
 pub fn next_step(
     store: &mut [u64; STORE_WORDS],
     line: &mut [u8; HELD_BYTES],
     piece: &[u8],
-    cursor: ReplayCursor,
+    cursor: &mut ReplayCursor,
     fills: &mut [u8],
     page: &mut [u8],
-) -> NextStep
+) -> Option<usize>
     requires { Roomy store_words fills.old page.old }
-    ensures sheet { finished piece.now store.old line.old cursor ≡ finished_by piece.now store.new line.new result }
-    ensures shown { Shows piece.now store.old line.old fills.old cursor store.new line.new page.new result }
+    ensures sheet { finished piece.now store.old line.old cursor.old ≡ finished_by piece.now store.new line.new cursor.new result }
+    ensures shown { Shows piece.now store.old line.old fills.old cursor.old store.new line.new page.new cursor.new result }
     ensures fills { FillsOf store.old fills.old → FillsOf store.new fills.new }
-    ensures onward { GoesOn piece.now line.old cursor line.new page.old result }
+    ensures onward { GoesOn piece.now line.old cursor.old line.new page.old cursor.new result }
 {
     if cursor.moves > 0 {
-        return next_move(store, cursor, fills, page);
+        return Some(next_move(store, cursor, fills, page));
     }
     next_line(store, line, piece, cursor, fills, page)
 }

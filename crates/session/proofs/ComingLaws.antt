@@ -1,6 +1,6 @@
 -- Laws of what a read still brings. Order: told by its next command; a read is what comes from its start on; a byte is passed; no byte is left; the end of the input; a command is
 -- carried out; how many commands come at most. Assumes nothing.
-use Rattle.std.specs.Prelude.{◌≡◌, refl, ◌⊎◌, List, [], ◌∷◌, map, ℕ, ◌+◌, ◌<◌, ◌≤◌, length, get_or, drop}
+use Rattle.std.specs.Prelude.{◌≡◌, refl, ◌⊎◌, List, [], ◌∷◌, map, ℕ, ◌+◌, ◌<◌, ◌≤◌, length, get_or, drop, Option, None, Some}
 use Rattle.std.proofs.Math.Path.{ap}
 use Rattle.std.proofs.Common.{ap₂, inl, inr, sym, ◌∙◌, append-nil, add-one, arith, length-append, length-drop, drop_of_length-le, drop-cons}
 use Rattle.std.proofs.lemmas.List.{map-append, length-map}
@@ -13,21 +13,20 @@ use Rattle.sheet.specs.Commands.{kept_command}
 use Rattle.sheet.specs.Cutting.{fed_answer, finished_answer, handed_on, pending_after, ByteFed, Cutting, feed_byte, feed_bytes, finish_cutting}
 use Rattle.sheet.proofs.Cuts.{bytes-behind, finished-none, finished-long, finished-line}
 use Rattle.session.specs.declared.Cursor.{Cursor}
-use Rattle.session.specs.declared.NextCommand.{NextCommand}
 use Rattle.session.specs.Session.{perform, perform_all}
 use Rattle.session.specs.Reads.{Sheet, sheet, printed_before, answer_read, cutter, carry_out, end_cutting}
 use Rattle.session.specs.Coming.{Coming, brought, cutter_at, cursor_at, coming, command_before, none_coming, coming_by, fed_command, carry_coming}
 use Rattle.session.specs.ComingLaws.{answered, line_before}
 
 -- told by its next command
-module _ (piece buffer' : List ℕ) {now : Coming} {next : NextCommand} (e : now ≡ coming_by piece buffer' next) where
-  pub next-given : {command : Command} {cursor : Cursor} → next ≡ NextCommand.Given command cursor → now ≡ command_before command (coming piece buffer' cursor)
+module _ (piece buffer' : List ℕ) (c : Cursor) {now : Coming} {next : Option Command} (e : now ≡ coming_by piece buffer' c next) where
+  pub next-given : {command : Command} → next ≡ Some command → now ≡ command_before command (coming piece buffer' c)
   unfolding coming_by
-  next-given g = e ∙ ap (coming_by piece buffer') g
+  next-given g = e ∙ ap (coming_by piece buffer' c) g
 
-  pub next-none : {pending : ℕ} → next ≡ NextCommand.UsedUp pending → now ≡ none_coming buffer' pending
+  pub next-none : next ≡ None → now ≡ none_coming buffer' c.pending
   unfolding coming_by
-  next-none g = e ∙ ap (coming_by piece buffer') g
+  next-none g = e ∙ ap (coming_by piece buffer' c) g
 
 pub fewer-coming : {now : Coming} {command : Command} {later : Coming} → now ≡ command_before command later → length later.commands < length now.commands
 fewer-coming {now} {command} {later} e = let l = ap (λ c. length c.commands) e in omega arith
@@ -68,22 +67,22 @@ module _ (piece buffer : List ℕ) (passed pending : ℕ) (buffer' : List ℕ) (
       byte-coming piece buffer passed pending buffer' fed h t
       ∙ ap (λ f. line_before buffer' f (coming piece buffer' (cursor_at (passed + 1) (pending_after f)))) e
 
-  byte-line : (n : ℕ) → fed ≡ Fed.Line n → coming piece buffer (cursor_at passed pending) ≡ coming_by piece buffer' (fed_command buffer' fed (passed + 1))
+  byte-line : (n : ℕ) → fed ≡ Fed.Line n → coming piece buffer (cursor_at passed pending) ≡ coming_by piece buffer' (cursor_at (passed + 1) 0) (fed_command buffer' fed)
   unfolding handed_on pending_after kept_command coming_by fed_command
   byte-line n e =
       byte-coming piece buffer passed pending buffer' fed h t
       ∙ ap (λ f. line_before buffer' f (coming piece buffer' (cursor_at (passed + 1) (pending_after f)))) e
-      ∙ ap (λ f. coming_by piece buffer' (fed_command buffer' f (passed + 1))) (sym e)
+      ∙ ap (λ f. coming_by piece buffer' (cursor_at (passed + 1) 0) (fed_command buffer' f)) (sym e)
 
-  byte-long : fed ≡ Fed.TooLong → coming piece buffer (cursor_at passed pending) ≡ coming_by piece buffer' (fed_command buffer' fed (passed + 1))
+  byte-long : fed ≡ Fed.TooLong → coming piece buffer (cursor_at passed pending) ≡ coming_by piece buffer' (cursor_at (passed + 1) 0) (fed_command buffer' fed)
   unfolding handed_on pending_after kept_command coming_by fed_command
   byte-long e =
       byte-coming piece buffer passed pending buffer' fed h t
       ∙ ap (λ f. line_before buffer' f (coming piece buffer' (cursor_at (passed + 1) (pending_after f)))) e
-      ∙ ap (λ f. coming_by piece buffer' (fed_command buffer' f (passed + 1))) (sym e)
+      ∙ ap (λ f. coming_by piece buffer' (cursor_at (passed + 1) 0) (fed_command buffer' f)) (sym e)
 
   pub byte-ended : ((n : ℕ) × (fed ≡ Fed.Line n)) ⊎ (fed ≡ Fed.TooLong)
-      → coming piece buffer (cursor_at passed pending) ≡ coming_by piece buffer' (fed_command buffer' fed (passed + 1))
+      → coming piece buffer (cursor_at passed pending) ≡ coming_by piece buffer' (cursor_at (passed + 1) 0) (fed_command buffer' fed)
   byte-ended (inl (n, e)) = byte-line n e
   byte-ended (inr e) = byte-long e
 
@@ -106,14 +105,14 @@ finished-pending count = go (ℕ_discrete count 0) (dec_le count line_limit)
     go (no f) (no h) = rw (finished-long count (omega arith)) refl
 
 end-told : (buffer : List ℕ) (passed : ℕ) (fed : Fed) → pending_after fed ≡ 0
-    → record { commands = map kept_command (handed_on buffer fed); buffer = buffer; pending = 0 } ≡ coming_by [] buffer (fed_command buffer fed passed)
+    → record { commands = map kept_command (handed_on buffer fed); buffer = buffer; pending = 0 } ≡ coming_by [] buffer (cursor_at passed 0) (fed_command buffer fed)
 unfolding handed_on pending_after kept_command coming_by fed_command coming brought end_cutting finish_cutting finished_answer
-end-told buffer passed (Fed.More p) z = ap (none_coming buffer) (sym z)
+end-told buffer passed (Fed.More p) z = refl
 end-told buffer passed (Fed.Line n) z = refl
 end-told buffer passed Fed.TooLong z = refl
 
 pub end-coming : (piece buffer : List ℕ) (passed pending : ℕ) (fed : Fed) → length piece ≡ 0 → fed ≡ finished_answer pending
-    → coming piece buffer (cursor_at passed pending) ≡ coming_by piece buffer (fed_command buffer fed passed)
+    → coming piece buffer (cursor_at passed pending) ≡ coming_by piece buffer (cursor_at passed 0) (fed_command buffer fed)
 unfolding coming brought end_cutting finish_cutting
 end-coming [] buffer passed pending fed none e =
     ap (λ f. record { commands = map kept_command (handed_on buffer f); buffer = buffer; pending = 0 }) (sym e)

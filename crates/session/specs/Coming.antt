@@ -1,13 +1,12 @@
 -- What a read still brings from a cursor on (R240 to R250): the commands of the lines that end, and the bytes that are pending behind them. The function
 -- `next_command` takes one command after another off it. Order: what a line cutter brings; what is to come; told by its next command; carried out.
 -- Laws are in ComingLaws.antt. Assumes nothing.
-use Rattle.std.specs.Prelude.{List, [], ◌∷◌, map, ℕ, take, drop}
+use Rattle.std.specs.Prelude.{List, [], ◌∷◌, map, ℕ, take, drop, Option, None, Some}
 use Rattle.sheet.specs.declared.Fed.{Fed}
 use Rattle.sheet.specs.declared.Command.{Command}
 use Rattle.sheet.specs.Commands.{command_of, kept_command}
 use Rattle.sheet.specs.Cutting.{Cutting, feed_bytes}
 use Rattle.session.specs.declared.Cursor.{Cursor}
-use Rattle.session.specs.declared.NextCommand.{NextCommand}
 use Rattle.session.specs.Session.{Performed, perform_all}
 use Rattle.session.specs.Reads.{sheet, Answered, end_cutting}
 
@@ -39,15 +38,15 @@ command_before command later = record { commands = command ∷ later.commands; b
 abbrev pub none_coming : List ℕ → ℕ → Coming
 none_coming buffer pending = record { commands = []; buffer = buffer; pending = pending }
 
-unfoldable pub coming_by : List ℕ → List ℕ → NextCommand → Coming
-coming_by piece buffer (NextCommand.Given command cursor) = command_before command (coming piece buffer cursor)
-coming_by piece buffer (NextCommand.UsedUp pending) = none_coming buffer pending
+unfoldable pub coming_by : List ℕ → List ℕ → Cursor → Option Command → Coming
+coming_by piece buffer c (Some command) = command_before command (coming piece buffer c)
+coming_by piece buffer c None = none_coming buffer c.pending
 
--- what the line cutter's answer is told as, where so many bytes are passed
-unfoldable pub fed_command : List ℕ → Fed → ℕ → NextCommand
-fed_command buffer (Fed.More p) passed = NextCommand.UsedUp p.count
-fed_command buffer (Fed.Line n) passed = NextCommand.Given (command_of (take n buffer)) (cursor_at passed 0)
-fed_command buffer Fed.TooLong passed = NextCommand.Given Command.Bad (cursor_at passed 0)
+-- the command of the line that the line cutter hands on, if it does
+unfoldable pub fed_command : List ℕ → Fed → Option Command
+fed_command buffer (Fed.More p) = None
+fed_command buffer (Fed.Line n) = Some (command_of (take n buffer))
+fed_command buffer Fed.TooLong = Some Command.Bad
 
 -- what is to come, carried out on a store
 unfoldable pub carry_coming : List ℕ → Coming → Answered

@@ -37,15 +37,6 @@ pub struct Cursor {
     pub pending: usize,
 }
 
-// What comes next of a read.
-#[derive(Clone, Copy)]
-pub enum NextCommand {
-    // The command of a line that ends, and the cursor behind it.
-    Given { command: Command, cursor: Cursor },
-    // No line ends any more, and so many bytes are pending.
-    UsedUp(usize),
-}
-
 // The start of a sheet, whatever the store and the buffer of the line hold: the store is made zero, and the number of pending bytes given.
 pub fn start(store: &mut [u64; STORE_WORDS]) -> usize
     ensures { (buffer : List ℕ) → sheet store.new buffer result ≡ start_sheet buffer }
@@ -71,65 +62,53 @@ pub fn answer_read(
 {
     let mut cursor = Cursor { passed: 0, pending };
     let mut at = 0;
-    loop {
-        let next = next_command(line, piece, cursor);
-        match next {
-            NextCommand::Given {
-                command,
-                cursor: behind,
-            } => {
-                let end = at + COMMAND_ROOM;
-                at += run_command(store, command, &mut out[at..end]);
-                cursor = behind;
-            }
-            NextCommand::UsedUp(count) => {
-                return Printed {
-                    pending: count,
-                    bytes: at,
-                };
-            }
-        }
+    while let Some(command) = next_command(line, piece, &mut cursor) {
+        let end = at + COMMAND_ROOM;
+        at += run_command(store, command, &mut out[at..end]);
+    }
+    Printed {
+        pending: cursor.pending,
+        bytes: at,
     }
 }
 
-// What the answer of the line cutter is told as, where so many bytes of the read are passed. A line that is too long is a bad one.
-fn fed_command(line: &[u8], fed: Fed, passed: usize) -> NextCommand
+// The command of the line that the line cutter hands on, if it does. A line that is too long is a bad one.
+fn fed_command(line: &[u8], fed: Fed) -> Option<Command>
     requires { LineWithin fed line.now }
-    ensures { result ≡ fed_command line.now fed passed }
+    ensures { result ≡ fed_command line.now fed }
 {
-    let behind = Cursor { passed, pending: 0 };
     match fed {
-        Fed::More(pending) => NextCommand::UsedUp(pending.count),
-        Fed::Line(n) => NextCommand::Given {
-            command: reader::read_command(&line[..n]),
-            cursor: behind,
-        },
-        Fed::TooLong => NextCommand::Given {
-            command: Command::Bad,
-            cursor: behind,
-        },
+        Fed::More(_) => None,
+        Fed::Line(n) => Some(reader::read_command(&line[..n])),
+        Fed::TooLong => Some(Command::Bad),
     }
 }
 
-// The next command of a read, from the cursor on: the bytes up to the next end of a line go to the line cutter. A read of no bytes is the end of
-// the input, where a last line without an end counts.
-pub fn next_command(line: &mut [u8], piece: &[u8], cursor: Cursor) -> NextCommand
+// The next command of a read, from the cursor on, which comes to stand behind its line: the bytes up to the next end of a line go to the line cutter. None,
+// if no line ends any more. A read of no bytes is the end of the input, where a last line without an end counts.
+pub fn next_command(line: &mut [u8], piece: &[u8], cursor: &mut Cursor) -> Option<Command>
     requires { held_bytes ≤ length line.old }
-    ensures { coming piece.now line.old cursor ≡ coming_by piece.now line.new result }
+    ensures { coming piece.now line.old cursor.old ≡ coming_by piece.now line.new cursor.new result }
 {
-    let mut pending = cursor.pending;
     if piece.is_empty() {
-        let fed = lines::finish(Pending { count: pending });
-        return fed_command(line, fed, cursor.passed);
+        let count = cursor.pending;
+        let fed = lines::finish(Pending { count });
+        cursor.pending = 0;
+        return fed_command(line, fed);
     }
     for i in cursor.passed..piece.len() {
-        let fed = lines::feed(line, Pending { count: pending }, piece[i]);
+        let count = cursor.pending;
+        let fed = lines::feed(line, Pending { count }, piece[i]);
+        cursor.passed = i + 1;
         match fed {
-            Fed::More(more) => pending = more.count,
-            Fed::Line(_) | Fed::TooLong => return fed_command(line, fed, i + 1),
+            Fed::More(more) => cursor.pending = more.count,
+            Fed::Line(_) | Fed::TooLong => {
+                cursor.pending = 0;
+                return fed_command(line, fed);
+            }
         }
     }
-    NextCommand::UsedUp(pending)
+    None
 }
 
 // T makes.

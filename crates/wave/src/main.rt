@@ -12,7 +12,6 @@ ghost use Rattle.replay.specs.Dumps.{read_dump};
 ghost use Rattle.wave.specs.Streams.{ReadReplayed};
 
 use lines::HELD_BYTES;
-use replay::NextStep;
 use session::STORE_WORDS;
 use std::io::{Read, Write};
 use std::process::ExitCode;
@@ -42,19 +41,10 @@ fn write_steps<W: Write>(
         → Appends (W.contents output.old) (W.contents output.new) (read_dump (sheet store.old line.old pending) piece.now)) }
 {
     let mut cursor = replay::start_read(pending);
-    loop {
-        let next = replay::next_step(store, line, piece, cursor, fills, page);
-        match next {
-            NextStep::Done {
-                bytes,
-                cursor: behind,
-            } => {
-                streams::write(output, &page[..bytes])?;
-                cursor = behind;
-            }
-            NextStep::UsedUp(count) => return Ok(count),
-        }
+    while let Some(bytes) = replay::next_step(store, line, piece, &mut cursor, fills, page) {
+        streams::write(output, &page[..bytes])?;
     }
+    Ok(cursor.read.pending)
 }
 
 // One read and what it shows: how many bytes were read. A read of no bytes is handed over too: it is the end of the input. After a read or a write that
@@ -81,7 +71,8 @@ fn read_once<R: Read, W: Write>(
     Ok(n)
 }
 
-// Every read. A proved loop has to end, and nothing says that the input does: it goes over a range that no run uses up.
+// Every read. A proved loop has to end, and nothing says that the input does: it goes over a range that no run uses up. `bench` has
+// the like of its own: the proof's invariant is of what the program holds between reads, and a loop that both share would not see it.
 fn main(rt: HostRuntime) -> ExitCode {
     let mut input = rt.stdin();
     let mut output = rt.stdout();

@@ -1,8 +1,7 @@
 -- `replay::next_move` meets its contract, by whether a move was made. Assumes nothing.
-use Rattle.std.proofs.Common.{◌≡◌, sym, List, ℕ, ◌<◌, ◌≤◌, arith, length, rules}
+use Rattle.std.proofs.Common.{◌≡◌, Some, sym, List, ℕ, ◌<◌, ◌≤◌, arith, length, rules}
 use Rattle.session.specs.Session.{store_words}
 use Rattle.replay.specs.declared.ReplayCursor.{ReplayCursor}
-use Rattle.replay.specs.declared.NextStep.{NextStep}
 use Rattle.replay.specs.Replay.{shown, moved_on, move_shown, move_bytes, FillsOf}
 use Rattle.replay.specs.Whole.{Roomy}
 use Rattle.replay.proofs.FillsLaws.{move-tells}
@@ -17,9 +16,9 @@ told : (w v list list' page page' : List ℕ) (c : ReplayCursor) (bytes moves ro
     → ((piece line : List ℕ) → Onward piece w line c (move_bytes w c.room) v line (replay_at c.read moves room))
     → Roomy store_words list page → length w ≤ store_words → v ≡ moved_on w c.room → shown bytes list' page' ≡ move_shown w c.room list page
     → moves < c.moves → bytes ≤ length page
-    → ((piece line : List ℕ) → finished piece w line c ≡ finished_by piece v line (NextStep.Done bytes (replay_at c.read moves room)))
-    × (((piece line : List ℕ) → Shows piece w line list c v line page' (NextStep.Done bytes (replay_at c.read moves room)))
-    × ((FillsOf w list → FillsOf v list') × ((piece line : List ℕ) → GoesOn piece line c line page (NextStep.Done bytes (replay_at c.read moves room)))))
+    → ((piece line : List ℕ) → finished piece w line c ≡ finished_by piece v line (replay_at c.read moves room) (Some bytes))
+    × (((piece line : List ℕ) → Shows piece w line list c v line page' (replay_at c.read moves room) (Some bytes))
+    × ((FillsOf w list → FillsOf v list') × ((piece line : List ℕ) → GoesOn piece line c line page (replay_at c.read moves room) (Some bytes))))
 told w v list list' page page' c bytes moves room o roomy few e h less within = (
   λ piece line. onward-leads (o piece line) bytes,
   (

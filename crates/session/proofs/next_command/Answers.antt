@@ -9,7 +9,7 @@ pub fed_command-requires : goal.fed_command-requires
 fed_command-requires c = rw c.finish-fed.ensures (finished-within c.args.line.now _ c.requires)
 
 pub returns-then-is_empty : goal.returns-then-is_empty
-returns-then-is_empty c = end-coming _ _ _ _ _ (search rules) c.finish-fed.ensures ∙ ap (coming_by _ _) (sym c.fed_command.ensures)
+returns-then-is_empty c = end-coming _ _ _ _ _ (search rules) c.finish-fed.ensures ∙ ap (coming_by _ _ _) (sym c.fed_command.ensures)
 
 -- a line that ends stands in the buffer
 pub fed_command-requires-in-Line : goal.fed_command-requires-in-Line
@@ -22,7 +22,7 @@ pub returns-in-Line : goal.returns-in-Line
 returns-in-Line c =
     c.loop-i.invariant.1
     ∙ byte-ended _ _ _ _ _ _ c.loop-i-test.true c.feed-fed.ensures c.in-Line.is
-    ∙ ap (coming_by _ _) (sym c.fed_command-in-Line.ensures)
+    ∙ ap (coming_by _ _ _) (sym c.fed_command-in-Line.ensures)
 
 pub returns : goal.returns
 unfolding coming_by

@@ -21,42 +21,42 @@ loop-bytes-init g c =
 
 pub slice_bounds-write-end : goal.slice_bounds-write-end
 slice_bounds-write-end g c =
-    let on = done_on _ _ _ _ _ _ _ _ c.next_step-next.ensures.onward c.in-Done.is in
+    let on = done_on _ _ _ _ _ _ _ _ c.next_step.ensures.onward c.in-Some.is in
     omega (arith, on.1)
 
-pub slice_bounds-write-end-in-Done : goal.slice_bounds-write-end-in-Done
-slice_bounds-write-end-in-Done g c =
-    let on = done_on _ _ _ _ _ _ _ _ c.next_step-next.ensures.onward c.in-Done.is in
-    sym (length-take-le c.in-Done.bytes c.next_step-next.new.page (omega (arith, on.1)))
+pub slice_bounds-write-end-in-Some : goal.slice_bounds-write-end-in-Some
+slice_bounds-write-end-in-Some g c =
+    let on = done_on _ _ _ _ _ _ _ _ c.next_step.ensures.onward c.in-Some.is in
+    sym (length-take-le c.in-Some.bytes c.next_step.new.page (omega (arith, on.1)))
 
 pub loop-bytes-smaller : goal.loop-bytes-smaller
-loop-bytes-smaller g c = (done_on _ _ _ _ _ _ _ _ c.next_step-next.ensures.onward c.in-Done.is).0
+loop-bytes-smaller g c = (done_on _ _ _ _ _ _ _ _ c.next_step.ensures.onward c.in-Some.is).0
 
 pub loop-bytes-preserved : goal.loop-bytes-preserved
 loop-bytes-preserved g c =
-    let step = c.next_step-next.ensures in
+    let step = c.next_step.ensures in
     let inv = c.loop-bytes.invariant in
     record {
       fills = omega arith;
       page = omega arith;
-      leads = sym (done-leads _ _ _ _ _ _ _ _ _ step.sheet c.in-Done.is) ∙ inv.leads;
+      leads = sym (done-leads _ _ _ _ _ _ _ _ _ step.sheet c.in-Some.is) ∙ inv.leads;
       kept = λ is. step.fills (inv.kept is);
       written = λ is.
           let (bytes, added, left) = inv.written is in
-          let told = c.in_ok-write-in-Done.ensures.written in (
-            bytes ++ take c.in-Done.bytes c.next_step-next.new.page,
+          let told = c.in_ok-write.ensures.written in (
+            bytes ++ take c.in-Some.bytes c.next_step.new.page,
             Appends-trans _ _ _ _ _ added told,
-            left ∙ ap (λ rest. bytes ++ rest) (shown_on _ _ _ _ _ _ _ _ _ _ _ step.shown c.in-Done.is (inv.kept is)) ∙ sym (append_assoc bytes _ _),
+            left ∙ ap (λ rest. bytes ++ rest) (shown_on _ _ _ _ _ _ _ _ _ _ step.shown (inv.kept is) _ c.in-Some.is) ∙ sym (append_assoc bytes _ _),
           );
     }
 
-pub returns-in-UsedUp-clause-sheet : goal.returns-in-UsedUp-clause-sheet
-returns-in-UsedUp-clause-sheet g c =
-    sym (used-leads _ _ _ _ _ _ _ _ c.next_step-next.ensures.sheet c.in-UsedUp.is) ∙ c.loop-bytes.invariant.leads
+pub returns-clause-sheet : goal.returns-clause-sheet
+returns-clause-sheet g c =
+    sym (used-leads _ _ _ _ _ _ _ _ c.next_step.ensures.sheet c.in_default.is) ∙ c.loop-bytes.invariant.leads
 
-pub returns-in-UsedUp-clause-written : goal.returns-in-UsedUp-clause-written
-returns-in-UsedUp-clause-written g c = λ is.
+pub returns-clause-written : goal.returns-clause-written
+returns-clause-written g c = λ is.
     let inv = c.loop-bytes.invariant in
     let (bytes, added, left) = inv.written is in
-    let none = shown_up _ _ _ _ _ _ _ _ _ _ c.next_step-next.ensures.shown c.in-UsedUp.is (inv.kept is) in
+    let none = shown_up _ _ _ _ _ _ _ _ _ _ c.next_step.ensures.shown (inv.kept is) c.in_default.is in
     subst (Appends _ _) (sym (left ∙ ap (λ rest. bytes ++ rest) none ∙ append-nil bytes)) added
