@@ -3,6 +3,7 @@
 #![tactic(auto)]
 
 ghost use Rattle.std.specs.Prelude.{◌≡◌, cond, ◌<◌, ◌≤◌, eqb, length, get_or, drop};
+ghost use Rattle.sheet.specs.Output.{Room, Put};
 ghost use Rattle.waveform.specs.Dump.{most_variables, variable_line};
 ghost use Rattle.waveform.specs.Reading.{starts_with, read_stamp, value_run, needed, read_names, tells_all, applied};
 ghost use Rattle.waveform.specs.Calls.{read_answer, read_list};
@@ -11,6 +12,7 @@ ghost use Rattle.dump_reader.specs.Parsing.{no_field, no_stamp, no_value, no_nam
 ghost use Rattle.dump_reader.specs.Parsing.{FieldOf, ValueFrom, RunOf, CountedOf, LaterOf, HeaderOf, StepOf};
 
 use dump_text::{TWO, put_variable, starts_with};
+use fields::Page;
 use network::{BAD_LINE, QUEUES, SHORT_PAGE};
 use reader::{Number, field_end, read_number};
 use sheet::TEN;
@@ -204,6 +206,16 @@ fn apply_run(bytes: &[u8], fills: &mut [u8])
     }
 }
 
+// The line of variable i at the start of a buffer.
+fn print_variable(out: &mut [u8], i: usize) -> usize
+    requires { Room out.old 0 (variable_line i) }
+    ensures { Put out.old 0 (variable_line i) out.new result }
+{
+    let mut page = Page { out, at: 0 };
+    put_variable(&mut page, i);
+    page.at
+}
+
 // The bytes of the line of variable i, if it stands there, else 0.
 fn variable_at(bytes: &[u8], at: usize, i: usize) -> usize
     requires at_in_bounds { at ≤ length bytes.now }
@@ -211,7 +223,7 @@ fn variable_at(bytes: &[u8], at: usize, i: usize) -> usize
     ensures { result ≡ cond (starts_with (variable_line i) (drop at bytes.now)) (length (variable_line i)) 0 }
 {
     let mut line = [0u8; LINE_ROOM];
-    let length = put_variable(&mut line, 0, i);
+    let length = print_variable(&mut line, i);
     if starts_with(bytes, at, &line[..length]) {
         return length;
     }

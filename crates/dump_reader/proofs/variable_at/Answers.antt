@@ -4,19 +4,19 @@ use Rattle.waveform.proofs.Lengths.{variable-room}
 use Rattle.dump_reader.proofs.Headers.{front-within, front_length, front-there, front-missing}
 use Rattle.dump_reader.proofs.variable_at.Goals as goal
 
-pub put_variable-length-requires : goal.put_variable-length-requires
-put_variable-length-requires c = omega (arith, variable-room c.args.i c.requires.i_lt_most_variables)
+pub print_variable-length-requires : goal.print_variable-length-requires
+print_variable-length-requires c = omega (arith, variable-room c.args.i c.requires.i_lt_most_variables)
 
 pub slice_bounds-line-end : goal.slice_bounds-line-end
-slice_bounds-line-end c = front-within c.put_variable-length.ensures (omega (arith, variable-room c.args.i c.requires.i_lt_most_variables))
+slice_bounds-line-end c = front-within c.print_variable-length.ensures (omega (arith, variable-room c.args.i c.requires.i_lt_most_variables))
 
 pub slice_bounds-starts_with-end : goal.slice_bounds-starts_with-end
-slice_bounds-starts_with-end c = front_length c.put_variable-length.ensures (omega (arith, variable-room c.args.i c.requires.i_lt_most_variables))
+slice_bounds-starts_with-end c = front_length c.print_variable-length.ensures (omega (arith, variable-room c.args.i c.requires.i_lt_most_variables))
 
 pub returns-then-starts_with : goal.returns-then-starts_with
 returns-then-starts_with c =
     let a = c.args in
-    front-there c.put_variable-length.ensures (omega (arith, variable-room c.args.i c.requires.i_lt_most_variables))
+    front-there c.print_variable-length.ensures (omega (arith, variable-room c.args.i c.requires.i_lt_most_variables))
     (drop a.at a.bytes.now)
     c.starts_with.ensures
     c.if-starts_with.true
@@ -24,7 +24,7 @@ returns-then-starts_with c =
 pub returns : goal.returns
 returns c =
     let a = c.args in
-    front-missing c.put_variable-length.ensures (omega (arith, variable-room c.args.i c.requires.i_lt_most_variables))
+    front-missing c.print_variable-length.ensures (omega (arith, variable-room c.args.i c.requires.i_lt_most_variables))
     (drop a.at a.bytes.now)
     c.starts_with.ensures
     c.if-starts_with.false

@@ -6,6 +6,6 @@ use Rattle.writer.proofs.put_answer.Goals as goal
 
 pub put_line-requires : goal.put_line-requires
 put_line-requires c =
-    enough c.args.out.now c.args.at (answer_line c.args.letter c.args.refusal) answer_room
+    enough c.args.page.now.out.now c.args.page.now.at (answer_line c.args.letter c.args.refusal) answer_room
     (answer-length c.args.letter c.args.refusal c.ranges.refusal.fits)
     c.requires
