@@ -4,6 +4,7 @@
 
 ghost use Rattle.std.specs.Prelude.{◌≡◌, cond, Some, None, IfSome, ◌<◌, ◌≤◌, eqb, length, get_or, drop};
 ghost use Rattle.network.specs.Refusals.{numbered};
+ghost use Rattle.sheet.specs.Output.{Room, Put};
 ghost use Rattle.waveform.specs.Dump.{most_variables, variable_line};
 ghost use Rattle.waveform.specs.Reading.{starts_with, read_stamp, next_value, value_run, needed, read_names, tells_all, applied};
 ghost use Rattle.waveform.specs.Calls.{read_answer, read_list};
@@ -11,6 +12,7 @@ ghost use Rattle.waveform.specs.StepAnswers.{ReadTells};
 ghost use Rattle.dump_reader.specs.Parsing.{field_from, RunOf, CountedOf, LaterOf, HeaderOf, StepOf};
 
 use dump_text::{TWO, put_variable, starts_with};
+use fields::Page;
 use network::{QUEUES, Refusal};
 use reader::{field_end, read_number};
 use sheet::TEN;
@@ -144,6 +146,16 @@ fn apply_run(bytes: &[u8], fills: &mut [u8])
     }
 }
 
+// The line of variable i at the start of a buffer.
+fn print_variable(out: &mut [u8], i: usize) -> usize
+    requires { Room out.old 0 (variable_line i) }
+    ensures { Put out.old 0 (variable_line i) out.new result }
+{
+    let mut page = Page { out, at: 0 };
+    put_variable(&mut page, i);
+    page.at
+}
+
 // The bytes of the line of variable i, if it stands there.
 fn variable_at(bytes: &[u8], at: usize, i: usize) -> Option<usize>
     requires at_in_bounds { at ≤ length bytes.now }
@@ -151,7 +163,7 @@ fn variable_at(bytes: &[u8], at: usize, i: usize) -> Option<usize>
     ensures { result ≡ cond (starts_with (variable_line i) (drop at bytes.now)) (Some (length (variable_line i))) None }
 {
     let mut line = [0u8; LINE_ROOM];
-    let length = put_variable(&mut line, 0, i);
+    let length = print_variable(&mut line, i);
     starts_with(bytes, at, &line[..length]).then_some(length)
 }
 

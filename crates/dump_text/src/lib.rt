@@ -1,12 +1,12 @@
-// The lines of a dump (R402 to R405), written into a lent page, and how long they are; the caller sees that there is room. And bytes compared.
+// The lines of a dump (R402 to R405), put on a page, and how long they are; the caller sees that there is room. And bytes compared.
 #![tactic(auto)]
 
 ghost use Rattle.std.specs.Prelude.{◌≡◌, ◌<◌, ◌≤◌, length, drop};
-ghost use Rattle.sheet.specs.Output.{Room, Put};
+ghost use Rattle.fields.specs.Puts.{Fits, Puts};
 ghost use Rattle.waveform.specs.Dump.{variable_line, stamp_line, value_line};
 ghost use Rattle.waveform.specs.Reading.{starts_with};
 
-use fields::{number_length, put_byte, put_bytes, put_number};
+use fields::{Page, number_length};
 use network::QUEUES;
 use sheet::TEN;
 
@@ -21,18 +21,18 @@ const STAMP_BYTES: usize = 2;
 const VALUE_BYTES: usize = 3;
 
 // The line that names variable i.
-pub fn put_variable(page: &mut [u8], at: usize, i: usize) -> usize
-    requires { Room page.old at (variable_line i) }
-    ensures { Put page.old at (variable_line i) page.new result }
+pub fn put_variable(page: &mut Page, i: usize)
+    requires { Fits page.old (variable_line i) }
+    ensures { Puts page.old (variable_line i) page.new }
 {
     let number = i as u64;
-    let mut next = put_bytes(page, at, b"$var wire 8 ");
-    next = put_number(page, next, TEN, number);
-    next = put_bytes(page, next, b" n");
-    next = put_number(page, next, TEN, number / QUEUES);
-    next = put_bytes(page, next, b"q");
-    next = put_number(page, next, TEN, number % QUEUES);
-    put_bytes(page, next, b" $end\n")
+    page.put_bytes(b"$var wire 8 ");
+    page.put_number(TEN, number);
+    page.put_bytes(b" n");
+    page.put_number(TEN, number / QUEUES);
+    page.put_bytes(b"q");
+    page.put_number(TEN, number % QUEUES);
+    page.put_bytes(b" $end\n");
 }
 
 pub fn variable_length(i: usize) -> usize
@@ -45,13 +45,13 @@ pub fn variable_length(i: usize) -> usize
 }
 
 // A time stamp.
-pub fn put_stamp(page: &mut [u8], at: usize, time: u64) -> usize
-    requires { Room page.old at (stamp_line time) }
-    ensures { Put page.old at (stamp_line time) page.new result }
+pub fn put_stamp(page: &mut Page, time: u64)
+    requires { Fits page.old (stamp_line time) }
+    ensures { Puts page.old (stamp_line time) page.new }
 {
-    let mut next = put_byte(page, at, b'#');
-    next = put_number(page, next, TEN, time);
-    put_byte(page, next, b'\n')
+    page.put_byte(b'#');
+    page.put_number(TEN, time);
+    page.put_byte(b'\n');
 }
 
 pub fn stamp_length(time: u64) -> usize
@@ -61,15 +61,15 @@ pub fn stamp_length(time: u64) -> usize
 }
 
 // The line that tells the fill of a variable.
-pub fn put_value(page: &mut [u8], at: usize, variable: usize, fill: u8) -> usize
-    requires { Room page.old at (value_line (record { variable = variable; fill = fill })) }
-    ensures { Put page.old at (value_line (record { variable = variable; fill = fill })) page.new result }
+pub fn put_value(page: &mut Page, variable: usize, fill: u8)
+    requires { Fits page.old (value_line (record { variable = variable; fill = fill })) }
+    ensures { Puts page.old (value_line (record { variable = variable; fill = fill })) page.new }
 {
-    let mut next = put_byte(page, at, b'b');
-    next = put_number(page, next, TWO, fill as u64);
-    next = put_byte(page, next, b' ');
-    next = put_number(page, next, TEN, variable as u64);
-    put_byte(page, next, b'\n')
+    page.put_byte(b'b');
+    page.put_number(TWO, fill as u64);
+    page.put_byte(b' ');
+    page.put_number(TEN, variable as u64);
+    page.put_byte(b'\n');
 }
 
 pub fn value_length(variable: usize, fill: u8) -> usize

@@ -8,9 +8,10 @@ use native.Mathlib.Nat.{eq-or-lt_of_le}
 use native.Mathlib.Omega.{arith}
 use lib.Dec.{eqb}
 use lib.ListN.{length, get_or, length-append}
-use Rattle.sheet.specs.Output.{Room, Put}
-use Rattle.sheet.specs.Puts.{ToPut}
-use Rattle.sheet.proofs.Puts.{put-none, put-behind, put-length, run_room, run-put}
+use Rattle.sheet.proofs.Puts.{put-none, put-length}
+use Rattle.fields.specs.declared.Page.{Page}
+use Rattle.fields.specs.Puts.{Fits, Puts}
+use Rattle.fields.proofs.Pages.{Left, left-as, left-room, left-behind, left-none, puts-behind}
 use Rattle.waveform.specs.Dump.{most_variables, variable_line, variable_lines, value_line, value_lines, tells, changes_to, changes}
 use Rattle.waveform.specs.Reading.{largest_fill}
 use Rattle.waveform.specs.DumpLaws.{change_at}
@@ -61,25 +62,19 @@ counted-all {count} {total} {i} c h =
     let l : length (variable_lines i (count - i)) ≡ 0 = ap length (none_left i count h) in
     omega arith
 
--- the lines before number i have been put
-abbrev pub VariablesPut : List ℕ → ℕ → ℕ → List ℕ → ℕ → ℕ → Type 0
-VariablesPut before at count page next i = ToPut before at (variable_lines 0 count) page next (variable_lines i (count - i))
+-- the lines from number i on are left to put
+abbrev pub VariablesPut : Page → ℕ → Page → ℕ → Type 0
+VariablesPut before count page i = Left before (variable_lines 0 count) page (variable_lines i (count - i))
 
-module _ {before : List ℕ} {at count : ℕ} {page : List ℕ} {next i : ℕ} (v : VariablesPut before at count page next i) where
-  still : i < count → ToPut before at (variable_lines 0 count) page next (variable_line i ++ variable_lines (i + 1) (count - (i + 1)))
-  still h = rw (left i count h) at v
+module _ {before : Page} {count : ℕ} {page : Page} {i : ℕ} (v : VariablesPut before count page i) where
+  pub variable-room : i < count → Fits page (variable_line i)
+  variable-room h = left-room (variable_line i) _ (left-as (left i count h) v)
 
-  pub variable-room : i < count → Room page next (variable_line i)
-  variable-room h = run_room (variable_line i) (variable_lines (i + 1) (count - (i + 1))) (still h)
+  pub variables-more : {page' : Page} → i < count → Puts page (variable_line i) page' → VariablesPut before count page' (i + 1)
+  variables-more h p = left-behind (variable_line i) _ (left-as (left i count h) v) p
 
-  pub variables-more : {page' : List ℕ} {next' : ℕ} → i < count → Put page next (variable_line i) page' next' → VariablesPut before at count page' next' (i + 1)
-  variables-more h p = run-put (variable_line i) (variable_lines (i + 1) (count - (i + 1))) (still h) p
-
-  pub variables-all : count ≤ i → Put before at (variable_lines 0 count) page next
-  variables-all h =
-      let l : ToPut before at (variable_lines 0 count) page next [] = rw (none_left i count h) at v in
-      let r = l.room in
-      l.done page next (put-none page next (omega arith))
+  pub variables-all : count ≤ i → Puts before (variable_lines 0 count) page
+  variables-all h = left-none (left-as (none_left i count h) v)
 
 -- the values of the first variables are no longer than all
 values-grow : (every : Bool) (counts list : List ℕ) (i n : ℕ) → i ≤ n
@@ -152,37 +147,37 @@ module _ (every : Bool) (counts list : List ℕ) where
       c.all ∙ ap (λ k. length (value_lines (changes_to every counts list k))) e
 
 -- the values of the variables before number i have been put
-abbrev pub ValuesPut : Bool → List ℕ → List ℕ → List ℕ → ℕ → List ℕ → ℕ → ℕ → Type 0
-ValuesPut every counts list before at page next i = Put before at (value_lines (changes_to every counts list i)) page next
+abbrev pub ValuesPut : Bool → List ℕ → List ℕ → Page → Page → ℕ → Type 0
+ValuesPut every counts list before page i = Puts before (value_lines (changes_to every counts list i)) page
 
-module _ (every : Bool) (counts list before : List ℕ) (at : ℕ) (room : Room before at (value_lines (changes every counts list))) where
-  room-to : (i : ℕ) → i ≤ length counts → Room before at (value_lines (changes_to every counts list i))
+module _ (every : Bool) (counts list : List ℕ) (before : Page) (room : Fits before (value_lines (changes every counts list))) where
+  room-to : (i : ℕ) → i ≤ length counts → Fits before (value_lines (changes_to every counts list i))
   unfolding changes
   room-to i h = let g = values-grow every counts list i (length counts) h in omega arith
 
-  pub put-values-none : ValuesPut every counts list before at before at 0
+  pub put-values-none : ValuesPut every counts list before before 0
   unfolding changes_to value_lines
-  put-values-none = put-none before at (omega arith)
+  put-values-none = record { put = put-none before.out.now before.at (omega arith); same_reference = refl }
 
-  module _ {page : List ℕ} {next i : ℕ} (v : ValuesPut every counts list before at page next i) where
+  module _ {page : Page} {i : ℕ} (v : ValuesPut every counts list before page i) where
     module _ (h : i < length counts) where
-      pub value_line_room : tells every counts list i ≡ true → Room page next (value_line (change_at counts i))
+      pub value_line_room : tells every counts list i ≡ true → Fits page (value_line (change_at counts i))
       value_line_room t =
           let l = told-length every counts list i t in
           let r = room-to (i + 1) (omega arith) in
-          let k = put-length v (room-to i (omega arith)) in
-          let n = v.answers in
+          let k = put-length v.put (room-to i (omega arith)) in
+          let n = v.put.answers in
           omega arith
 
-      pub put-values-told : {page' : List ℕ} {next' : ℕ} → tells every counts list i ≡ true → Put page next (value_line (change_at counts i)) page' next'
-          → ValuesPut every counts list before at page' next' (i + 1)
+      pub put-values-told : {page' : Page} → tells every counts list i ≡ true → Puts page (value_line (change_at counts i)) page'
+          → ValuesPut every counts list before page' (i + 1)
       put-values-told t p =
           let n : i + 1 ≡ suc i = omega arith in
-          rw (ap (λ k. value_lines (changes_to every counts list k)) n ∙ lines-told every counts list i t) (put-behind v p (room-to i (omega arith)))
+          rw (ap (λ k. value_lines (changes_to every counts list k)) n ∙ lines-told every counts list i t) (puts-behind v p (room-to i (omega arith)))
 
-      pub put-values-untold : tells every counts list i ≡ false → ValuesPut every counts list before at page next (i + 1)
+      pub put-values-untold : tells every counts list i ≡ false → ValuesPut every counts list before page (i + 1)
       put-values-untold t = rw (untold-lines every counts list i t) v
 
-    pub put-values-all : i ≡ length counts → Put before at (value_lines (changes every counts list)) page next
+    pub put-values-all : i ≡ length counts → Puts before (value_lines (changes every counts list)) page
     unfolding changes
     put-values-all e = rw e at v

@@ -8,13 +8,14 @@ ghost use Rattle.network.specs.Sizes.{shape_of, nodes};
 ghost use Rattle.network.specs.Layout.{queue_start, moves_made};
 ghost use Rattle.network.specs.CheckLaws.{Network};
 ghost use Rattle.sheet.specs.Output.{Room, Put};
+ghost use Rattle.fields.specs.Puts.{Fits, Puts};
 ghost use Rattle.waveform.specs.Dump.{variables_of, most_variables, fills as fills_of, variable_lines, value_lines, changes, step_bytes};
 ghost use Rattle.waveform.specs.Calls.{write_answer, write_page, write_list};
 ghost use Rattle.waveform.specs.StepAnswers.{WriteTells};
 ghost use Rattle.dump_writer.specs.Writing.{FillsAdded, counts_answer, counts_page, counts_list};
 
 use dump_text::{put_stamp, put_value, put_variable, stamp_length, value_length, variable_length};
-use fields::put_bytes;
+use fields::Page;
 use network::{FEW_NODES, HEADER_WORDS, MOVES_AT, QUEUES, Refusal, Sizes};
 use waveform::MOST_VARIABLES;
 
@@ -97,67 +98,71 @@ fn step_length(first: bool, time: u64, counts: &[u8], fills: &[u8]) -> usize
 }
 
 // The same lines put, and the two kinds of step.
-fn put_variables(page: &mut [u8], at: usize, count: usize) -> usize
-    requires { Room page.old at (variable_lines 0 count) }
-    ensures { Put page.old at (variable_lines 0 count) page.new result }
+fn put_variables(page: &mut Page, count: usize)
+    requires { Fits page.old (variable_lines 0 count) }
+    ensures { Puts page.old (variable_lines 0 count) page.new }
 {
-    let mut next = at;
     for i in 0..count {
-        next = put_variable(page, next, i);
+        put_variable(page, i);
     }
-    next
 }
 
-fn put_values(page: &mut [u8], at: usize, every: bool, counts: &[u8], fills: &[u8]) -> usize
+fn put_values(page: &mut Page, every: bool, counts: &[u8], fills: &[u8])
     requires counts_in_bounds { length counts.now ≤ length fills.now }
-    requires room { Room page.old at (value_lines (changes every counts.now fills.now)) }
-    ensures { Put page.old at (value_lines (changes every counts.now fills.now)) page.new result }
+    requires room { Fits page.old (value_lines (changes every counts.now fills.now)) }
+    ensures { Puts page.old (value_lines (changes every counts.now fills.now)) page.new }
 {
-    let mut next = at;
     for (i, &count) in counts.iter().enumerate() {
         if tells(every, count, fills[i]) {
-            next = put_value(page, next, i, count);
+            put_value(page, i, count);
         }
     }
-    next
 }
 
-fn put_header(page: &mut [u8], time: u64, counts: &[u8], fills: &[u8]) -> usize
+fn put_header(page: &mut Page, time: u64, counts: &[u8], fills: &[u8])
     requires counts_in_bounds { length counts.now ≤ length fills.now }
-    requires room { Room page.old 0 (step_bytes true time counts.now fills.now) }
-    ensures { Put page.old 0 (step_bytes true time counts.now fills.now) page.new result }
+    requires room { Fits page.old (step_bytes true time counts.now fills.now) }
+    ensures { Puts page.old (step_bytes true time counts.now fills.now) page.new }
 {
-    let mut next = put_bytes(
-        page,
-        0,
-        b"$timescale 1 ns $end\n$scope module network $end\n",
-    );
-    next = put_variables(page, next, counts.len());
-    next = put_bytes(page, next, b"$upscope $end\n$enddefinitions $end\n");
-    next = put_stamp(page, next, time);
-    next = put_bytes(page, next, b"$dumpvars\n");
-    next = put_values(page, next, true, counts, fills);
-    put_bytes(page, next, b"$end\n")
+    page.put_bytes(b"$timescale 1 ns $end\n$scope module network $end\n");
+    put_variables(page, counts.len());
+    page.put_bytes(b"$upscope $end\n$enddefinitions $end\n");
+    put_stamp(page, time);
+    page.put_bytes(b"$dumpvars\n");
+    put_values(page, true, counts, fills);
+    page.put_bytes(b"$end\n");
 }
 
-fn put_later(page: &mut [u8], time: u64, counts: &[u8], fills: &[u8]) -> usize
+fn put_later(page: &mut Page, time: u64, counts: &[u8], fills: &[u8])
     requires counts_in_bounds { length counts.now ≤ length fills.now }
-    requires room { Room page.old 0 (step_bytes false time counts.now fills.now) }
-    ensures { Put page.old 0 (step_bytes false time counts.now fills.now) page.new result }
+    requires room { Fits page.old (step_bytes false time counts.now fills.now) }
+    ensures { Puts page.old (step_bytes false time counts.now fills.now) page.new }
 {
-    let next = put_stamp(page, 0, time);
-    put_values(page, next, false, counts, fills)
+    put_stamp(page, time);
+    put_values(page, false, counts, fills);
 }
 
-fn put_step(first: bool, page: &mut [u8], time: u64, counts: &[u8], fills: &[u8]) -> usize
+fn put_step(first: bool, page: &mut Page, time: u64, counts: &[u8], fills: &[u8])
     requires counts_in_bounds { length counts.now ≤ length fills.now }
-    requires room { Room page.old 0 (step_bytes first time counts.now fills.now) }
-    ensures { Put page.old 0 (step_bytes first time counts.now fills.now) page.new result }
+    requires room { Fits page.old (step_bytes first time counts.now fills.now) }
+    ensures { Puts page.old (step_bytes first time counts.now fills.now) page.new }
 {
     if first {
-        return put_header(page, time, counts, fills);
+        put_header(page, time, counts, fills);
+    } else {
+        put_later(page, time, counts, fills);
     }
-    put_later(page, time, counts, fills)
+}
+
+// The same at the start of a lent page.
+fn print_step(first: bool, out: &mut [u8], time: u64, counts: &[u8], fills: &[u8]) -> usize
+    requires counts_in_bounds { length counts.now ≤ length fills.now }
+    requires room { Room out.old 0 (step_bytes first time counts.now fills.now) }
+    ensures { Put out.old 0 (step_bytes first time counts.now fills.now) out.new result }
+{
+    let mut page = Page { out, at: 0 };
+    put_step(first, &mut page, time, counts, fills);
+    page.at
 }
 
 // A step of these fills: 15 is tested before anything is written.
@@ -174,7 +179,7 @@ fn write_counts(first: bool, time: u64, counts: &[u8], fills: &mut [u8], page: &
     if page.len() < length {
         return Err(Refusal::ShortPage);
     }
-    put_step(first, page, time, counts, fills);
+    print_step(first, page, time, counts, fills);
     fills[..counts.len()].copy_from_slice(counts);
     Ok(length)
 }

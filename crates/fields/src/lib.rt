@@ -1,31 +1,19 @@
-// The fields of a line that is printed, and its end, written into a lent buffer. Each function puts bytes at a place and gives the place
-// behind them; the caller sees that there is room.
+// The fields of a line that is printed, and its end, put on a page: a lent buffer, and the place of the next byte. The caller sees that there is room.
 #![tactic(auto)]
 
 ghost use Rattle.std.specs.Prelude.{◌≤◌, length, ◌≡◌, [], ◌∷◌};
 ghost use Rattle.sheet.specs.Text.{comma, cr, lf};
-ghost use Rattle.sheet.specs.Output.{numeral, decimal, fields_and_end, stop_word, Room, Put};
+ghost use Rattle.sheet.specs.Output.{numeral, decimal, fields_and_end, stop_word};
+ghost use Rattle.fields.specs.Puts.{Fits, Puts};
 
 use network::Stop;
 use sheet::TEN;
 
-// One byte.
-pub fn put_byte(out: &mut [u8], at: usize, b: u8) -> usize
-    requires { Room out.old at (b ∷ []) }
-    ensures { Put out.old at (b ∷ []) out.new result }
-{
-    out[at] = b;
-    at + 1
-}
-
-// Bytes one after another.
-pub fn put_bytes(out: &mut [u8], at: usize, bytes: &[u8]) -> usize
-    requires { Room out.old at bytes.now }
-    ensures { Put out.old at bytes.now out.new result }
-{
-    let end = at + bytes.len();
-    out[at..end].copy_from_slice(bytes);
-    end
+// A lent buffer, and the place of the next byte.
+#[derive(Drop)]
+pub struct Page<'a> {
+    pub out: &'a mut [u8],
+    pub at: usize,
 }
 
 // How many digits a number has in a base; 0 has one, as 1 has.
@@ -36,66 +24,86 @@ pub fn number_length(base: u64, n: u64) -> usize
     n.max(1).ilog(base) as usize + 1
 }
 
-// A number's digits, the last one first: how many there are says where it stands.
-pub fn put_number(out: &mut [u8], at: usize, base: u64, n: u64) -> usize
-    requires le_base { (2 ≤ base) × (base ≤ 10) }
-    requires room { Room out.old at (numeral base n) }
-    ensures { Put out.old at (numeral base n) out.new result }
-{
-    let end = at + number_length(base, n);
-    let mut rest = n;
-    for i in (at..end).rev() {
-        out[i] = b'0' + (rest % base) as u8;
-        rest /= base;
+impl<'a> Page<'a> {
+    // One byte.
+    pub fn put_byte(&mut self, b: u8)
+        requires { Fits self.old (b ∷ []) }
+        ensures { Puts self.old (b ∷ []) self.new }
+    {
+        self.out[self.at] = b;
+        self.at += 1;
     }
-    end
-}
 
-// A further field that is a number.
-pub fn put_field(out: &mut [u8], at: usize, n: u64) -> usize
-    requires { Room out.old at (comma ∷ decimal n) }
-    ensures { Put out.old at (comma ∷ decimal n) out.new result }
-{
-    let next = put_byte(out, at, b',');
-    put_number(out, next, TEN, n)
-}
-
-// The end of a line.
-pub fn put_end(out: &mut [u8], at: usize) -> usize
-    requires { Room out.old at (cr ∷ lf ∷ []) }
-    ensures { Put out.old at (cr ∷ lf ∷ []) out.new result }
-{
-    let next = put_byte(out, at, b'\r');
-    put_byte(out, next, b'\n')
-}
-
-// The start of a line: a letter and a number.
-pub fn put_head(out: &mut [u8], at: usize, letter: u8, n: u64) -> usize
-    requires { Room out.old at (letter ∷ comma ∷ decimal n) }
-    ensures { Put out.old at (letter ∷ comma ∷ decimal n) out.new result }
-{
-    let next = put_byte(out, at, letter);
-    put_field(out, next, n)
-}
-
-// Why a Drain stopped, in a word.
-fn put_stop(out: &mut [u8], at: usize, stop: Stop) -> usize
-    requires { Room out.old at (stop_word stop) }
-    ensures { Put out.old at (stop_word stop) out.new result }
-{
-    match stop {
-        Stop::Emptied => put_bytes(out, at, b"emptied"),
-        Stop::Spent => put_bytes(out, at, b"spent"),
-        Stop::Full => put_bytes(out, at, b"full"),
+    // Bytes one after another.
+    pub fn put_bytes(&mut self, bytes: &[u8])
+        requires { Fits self.old bytes.now }
+        ensures { Puts self.old bytes.now self.new }
+    {
+        let end = self.at + bytes.len();
+        self.out[self.at..end].copy_from_slice(bytes);
+        self.at = end;
     }
-}
 
-// The last field of a Drain's line, and its end.
-pub fn put_last(out: &mut [u8], at: usize, stop: Stop) -> usize
-    requires { Room out.old at (fields_and_end (stop_word stop ∷ [])) }
-    ensures { Put out.old at (fields_and_end (stop_word stop ∷ [])) out.new result }
-{
-    let first = put_byte(out, at, b',');
-    let next = put_stop(out, first, stop);
-    put_end(out, next)
+    // A number's digits, the last one first: how many there are says where it stands.
+    pub fn put_number(&mut self, base: u64, n: u64)
+        requires le_base { (2 ≤ base) × (base ≤ 10) }
+        requires room { Fits self.old (numeral base n) }
+        ensures { Puts self.old (numeral base n) self.new }
+    {
+        let end = self.at + number_length(base, n);
+        let mut rest = n;
+        for i in (self.at..end).rev() {
+            self.out[i] = b'0' + (rest % base) as u8;
+            rest /= base;
+        }
+        self.at = end;
+    }
+
+    // A further field that is a number.
+    pub fn put_field(&mut self, n: u64)
+        requires { Fits self.old (comma ∷ decimal n) }
+        ensures { Puts self.old (comma ∷ decimal n) self.new }
+    {
+        self.put_byte(b',');
+        self.put_number(TEN, n);
+    }
+
+    // The end of a line.
+    pub fn put_end(&mut self)
+        requires { Fits self.old (cr ∷ lf ∷ []) }
+        ensures { Puts self.old (cr ∷ lf ∷ []) self.new }
+    {
+        self.put_bytes(b"\r\n");
+    }
+
+    // The start of a line: a letter and a number.
+    pub fn put_head(&mut self, letter: u8, n: u64)
+        requires { Fits self.old (letter ∷ comma ∷ decimal n) }
+        ensures { Puts self.old (letter ∷ comma ∷ decimal n) self.new }
+    {
+        self.put_byte(letter);
+        self.put_field(n);
+    }
+
+    // Why a Drain stopped, in a word.
+    fn put_stop(&mut self, stop: Stop)
+        requires { Fits self.old (stop_word stop) }
+        ensures { Puts self.old (stop_word stop) self.new }
+    {
+        match stop {
+            Stop::Emptied => self.put_bytes(b"emptied"),
+            Stop::Spent => self.put_bytes(b"spent"),
+            Stop::Full => self.put_bytes(b"full"),
+        }
+    }
+
+    // The last field of a Drain's line, and its end.
+    pub fn put_last(&mut self, stop: Stop)
+        requires { Fits self.old (fields_and_end (stop_word stop ∷ [])) }
+        ensures { Puts self.old (fields_and_end (stop_word stop ∷ [])) self.new }
+    {
+        self.put_byte(b',');
+        self.put_stop(stop);
+        self.put_end();
+    }
 }

@@ -4,12 +4,14 @@
 
 ghost use Rattle.std.specs.Prelude.{◌≡◌, List, ℕ, ◌+◌, ◌*◌, ◌≤◌, length, take, drop};
 ghost use Rattle.sheet.specs.Output.{Put};
+ghost use Rattle.fields.specs.Puts.{HasRoom, Puts};
 ghost use Rattle.sheet.specs.Cutting.{held_bytes};
 ghost use Rattle.session.specs.Session.{perform, command_room};
 ghost use Rattle.session.specs.Reads.{sheet, start_sheet, answer_read};
 ghost use Rattle.session.specs.Coming.{coming, coming_by, fed_command};
 ghost use Rattle.session.specs.Running.{LineWithin};
 
+use fields::Page;
 use lines::HELD_BYTES;
 use network::sized;
 use sheet::{Command, Fed, Pending};
@@ -112,83 +114,78 @@ pub fn next_command(line: &mut [u8], piece: &[u8], cursor: &mut Cursor) -> Optio
 }
 
 // T makes.
-fn run_make(
-    store: &mut [u64],
-    x: u32,
-    y: u32,
-    z: u32,
-    e: u32,
-    a: u32,
-    j: u32,
-    out: &mut [u8],
-) -> usize
-    requires { command_room ≤ length out.old }
+fn run_make(store: &mut [u64], x: u32, y: u32, z: u32, e: u32, a: u32, j: u32, page: &mut Page)
+    requires { HasRoom page.old command_room }
     ensures store { store.new ≡ (perform (Command.Make x y z e a j) store.old).store }
-    ensures printed { Put out.old 0 (perform (Command.Make x y z e a j) store.old).output out.new result }
+    ensures printed { Puts page.old (perform (Command.Make x y z e a j) store.old).output page.new }
 {
     let s = sized(x as u64, y as u64, z as u64, e as u64, a as u64, j as u64);
     let answer = calls::make(store, s);
-    writer::put_answer(out, 0, b'T', answer)
+    writer::put_answer(page, b'T', answer);
 }
 
 // O offers.
-fn run_offer(
-    store: &mut [u64],
-    node: u32,
-    destination: u32,
-    tag: u32,
-    chunks: u32,
-    out: &mut [u8],
-) -> usize
-    requires { command_room ≤ length out.old }
+fn run_offer(store: &mut [u64], node: u32, destination: u32, tag: u32, chunks: u32, page: &mut Page)
+    requires { HasRoom page.old command_room }
     ensures store { store.new ≡ (perform (Command.Offer node destination tag chunks) store.old).store }
-    ensures printed { Put out.old 0 (perform (Command.Offer node destination tag chunks) store.old).output out.new result }
+    ensures printed { Puts page.old (perform (Command.Offer node destination tag chunks) store.old).output page.new }
 {
     let answer = calls::offer(store, node as u64, destination as u64, tag, chunks as u64);
-    writer::put_answer(out, 0, b'O', answer)
+    writer::put_answer(page, b'O', answer);
 }
 
 // M moves.
-fn run_move(store: &mut [u64], node: u32, queue: u32, output: u32, out: &mut [u8]) -> usize
-    requires { command_room ≤ length out.old }
+fn run_move(store: &mut [u64], node: u32, queue: u32, output: u32, page: &mut Page)
+    requires { HasRoom page.old command_room }
     ensures store { store.new ≡ (perform (Command.Move node queue output) store.old).store }
-    ensures printed { Put out.old 0 (perform (Command.Move node queue output) store.old).output out.new result }
+    ensures printed { Puts page.old (perform (Command.Move node queue output) store.old).output page.new }
 {
     let answer = calls::move_packet(store, node as u64, queue as u64, output as u64);
-    writer::put_moved(out, 0, answer)
+    writer::put_moved(page, answer);
 }
 
 // D drains, with a ledger of its own.
-fn run_drain(store: &mut [u64], budget: u32, out: &mut [u8]) -> usize
-    requires { command_room ≤ length out.old }
+fn run_drain(store: &mut [u64], budget: u32, page: &mut Page)
+    requires { HasRoom page.old command_room }
     ensures store { store.new ≡ (perform (Command.Drain budget) store.old).store }
-    ensures printed { Put out.old 0 (perform (Command.Drain budget) store.old).output out.new result }
+    ensures printed { Puts page.old (perform (Command.Drain budget) store.old).output page.new }
 {
     let mut ledger = [0u64; LEDGER_WORDS];
     let answer = calls::drain(store, budget, &mut ledger);
-    writer::put_drained(out, 0, answer, &ledger)
+    writer::put_drained(page, answer, &ledger);
 }
 
 // A command: what it does to the store, and its lines.
-fn run_command(store: &mut [u64], command: Command, out: &mut [u8]) -> usize
-    requires { command_room ≤ length out.old }
+fn put_command(store: &mut [u64], command: Command, page: &mut Page)
+    requires { HasRoom page.old command_room }
     ensures store { store.new ≡ (perform command store.old).store }
-    ensures printed { Put out.old 0 (perform command store.old).output out.new result }
+    ensures printed { Puts page.old (perform command store.old).output page.new }
 {
     match command {
-        Command::Make { x, y, z, e, a, j } => run_make(store, x, y, z, e, a, j, out),
+        Command::Make { x, y, z, e, a, j } => run_make(store, x, y, z, e, a, j, page),
         Command::Offer {
             node,
             destination,
             tag,
             chunks,
-        } => run_offer(store, node, destination, tag, chunks, out),
+        } => run_offer(store, node, destination, tag, chunks, page),
         Command::Move {
             node,
             queue,
             output,
-        } => run_move(store, node, queue, output, out),
-        Command::Drain { budget } => run_drain(store, budget, out),
-        Command::Bad => writer::put_bad(out, 0),
+        } => run_move(store, node, queue, output, page),
+        Command::Drain { budget } => run_drain(store, budget, page),
+        Command::Bad => writer::put_bad(page),
     }
+}
+
+// The same, its lines at the start of a buffer.
+fn run_command(store: &mut [u64], command: Command, out: &mut [u8]) -> usize
+    requires { command_room ≤ length out.old }
+    ensures store { store.new ≡ (perform command store.old).store }
+    ensures printed { Put out.old 0 (perform command store.old).output out.new result }
+{
+    let mut page = Page { out, at: 0 };
+    put_command(store, command, &mut page);
+    page.at
 }

@@ -18,7 +18,7 @@ take_words d l words i = go (dec_lt i d)
     go (no h) = let m = length-take d l in rw (get_or-eq_default (take d l) 0 {n = i} (omega arith)) (omega arith)
 
 module _ (out : List ℕ) (at : ℕ) (ledger : List ℕ) (d : ℕ) (words : (i : ℕ) → get_or ledger i 0 < 2 ^ 64) (within : d ≤ length ledger)
-    (room : at + packet_room * length ledger + drain_room ≤ length out) where
+    (room : at + (packet_room * length ledger + drain_room) ≤ length out) where
   packets-most : length (packet_lines (take d ledger)) ≤ packet_room * length ledger
   packets-most =
       let l = length-take-le d ledger within in

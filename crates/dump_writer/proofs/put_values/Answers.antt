@@ -5,12 +5,12 @@ use Rattle.dump_writer.proofs.put_values.Goals as goal
 use Rattle.dump_writer.proofs.put_values.Goals.{then-tells, else-tells}
 
 pub loop-i-init : goal.loop-i-init
-loop-i-init c = put-values-none c.args.every c.args.counts.now c.args.fills.now c.args.page.now c.args.at c.requires.room
+loop-i-init c = put-values-none c.args.every c.args.counts.now c.args.fills.now c.args.page.now c.requires.room
 
-pub put_value-next-requires : goal.put_value-next-requires
-put_value-next-requires c =
+pub put_value-requires : goal.put_value-requires
+put_value-requires c =
     let a = c.args in
-    value_line_room a.every a.counts.now a.fills.now a.page.now a.at c.requires.room c.loop-i.invariant c.loop-i-test.true (told_is a.every a.counts.now a.fills.now c.loop-i.i c.tells.ensures c.if-tells.true)
+    value_line_room a.every a.counts.now a.fills.now a.page.now c.requires.room c.loop-i.invariant c.loop-i-test.true (told_is a.every a.counts.now a.fills.now c.loop-i.i c.tells.ensures c.if-tells.true)
 
 pub loop-i-preserved : goal.loop-i-preserved
 loop-i-preserved c =
@@ -18,16 +18,16 @@ loop-i-preserved c =
     let h = c.loop-i-test.true in
     elim c.if-tells.branch [
       | then-tells w ↦
-          rw (w.page-is, w.next-is)
-          (put-values-told a.every a.counts.now a.fills.now a.page.now a.at c.requires.room c.loop-i.invariant h (told_is a.every a.counts.now a.fills.now c.loop-i.i c.tells.ensures w.if-tells.true)
-          w.put_value-next.ensures)
+          rw w.page-is
+          (put-values-told a.every a.counts.now a.fills.now a.page.now c.requires.room c.loop-i.invariant h (told_is a.every a.counts.now a.fills.now c.loop-i.i c.tells.ensures w.if-tells.true)
+          w.put_value.ensures)
       | else-tells w ↦
-          rw (w.page-is, w.next-is)
-          (put-values-untold a.every a.counts.now a.fills.now a.page.now a.at c.requires.room c.loop-i.invariant h (told_is a.every a.counts.now a.fills.now c.loop-i.i c.tells.ensures w.if-tells.false))
+          rw w.page-is
+          (put-values-untold a.every a.counts.now a.fills.now a.page.now c.requires.room c.loop-i.invariant h (told_is a.every a.counts.now a.fills.now c.loop-i.i c.tells.ensures w.if-tells.false))
     ]
 
 pub returns : goal.returns
 returns c =
     let a = c.args in
     let t = c.loop-i-test.false in
-    put-values-all a.every a.counts.now a.fills.now a.page.now a.at c.requires.room c.loop-i.invariant (omega arith)
+    put-values-all a.every a.counts.now a.fills.now a.page.now c.requires.room c.loop-i.invariant (omega arith)

@@ -2,11 +2,11 @@
 use Rattle.dump_writer.proofs.Loops.{variable-room, variables-more, variables-all}
 use Rattle.dump_writer.proofs.put_variables.Goals as goal
 
-pub put_variable-next-requires : goal.put_variable-next-requires
-put_variable-next-requires c = variable-room c.loop-i.invariant c.loop-i-test.true
+pub put_variable-requires : goal.put_variable-requires
+put_variable-requires c = variable-room c.loop-i.invariant c.loop-i-test.true
 
 pub loop-i-preserved : goal.loop-i-preserved
-loop-i-preserved c = variables-more c.loop-i.invariant c.loop-i-test.true c.put_variable-next.ensures
+loop-i-preserved c = variables-more c.loop-i.invariant c.loop-i-test.true c.put_variable.ensures
 
 pub returns : goal.returns
 returns c = variables-all c.loop-i.invariant c.loop-i-test.false

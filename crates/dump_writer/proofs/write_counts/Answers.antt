@@ -38,5 +38,5 @@ returns c =
     let n = c.step_length-length.ensures in
     let enough = subst (λ k. k ≤ length a.page.now) n c.if-page-length.false in
     let w = counts-written a.first a.time a.counts.now a.fills.now a.page.now c.if-fills-counts.false enough in
-    let put = at_front {bytes = step_bytes a.first a.time a.counts.now a.fills.now} c.put_step.ensures in
+    let put = at_front {bytes = step_bytes a.first a.time a.counts.now a.fills.now} c.print_step.ensures in
     record { answer = ap (λ (k : ℕ). Ok k) n ∙ w.0; fills = copied ∙ w.1.0; page = put ∙ w.1.1 }

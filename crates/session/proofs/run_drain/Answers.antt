@@ -1,5 +1,5 @@
 -- `session::run_drain` meets its contract: the ledger has a word for every packet that the Drain delivers. Assumes nothing.
-use Rattle.std.proofs.Common.{◌≡◌, sym, ◌≤◌, length, arith}
+use Rattle.std.proofs.Common.{◌≡◌, sym, ◌+◌, ◌≤◌, length, arith}
 use Rattle.network.specs.Refusals.{numbered}
 use Rattle.network.specs.Calls.{drained_delivered}
 use Rattle.session.specs.Session.{perform}
@@ -11,7 +11,7 @@ put_drained-requires c =
     let k : length c.drain-answer.new.ledger ≡ 64 = c.drain-answer.auto.ledger in
     let within : drained_delivered (numbered c.drain-answer.result) ≤ 64
     = rw c.drain-answer.ensures.answer (delivered-within c.args.store.now c.args.budget 64) in
-    let room : 1314 ≤ length c.args.out.now = c.requires in
+    let room : c.args.page.now.at + 1314 ≤ length c.args.page.now.out.now = c.requires in
     record { answer_in_bounds = rw k within; drain_room_in_bounds = rw k (omega arith) }
 
 pub returns : goal.returns

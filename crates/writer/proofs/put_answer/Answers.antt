@@ -7,7 +7,7 @@ use Rattle.writer.proofs.put_answer.Goals as goal
 
 pub put_line-requires : goal.put_line-requires
 put_line-requires c =
-    enough c.args.out.now c.args.at (answer_line c.args.letter c.number_of-number.result) answer_room
+    enough c.args.page.now.out.now c.args.page.now.at (answer_line c.args.letter c.number_of-number.result) answer_room
     (answer-length c.args.letter c.number_of-number.result (omega (arith, c.number_of-number.type_inv)))
     c.requires
 

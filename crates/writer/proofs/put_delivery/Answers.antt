@@ -1,26 +1,26 @@
 -- `writer::put_delivery` meets its contract: the packet's line, then the Move's. Assumes nothing.
 use Rattle.std.proofs.Common.{◌++◌}
-use Rattle.sheet.specs.Output.{answer_line, packet_line, moved_lines, moved_room, Room}
+use Rattle.sheet.specs.Output.{answer_line, packet_line, moved_lines, moved_room}
+use Rattle.network.specs.declared.Moved.{Moved}
 use Rattle.sheet.proofs.Lengths.{delivery-length}
-use Rattle.sheet.proofs.Puts.{enough, room-first, room-behind, put-behind}
+use Rattle.sheet.proofs.Puts.{enough}
+use Rattle.fields.proofs.Pages.{Left, all-left, left-room, left-behind}
 use Rattle.writer.proofs.put_delivery.Goals as goal
 use Rattle.writer.proofs.put_delivery.Goals.{Start}
 
-room : (s : Start) → Room s.args.out.now s.args.at (packet_line s.args.p ++ answer_line 77 0)
-room s =
-    enough s.args.out.now s.args.at (packet_line s.args.p ++ answer_line 77 0) moved_room
+all : (s : Start) → Left s.args.page.now (moved_lines (Moved.Delivered s.args.p)) s.args.page.now (packet_line s.args.p ++ answer_line 77 0)
+unfolding moved_lines
+all s =
+    all-left s.args.page.now (moved_lines (Moved.Delivered s.args.p))
+    (enough s.args.page.now.out.now s.args.page.now.at (packet_line s.args.p ++ answer_line 77 0) moved_room
     (delivery-length 77 s.args.p s.ranges.p.fits)
-    s.requires
+    s.requires)
 
-first-room : (s : Start) → Room s.args.out.now s.args.at (packet_line s.args.p)
-first-room s = room-first s.args.out.now s.args.at (packet_line s.args.p) (answer_line 77 0) (room s)
-
-pub put_packet-next-requires : goal.put_packet-next-requires
-put_packet-next-requires c = first-room (goal.at.put_packet-next-requires c).Start
+pub put_packet-requires : goal.put_packet-requires
+put_packet-requires c = left-room (packet_line c.args.p) _ (all (goal.at.put_packet-requires c).Start)
 
 pub put_line-requires : goal.put_line-requires
-put_line-requires c = room-behind (answer_line 77 0) c.put_packet-next.ensures (room (goal.at.put_line-requires c).Start)
+put_line-requires c = (left-behind (packet_line c.args.p) _ (all (goal.at.put_line-requires c).Start) c.put_packet.ensures).room
 
 pub returns : goal.returns
-unfolding moved_lines
-returns c = put-behind c.put_packet-next.ensures c.put_line.ensures (first-room (goal.at.returns c).Start)
+returns c = (left-behind (packet_line c.args.p) _ (all (goal.at.returns c).Start) c.put_packet.ensures).done _ c.put_line.ensures

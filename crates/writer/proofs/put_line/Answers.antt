@@ -1,22 +1,20 @@
 -- `writer::put_line` meets its contract: a letter and a number, then the end. Assumes nothing.
-use Rattle.std.proofs.Common.{[], ◌∷◌}
+use Rattle.std.proofs.Common.{[], ◌∷◌, ◌++◌}
 use Rattle.sheet.specs.Text.{comma, cr, lf}
-use Rattle.sheet.specs.Output.{decimal, fields_and_end, line, answer_line, Room}
-use Rattle.sheet.proofs.Puts.{room-first, room-behind, put-behind}
+use Rattle.sheet.specs.Output.{decimal, fields_and_end, line, answer_line}
+use Rattle.fields.proofs.Pages.{Left, all-left, left-room, left-behind}
 use Rattle.writer.proofs.put_line.Goals as goal
 use Rattle.writer.proofs.put_line.Goals.{Start}
 
-room : (s : Start) → Room s.args.out.now s.args.at (s.args.letter ∷ comma ∷ decimal s.args.n)
+all : (s : Start) → Left s.args.page.now (answer_line s.args.letter s.args.n) s.args.page.now ((s.args.letter ∷ comma ∷ decimal s.args.n) ++ (cr ∷ lf ∷ []))
 unfolding answer_line line fields_and_end
-room s = room-first s.args.out.now s.args.at (s.args.letter ∷ comma ∷ decimal s.args.n) (cr ∷ lf ∷ []) s.requires
+all s = all-left s.args.page.now (answer_line s.args.letter s.args.n) s.requires
 
-pub put_head-next-requires : goal.put_head-next-requires
-put_head-next-requires c = room (goal.at.put_head-next-requires c).Start
+pub put_head-requires : goal.put_head-requires
+put_head-requires c = left-room (c.args.letter ∷ comma ∷ decimal c.args.n) _ (all (goal.at.put_head-requires c).Start)
 
 pub put_end-requires : goal.put_end-requires
-unfolding answer_line line fields_and_end
-put_end-requires c = room-behind (cr ∷ lf ∷ []) c.put_head-next.ensures c.requires
+put_end-requires c = (left-behind (c.args.letter ∷ comma ∷ decimal c.args.n) _ (all (goal.at.put_end-requires c).Start) c.put_head.ensures).room
 
 pub returns : goal.returns
-unfolding answer_line line fields_and_end
-returns c = put-behind c.put_head-next.ensures c.put_end.ensures (room (goal.at.returns c).Start)
+returns c = (left-behind (c.args.letter ∷ comma ∷ decimal c.args.n) _ (all (goal.at.returns c).Start) c.put_head.ensures).done _ c.put_end.ensures

@@ -1,7 +1,7 @@
--- `session::run_command` meets its contract, by cases on the command. Assumes nothing.
+-- `session::put_command` meets its contract, by cases on the command. Assumes nothing.
 use Rattle.std.proofs.Common.{refl}
 use Rattle.session.specs.Session.{perform}
-use Rattle.session.proofs.run_command.Goals as goal
+use Rattle.session.proofs.put_command.Goals as goal
 
 pub returns-in-Make : goal.returns-in-Make
 returns-in-Make c = rw c.in-Make.is c.run_make.ensures

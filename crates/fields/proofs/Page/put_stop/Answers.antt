@@ -1,6 +1,6 @@
--- `fields::put_stop` meets its contract. Assumes nothing.
+-- `fields::Page::put_stop` meets its contract. Assumes nothing.
 use Rattle.sheet.specs.Output.{stop_word}
-use Rattle.fields.proofs.put_stop.Goals as goal
+use Rattle.fields.proofs.Page.put_stop.Goals as goal
 
 pub put_bytes-requires : goal.put_bytes-requires
 unfolding stop_word
