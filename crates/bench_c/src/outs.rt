@@ -10,6 +10,7 @@ use network::{
 };
 use waveform::StepRead;
 
+#[tactic(auto, unfolding(network::specs::Calls::moved_number, network::specs::Calls::moved_packets, network::specs::Refusals::head, crate::specs::Outs::moved_out))]
 pub fn moved(out: &mut [u64; 2], m: Result<Option<u64>, Refusal>) -> u64
     ensures answer { result ≡ moved_number (numbered m) }
     ensures out { out.new ≡ moved_out (numbered m) }
@@ -38,6 +39,7 @@ pub fn credit(out: &mut [u64; 1], c: Result<u64, Refusal>) -> u64
     number_of(&c)
 }
 
+#[tactic(auto, unfolding(network::specs::Calls::found_number, network::specs::Calls::found_move, crate::specs::Outs::found_out))]
 pub fn found(out: &mut [u64; 4], f: Result<Option<NamedMove>, Refusal>) -> u64
     ensures answer { result ≡ found_number (numbered f) }
     ensures out { out.new ≡ found_out (numbered f) }
@@ -83,6 +85,7 @@ pub fn drained(out: &mut [u64; 3], d: Result<Drained, Refusal>) -> u64
     number_of(&d)
 }
 
+#[tactic(auto, unfolding(waveform::specs::Calls::written_number, waveform::specs::Calls::written_length, crate::specs::Outs::written_out))]
 pub fn written(out: &mut [u64; 1], w: Result<usize, Refusal>) -> u64
     ensures answer { result ≡ written_number (numbered w) }
     ensures out { out.new ≡ written_out (numbered w) }
@@ -99,6 +102,7 @@ pub fn written(out: &mut [u64; 1], w: Result<usize, Refusal>) -> u64
     }
 }
 
+#[tactic(auto, unfolding(waveform::specs::Calls::read_number, waveform::specs::Calls::read_headers, waveform::specs::Calls::read_time, waveform::specs::Calls::read_named, crate::specs::Outs::read_out))]
 pub fn step_read(out: &mut [u64; 3], s: Result<StepRead, Refusal>) -> u64
     ensures answer { result ≡ read_number (numbered s) }
     ensures out { out.new ≡ read_out (numbered s) }

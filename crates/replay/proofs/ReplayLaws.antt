@@ -1,6 +1,6 @@
 -- A D replayed move by move leaves the words that the D leaves: theorem `drain-replayed`, and `command-replayed` for every command. Order: a Drain with no
 -- budget; the next move of a Drain, if there is one; one move and the rest; the theorems. Assumes nothing.
-use Rattle.std.specs.Prelude.{◌≡◌, refl, ◌⊎◌, Bool, not, eqb}
+use Rattle.std.specs.Prelude.{◌≡◌, refl, ◌⊎◌, Bool, not, eqb, Option}
 use Rattle.std.proofs.Math.Path.{ap}
 use Rattle.std.proofs.Common.{ap₂, sym, ◌∙◌, subst, inl, inr, true≢false, eq-eqb, ne_eqb}
 use Rattle.std.proofs.Math.Bool.{true, false, cond}
@@ -9,7 +9,7 @@ use Prim.Native.Nat.{ℕ, zero, suc, ◌-◌}
 use Rattle.std.proofs.Math.Decide.{ℕ_discrete}
 use native.Mathlib.Omega.{arith}
 use Rattle.std.proofs.Math.ListN.{length}
-use Rattle.network.specs.declared.Found.{Found}
+use Rattle.network.specs.declared.NamedMove.{NamedMove}
 use Rattle.network.specs.declared.Stop.{Stop}
 use Rattle.network.specs.Sizes.{Shape}
 use Rattle.network.specs.TorusLaws.{Torus}
@@ -70,10 +70,10 @@ module _ (S : Shape) (w : List ℕ) (tor : Torus S) (N : Network S w) where
       goes v M same none.words (ap suc none.moves) (λ budget. ap (λ k. (drain_from S budget k v).words) few)
 
   -- Drains whose next move is the one found
-  onward : Found → ℕ → ℕ → Progress
+  onward : Option NamedMove → ℕ → ℕ → Progress
   onward f room budget = move_next S w room f (λ room' w'. drain_from S budget room' w')
 
-  next-found : (room : ℕ) (f : Found) → Finds (Permitted S w) f → Next S room w (onward f room) (onward f (one_word room) zero)
+  next-found : (room : ℕ) (f : Option NamedMove) → Finds (Permitted S w) f → Next S room w (onward f room) (onward f (one_word room) zero)
   unfolding onward move_next handing passing
   next-found room f nothing = stays (λ budget. (still w Stop.Emptied).words) (still w Stop.Emptied)
   next-found room f (named {n} {q} {o} P) = go (ℕ_discrete o deliver)

@@ -5,7 +5,7 @@ use Rattle.network.specs.declared.Drained.{Drained}
 use Rattle.network.specs.Sizes.{shape_of, sized}
 use Rattle.network.specs.Layout.{shape, moves_made}
 use Rattle.network.specs.Refusals.{network_refusal, make_refusal, offer_refusal, move_refusal}
-use Rattle.network.specs.Calls.{drain_words, drain_answer, drained_moves, drained_delivered}
+use Rattle.network.specs.Calls.{Answer, drain_words, drain_answer, drained_moves, drained_delivered}
 use Rattle.sheet.specs.declared.Command.{Command}
 use Rattle.sheet.specs.Lines.{lines}
 use Rattle.sheet.specs.Commands.{command_of}
@@ -71,7 +71,7 @@ unfoldable pub one_word : ℕ → ℕ
 one_word zero = 0
 one_word (suc room) = 1
 
-abbrev pub move_told : List ℕ → ℕ → Drained
+abbrev pub move_told : List ℕ → ℕ → Answer Drained
 move_told w room = drain_answer w 1 (one_word room)
 
 unfoldable pub moved_on : List ℕ → ℕ → List ℕ

@@ -1,5 +1,5 @@
 -- Laws of the code's sizes and places. Order: the nodes; a coordinate by its weight; the neighbour by the weight; a node by its
--- place; the next place; a walk over all nodes; a coordinate moved. `s` are the code's sizes, `n` is a node. Assumes nothing.
+-- place; the next place; a walk over all nodes; a coordinate moved; the dimensions one by one. `s` are the code's sizes, `n` is a node. Assumes nothing.
 use Rattle.std.specs.Prelude.{◌≡◌, refl, List, ◌≢◌, ℕ, zero, suc, ◌+◌, ◌*◌, ◌-◌, ◌/◌, ◌%◌, ◌<◌, ◌≤◌, T, length, set, replicate}
 use Rattle.std.proofs.Math.Path.{ap, ap₂, sym}
 use Rattle.std.proofs.Common.{subst, ◌∙◌, mul_assoc, mul-le-mul_left, mul-one, one-mul, zero-mul, mod-eq_of_lt, mul-suc, add-one, length-set, get_or-set_same, get_or-set_other, eq-eqb, ne_eqb}
@@ -291,3 +291,32 @@ moved-is c f b k h l =
     let r : b * k ≡ b * (k - 1) + b = ap (λ (x : ℕ). b * x) (let e : k ≡ suc (k - 1) = omega arith in e) ∙ mul-suc b (k - 1) in
     let t : c + f + k - b + b * k ≡ c + (f * 1 + b * (k - 1)) + k = omega arith in
     sym (add-mul-mod_self_right (c + f + k - b) b k) ∙ ap (λ (x : ℕ). x % k) t ∙ add-mod_right (c + (f * 1 + b * (k - 1))) k
+
+-- The dimensions one by one -----------------------------------------------------------------------------------------------------------
+
+pub last-dimension : (i : ℕ) → i < dimensions → (i ≡ 0 → ⊥) → (i ≡ 1 → ⊥) → i ≡ 2
+last-dimension i h no-x no-y = omega arith
+
+pub size-x : (s : Sizes) (i : ℕ) → i ≡ 0 → s.x ≡ size (shape_of s) i
+unfolding size shape_of
+size-x s i e = rw e refl
+
+pub size-y : (s : Sizes) (i : ℕ) → i ≡ 1 → s.y ≡ size (shape_of s) i
+unfolding size shape_of
+size-y s i e = rw e refl
+
+pub size-z : (s : Sizes) (i : ℕ) → i ≡ 2 → s.z ≡ size (shape_of s) i
+unfolding size shape_of
+size-z s i e = rw e refl
+
+pub weight-x : (s : Sizes) (i : ℕ) → i ≡ 0 → 1 ≡ weight (shape_of s).sizes i
+unfolding weight shape_of
+weight-x s i e = rw e refl
+
+pub weight-y : (s : Sizes) (i : ℕ) → i ≡ 1 → s.x ≡ weight (shape_of s).sizes i
+unfolding weight shape_of
+weight-y s i e = rw e (sym (mul-one s.x))
+
+pub weight-z : (s : Sizes) (i : ℕ) → i ≡ 2 → s.x * s.y ≡ weight (shape_of s).sizes i
+unfolding weight shape_of
+weight-z s i e = rw e (ap (λ (y : ℕ). s.x * y) (sym (mul-one s.y)))

@@ -1,5 +1,6 @@
 -- `dump_writer::write_fills` meets its contract. Assumes nothing.
 use Rattle.std.proofs.Common.{◌≡◌, subst, List, ℕ, ◌*◌, ◌<◌, ◌≤◌, arith, length}
+use Rattle.network.specs.Refusals.{numbered}
 use Rattle.network.specs.Sizes.{Shape, shape_of, nodes}
 use Rattle.network.proofs.TorusLaws.{sizes-nodes}
 use Rattle.network.specs.Layout.{need, node_words, moves_at, moves_made}
@@ -35,7 +36,7 @@ returns c =
     let page = c.args.page.now in
     let time = moves_made c.args.words.now in
     record {
-      answer = subst (λ (counts : List ℕ). c.write_counts.result ≡ counts_answer c.args.first time counts list page) c.read_fills.ensures w.answer;
+      answer = subst (λ (counts : List ℕ). numbered c.write_counts.result ≡ counts_answer c.args.first time counts list page) c.read_fills.ensures w.answer;
       fills = subst (λ (counts : List ℕ). c.write_counts.new.fills ≡ counts_list c.args.first time counts list page) c.read_fills.ensures w.fills;
       page = subst (λ (counts : List ℕ). c.write_counts.new.page ≡ counts_page c.args.first time counts list page) c.read_fills.ensures w.page;
     }

@@ -1,6 +1,6 @@
 -- `dump_writer::write_step` meets its contract. Assumes nothing.
 use Rattle.std.specs.Prelude.{Err}
-use Rattle.std.proofs.Common.{refl, ap, sym, ◌∙◌}
+use Rattle.std.proofs.Common.{ℕ, refl, ap, sym, ◌∙◌}
 use Rattle.network.specs.Sizes.{shape_of}
 use Rattle.network.specs.Layout.{moves_made}
 use Rattle.network.proofs.Answers.{passed-numbered}
@@ -17,7 +17,7 @@ returns-in_err-s c =
     let a = c.args in
     let k = is-shut c.open.ensures c.in_err-s.was in
     let r = write-broken a.first a.words.now a.fills.now a.page.now (broken k) in
-    record { answer = ap Err (sym k.says) ∙ r.0; fills = r.1.0; page = r.1.1 }
+    record { answer = passed-numbered _ _ c.from_residual.ensures.1 ∙ ap (λ (n : ℕ). Err n) (sym k.says) ∙ r.0; fills = r.1.0; page = r.1.1 }
 
 pub returns : goal.returns
 returns c =

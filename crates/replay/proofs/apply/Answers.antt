@@ -16,7 +16,7 @@ pub returns-in-Move : goal.returns-in-Move
 unfolding carried_out changed perform
 returns-in-Move c =
     let made = c.move_packet.ensures in
-    rw c.in-Move.is (record { store = made.words; changed = c.is_ok-2.ensures.value ∙ ok-by-number _ (moved-by-number _ ∙ made.told.number) })
+    rw c.in-Move.is (record { store = made.words; changed = c.is_ok-in-Move.ensures.value ∙ ok-by-number _ (moved-by-number _ ∙ made.told.number) })
 
 pub returns-in-Drain : goal.returns-in-Drain
 unfolding carried_out changed

@@ -1,5 +1,6 @@
 -- `replay::show` meets its contract, by which step it is. Assumes nothing.
 use Rattle.std.proofs.Common.{◌≡◌, ap, sym, ◌∙◌, Bool, true, false, List, ℕ}
+use Rattle.network.specs.Calls.{Answer}
 use Rattle.waveform.specs.Calls.{write_answer, write_list, write_page, written_length}
 use Rattle.replay.specs.Replay.{shown, step_shown}
 use Rattle.replay.proofs.show.Goals as goal

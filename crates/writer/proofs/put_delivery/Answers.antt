@@ -1,17 +1,16 @@
 -- `writer::put_delivery` meets its contract: the packet's line, then the Move's. Assumes nothing.
-use Rattle.std.proofs.Common.{◌++◌}
+use Rattle.std.proofs.Common.{◌++◌, Ok, Some}
 use Rattle.sheet.specs.Output.{answer_line, packet_line, moved_lines, moved_room}
-use Rattle.network.specs.declared.Moved.{Moved}
 use Rattle.sheet.proofs.Lengths.{delivery-length}
 use Rattle.sheet.proofs.Puts.{enough}
 use Rattle.fields.proofs.Pages.{Left, all-left, left-room, left-behind}
 use Rattle.writer.proofs.put_delivery.Goals as goal
 use Rattle.writer.proofs.put_delivery.Goals.{Start}
 
-all : (s : Start) → Left s.args.page.now (moved_lines (Moved.Delivered s.args.p)) s.args.page.now (packet_line s.args.p ++ answer_line 77 0)
+all : (s : Start) → Left s.args.page.now (moved_lines (Ok (Some s.args.p))) s.args.page.now (packet_line s.args.p ++ answer_line 77 0)
 unfolding moved_lines
 all s =
-    all-left s.args.page.now (moved_lines (Moved.Delivered s.args.p))
+    all-left s.args.page.now (moved_lines (Ok (Some s.args.p)))
     (enough s.args.page.now.out.now s.args.page.now.at (packet_line s.args.p ++ answer_line 77 0) moved_room
     (delivery-length 77 s.args.p s.ranges.p.fits)
     s.requires)
