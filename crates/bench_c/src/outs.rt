@@ -5,9 +5,7 @@ ghost use Rattle.network.specs.Calls.{moved_number, credit_number, found_number,
 ghost use Rattle.waveform.specs.Calls.{written_number, read_number};
 ghost use Rattle.bench_c.specs.Outs.{moved_out, credit_out, found_out, stop_number, drained_out, written_out, read_out};
 
-use network::{
-    Drained, NamedMove, Refusal, Stop, drained_delivered, drained_moves, number_of,
-};
+use network::{Drained, NamedMove, Refusal, Stop, drained_delivered, drained_moves, number_of};
 use waveform::StepRead;
 
 #[tactic(auto, unfolding(network::specs::Calls::moved_number, network::specs::Calls::moved_packets, network::specs::Refusals::head, crate::specs::Outs::moved_out))]

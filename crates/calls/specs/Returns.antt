@@ -1,6 +1,6 @@
 -- What each call answers and leaves, test by test: the definitions of Calls.antt at each place where the code returns. `S` are the sizes that the code
 -- has read from the words. Order: Make; Offer; Move; Credit; Look; First; Drain. Assumes nothing.
-use Rattle.std.specs.Prelude.{◌≡◌, refl, ◌≢◌, List, [], ◌∷◌, ◌++◌, map, ℕ, ◌<◌, ◌≤◌, eqb, leb, length, drop, Option, None, Some, Result, Ok, Err}
+use Rattle.std.specs.Prelude.{◌≡◌, refl, ◌≢◌, List, [], ◌++◌, map, ℕ, ◌<◌, ◌≤◌, eqb, leb, length, drop, Option, None, Some, Result, Ok, Err}
 use Rattle.std.proofs.Common.{ap, sym, ◌∙◌, subst, arith, eq-eqb, ne_eqb, lt-ltb, le-ltb, leb-false}
 use mathlib.Core.Bool.{Bool, true, false, cond, ◌||◌}
 use Rattle.std.proofs.lemmas.Bool.{eqb-false}

@@ -166,7 +166,13 @@ fn print_step(first: bool, out: &mut [u8], time: u64, counts: &[u8], fills: &[u8
 }
 
 // A step of these fills: 15 is tested before anything is written.
-fn write_counts(first: bool, time: u64, counts: &[u8], fills: &mut [u8], page: &mut [u8]) -> Result<usize, Refusal>
+fn write_counts(
+    first: bool,
+    time: u64,
+    counts: &[u8],
+    fills: &mut [u8],
+    page: &mut [u8],
+) -> Result<usize, Refusal>
     requires { length counts.now ≤ most_variables }
     ensures answer { numbered result ≡ counts_answer first time counts.now fills.old page.old }
     ensures fills { fills.new ≡ counts_list first time counts.now fills.old page.old }
@@ -223,7 +229,13 @@ fn write_sized<const N: usize>(
 }
 
 // The same: the list is cleared whole at each step, so a network of few nodes has a short one (D89).
-fn write_opened(first: bool, words: &[u64], s: Sizes, fills: &mut [u8], page: &mut [u8]) -> Result<usize, Refusal>
+fn write_opened(
+    first: bool,
+    words: &[u64],
+    s: Sizes,
+    fills: &mut [u8],
+    page: &mut [u8],
+) -> Result<usize, Refusal>
     requires { Network (shape_of s) words.now }
     ensures answer { numbered result ≡ counts_answer first (moves_made words.now) (fills_of (shape_of s) words.now) fills.old page.old }
     ensures fills { fills.new ≡ counts_list first (moves_made words.now) (fills_of (shape_of s) words.now) fills.old page.old }
@@ -236,7 +248,12 @@ fn write_opened(first: bool, words: &[u64], s: Sizes, fills: &mut [u8], page: &m
 }
 
 // A step of words, a header if it is the first.
-fn write_step(first: bool, words: &[u64], fills: &mut [u8], page: &mut [u8]) -> Result<usize, Refusal>
+fn write_step(
+    first: bool,
+    words: &[u64],
+    fills: &mut [u8],
+    page: &mut [u8],
+) -> Result<usize, Refusal>
     ensures answer { numbered result ≡ write_answer first words.now fills.old page.old }
     ensures fills { fills.new ≡ write_list first words.now fills.old page.old }
     ensures page { page.new ≡ write_page first words.now fills.old page.old }

@@ -33,13 +33,13 @@ pub fn first_move(words: &[u64], s: Sizes) -> Option<NamedMove>
                 let p = words[start + 1];
                 let outputs = routes(q, p);
                 for k in 0..LINES {
-                    let output = outputs[k as usize];
-                    if applies(k, output) {
-                        if flow_rules(words, s, n, q, output, p).is_ok() {
+                    let o = outputs[k as usize];
+                    if applies(k, o) {
+                        if flow_rules(words, s, n, q, o, p).is_ok() {
                             return Some(NamedMove {
                                 node: n,
                                 queue: q,
-                                output,
+                                output: o,
                             });
                         }
                     }
@@ -53,7 +53,14 @@ pub fn first_move(words: &[u64], s: Sizes) -> Option<NamedMove>
 }
 
 // The first permitted move of the head of queue q of node n, if it has one.
-pub fn first_in_queue(words: &[u64], s: Sizes, near: &[u16], loads: &[u8], n: u64, q: u64) -> Option<NamedMove>
+pub fn first_in_queue(
+    words: &[u64],
+    s: Sizes,
+    near: &[u16],
+    loads: &[u8],
+    n: u64,
+    q: u64,
+) -> Option<NamedMove>
     requires queue_of { QueueOf (shape_of s) words.now n q }
     requires near { Near (shape_of s) near.now }
     requires loads { Loads (shape_of s) words.now loads.now }

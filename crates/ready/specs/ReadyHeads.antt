@@ -1,6 +1,6 @@
 -- The set of heads that goes along with a Drain: it holds every head that has a permitted move. The head of queue q of node n is number 16 n + q.
 -- Order: what it covers; a head taken out that has none; First's move from its lowest head; the set after a move; the search. Assumes nothing.
-use Rattle.std.specs.Prelude.{◌≡◌, refl, ◌⊎◌, ◌≢◌, Bool, true, false, cond, not, ◌&&◌, ◌||◌, List, ℕ, ◌+◌, ◌*◌, ◌-◌, ◌/◌, ◌%◌, ◌<◌, ◌≤◌, eqb, ltb, Option, None, Some, Err}
+use Rattle.std.specs.Prelude.{◌≡◌, refl, ◌⊎◌, ◌≢◌, Bool, true, false, cond, not, ◌&&◌, ◌||◌, List, ℕ, ◌+◌, ◌*◌, ◌-◌, ◌/◌, ◌%◌, ◌<◌, ◌≤◌, eqb, ltb, Option, None, Some}
 use Rattle.std.proofs.Common.{ap, ap₂, sym, ◌∙◌, subst, inl, inr, true≢false, arith}
 use Rattle.std.proofs.lemmas.Bool.{false≢true}
 use native.Mathlib.Nat.{lt_trans}
@@ -15,7 +15,7 @@ use Rattle.network.specs.Check.{opposite}
 use Rattle.network.specs.CheckLaws.{Network}
 use Rattle.network.specs.RefusalLaws.{Permitted}
 use Rattle.network.specs.Routes.{deliver, target}
-use Rattle.network.specs.Calls.{after_move, first_in_queue, first_move, move_of}
+use Rattle.network.specs.Calls.{after_move, first_in_queue, first_move}
 use Rattle.run.specs.NewHeads.{before, Untouched, still-nothing, first-at, first-nowhere}
 use Rattle.headset.specs.Set.{member, IsSet, HeadsBelow, Inserted, NodeInserted, Removed, LowestMember, node_heads, heads}
 

@@ -65,7 +65,13 @@ pub fn mark(ready: &mut [u64], s: Sizes, near: &[u16], n: u64, q: u64, o: u64)
 }
 
 // First's move, found from the lowest head of the set on. Heads of the set that have none are taken out of it.
-pub fn next_move(words: &[u64], s: Sizes, near: &[u16], loads: &[u8], ready: &mut [u64]) -> Option<NamedMove>
+pub fn next_move(
+    words: &[u64],
+    s: Sizes,
+    near: &[u16],
+    loads: &[u8],
+    ready: &mut [u64],
+) -> Option<NamedMove>
     requires network { Network (shape_of s) words.now }
     requires near { Near (shape_of s) near.now }
     requires loads { Loads (shape_of s) words.now loads.now }

@@ -25,7 +25,13 @@ fn wrong_chunks(chunks: u64) -> bool
     MOST_CHUNKS < chunks
 }
 
-pub fn offer_rules(words: &[u64], s: Sizes, n: u64, destination: u64, chunks: u64) -> Result<(), Refusal>
+pub fn offer_rules(
+    words: &[u64],
+    s: Sizes,
+    n: u64,
+    destination: u64,
+    chunks: u64,
+) -> Result<(), Refusal>
     requires { Network (shape_of s) words.now }
     ensures { number_of result ≡ offer_rules (shape_of s) words.now n destination chunks }
 {

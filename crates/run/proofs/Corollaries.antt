@@ -35,9 +35,9 @@ use Rattle.run.specs.Corollaries.{SameInTheEnd, Event, ran, offered, event_words
 pub first-none-when-empty : (w : List ℕ) → network_refusal w ≡ 0 → (first_answer w ≡ Ok None) ↔ (packets_held (shape w) w ≡ 0)
 unfolding first_answer
 first-none-when-empty w e = rw (eq-eqb (network_refusal w) 0 e) (
-      (λ e'. empty (ap (λ (x : Answer (Option NamedMove)). result_unwrap_or x None) e') (ℕ_discrete (packets_held (shape w) w) 0)),
-      (λ z. ap (λ (x : Option NamedMove). Ok x) (none z (first_move (shape w) w) (first_finds (shape w) w))),
-    )
+  (λ e'. empty (ap (λ (x : Answer (Option NamedMove)). result_unwrap_or x None) e') (ℕ_discrete (packets_held (shape w) w) 0)),
+  (λ z. ap (λ (x : Option NamedMove). Ok x) (none z (first_move (shape w) w) (first_finds (shape w) w))),
+)
   where
     N : Network (shape w) w
     N = network-passed w e

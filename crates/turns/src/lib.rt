@@ -85,6 +85,8 @@ pub fn take_turn(
     match ready::next_move(words, s, near, loads, ready) {
         // while anything is held one is named
         None => Turn::Stopped(Stop::Emptied),
-        Some(m) => turn_by_move(words, s, near, loads, ready, room, m.node, m.queue, m.output),
+        Some(m) => turn_by_move(
+            words, s, near, loads, ready, room, m.node, m.queue, m.output,
+        ),
     }
 }

@@ -9,7 +9,8 @@ ghost use Rattle.network.specs.Calls.{drained_delivered};
 
 use fields::Page;
 use network::{
-    DESTINATION_AT, DESTINATION_VALUES, Drained, Refusal, Stop, TAG_AT, drained_delivered, number_of,
+    DESTINATION_AT, DESTINATION_VALUES, Drained, Refusal, Stop, TAG_AT, drained_delivered,
+    number_of,
 };
 
 // A line of a letter and a number.

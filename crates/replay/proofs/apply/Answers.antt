@@ -1,5 +1,5 @@
 -- `replay::apply` meets its contract, by cases on the command. Assumes nothing.
-use Rattle.std.proofs.Common.{refl, ap, ◌∙◌, eqb}
+use Rattle.std.proofs.Common.{refl, ◌∙◌}
 use Rattle.session.specs.Session.{perform}
 use Rattle.replay.specs.Replay.{carried_out, changed}
 use Rattle.replay.proofs.Answered.{ok-by-number, moved-by-number}

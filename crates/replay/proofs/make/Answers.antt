@@ -1,5 +1,5 @@
 -- `replay::make` meets its contract: what the call answers. Assumes nothing.
-use Rattle.std.proofs.Common.{ap, ◌∙◌, eqb}
+use Rattle.std.proofs.Common.{ap, ◌∙◌}
 use Rattle.network.specs.declared.Sizes.{Sizes}
 use Rattle.network.specs.Sizes.{shape_of}
 use Rattle.network.specs.Refusals.{make_refusal}

@@ -1,5 +1,5 @@
 -- `bench_c::outs::credit` meets its contract: each case of the answer by its definition. Assumes nothing.
-use Rattle.std.proofs.Common.{◌≡◌, refl, ap, ◌∙◌, List, [], ◌∷◌, ℕ, Result, Ok, Err}
+use Rattle.std.proofs.Common.{◌≡◌, refl, ap, ◌∙◌, [], ◌∷◌, ℕ, Result, Ok, Err}
 use Rattle.std.specs.Result.{result_unwrap_or}
 use Rattle.network.specs.declared.Refusal.{Refusal}
 use Rattle.network.specs.Refusals.{number_of, numbered}
