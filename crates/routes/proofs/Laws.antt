@@ -1,5 +1,5 @@
--- Laws that the proofs of this crate cite. Order: what four lines give; the order of a queue number; the list of cases; an output looked for
--- among the lines. Assumes nothing.
+-- Laws that the proofs of this crate cite. Order: what four lines give; the order of a queue number; a dimension's cases; the list of cases; an
+-- output looked for among the lines. Assumes nothing.
 use mathlib.Core.Path.{◌≡◌, refl, ap, ap₂, sym, ◌∙◌}
 use mathlib.Core.Bool.{Bool, true, false, cond, not, ◌||◌}
 use mathlib.Core.List.{List, [], ◌∷◌, ◌++◌, append_assoc}
@@ -16,7 +16,7 @@ use Rattle.network.specs.Packet.{offset}
 use Rattle.network.specs.Routes.{routes}
 use Rattle.network.specs.Selection.{sign, adaptive_x, adaptive_y, adaptive_z, in_turn, last_case, selection, selected}
 use Rattle.network.proofs.SelectionLaws.{selection-routes}
-use Rattle.routes.specs.Lines.{last_selection_line, applies, outputs_from, unless_zero}
+use Rattle.routes.specs.Lines.{last_selection_line, applies, outputs_from, unless_zero, adaptive}
 use Rattle.routes.specs.LinesLaws.{line_taken, line-passed, lines_end}
 
 -- What four lines give ----------------------------------------------------------------------------------------------------------------
@@ -60,6 +60,15 @@ z-first : (q : ℕ) → Range 5 7 q ⊎ Range 11 13 q → (x y z : List ℕ) →
 unfolding in_turn EachBelow
 z-first q (inl (l, h)) x y z = each_from (λ (q : ℕ). z ++ (x ++ y) ≡ in_turn q x y z) 5 2 ((tt, refl), refl) q l h
 z-first q (inr (l, h)) x y z = each_from (λ (q : ℕ). z ++ (x ++ y) ≡ in_turn q x y z) 11 2 ((tt, refl), refl) q l h
+
+-- A dimension's cases ----------------------------------------------------------------------------------------------------------------
+
+-- what a line gives by itself, where its two queues are those of the cases
+pub along : (plus minus : ℕ) (cases : Sign → List ℕ) → unless_zero plus ≡ cases Sign.Plus → unless_zero minus ≡ cases Sign.Minus → [] ≡ cases Sign.Zero
+    → (d : Sign) → unless_zero (adaptive plus minus d) ≡ cases d
+along plus minus cases p m z Sign.Plus = p
+along plus minus cases p m z Sign.Minus = m
+along plus minus cases p m z Sign.Zero = z
 
 -- The list of cases -------------------------------------------------------------------------------------------------------------------
 

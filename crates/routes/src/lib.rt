@@ -1,6 +1,7 @@
 // The routes of a head (R140 to R149), decided case by case, line after line of the paper's selection list: by the number of its queue and the
-// signs of its offsets. The cases are those of the crate `network` (specs/Selection.antt): `adaptive_x`, `adaptive_y`, `adaptive_z` and `last_case`
-// under the same names, and `in_turn` as the match in `routes`. What they give together is proved to be `routes` (specs/Routes.antt there).
+// signs of its offsets. The cases are those of the crate `network` (specs/Selection.antt): `adaptive_x`, `adaptive_y` and `adaptive_z` are the calls
+// of `adaptive` in `routes`, `in_turn` is the match there, and `last_case` has the same name. What they give together is proved to be `routes`
+// (specs/Routes.antt there).
 #![tactic(auto)]
 
 ghost use Rattle.std.specs.Prelude.{◌≡◌, ◌<◌, length};
@@ -8,8 +9,8 @@ ghost use Rattle.base.specs.Tests.{elem};
 ghost use Rattle.network.specs.Sizes.{queues};
 ghost use Rattle.network.specs.Packet.{offset};
 ghost use Rattle.network.specs.Routes.{routes};
-ghost use Rattle.network.specs.Selection.{sign, adaptive_x, adaptive_y, adaptive_z, last_case, selection};
-ghost use Rattle.routes.specs.Lines.{selection_lines, applies, outputs_from, unless_zero};
+ghost use Rattle.network.specs.Selection.{sign, last_case, selection};
+ghost use Rattle.routes.specs.Lines.{adaptive, selection_lines, applies, outputs_from};
 
 use network::{DELIVER, DIMENSIONS, Sign};
 use packet::sign;
@@ -20,35 +21,13 @@ pub const LINES: u64 = DIMENSIONS + 1;
 
 const LAST_LINE: u64 = DIMENSIONS;
 
-// The paper's lines 1 and 2: the adaptive queue along x, or 0 where no hop is left there.
-fn adaptive_x(dx: Sign) -> u64
-    ensures { unless_zero result ≡ adaptive_x dx }
+// The paper's lines 1 and 2: the adaptive queue along a dimension that has these two, or 0 where no hop is left there.
+fn adaptive<const PLUS: u64, const MINUS: u64>(d: Sign) -> u64
+    ensures { result ≡ adaptive PLUS MINUS d }
 {
-    match dx {
-        Sign::Plus => 1,
-        Sign::Minus => 2,
-        Sign::Zero => 0,
-    }
-}
-
-// The same along y.
-fn adaptive_y(dy: Sign) -> u64
-    ensures { unless_zero result ≡ adaptive_y dy }
-{
-    match dy {
-        Sign::Plus => 3,
-        Sign::Minus => 4,
-        Sign::Zero => 0,
-    }
-}
-
-// And along z.
-fn adaptive_z(dz: Sign) -> u64
-    ensures { unless_zero result ≡ adaptive_z dz }
-{
-    match dz {
-        Sign::Plus => 5,
-        Sign::Minus => 6,
+    match d {
+        Sign::Plus => PLUS,
+        Sign::Minus => MINUS,
         Sign::Zero => 0,
     }
 }
@@ -84,9 +63,9 @@ pub fn routes(q: u64, p: u64) -> [u64; LINES as usize]
     let dx = sign(0, p);
     let dy = sign(1, p);
     let dz = sign(2, p);
-    let x = adaptive_x(dx);
-    let y = adaptive_y(dy);
-    let z = adaptive_z(dz);
+    let x = adaptive::<1, 2>(dx);
+    let y = adaptive::<3, 4>(dy);
+    let z = adaptive::<5, 6>(dz);
     let last = last_case(dx, dy, dz);
     match q {
         0 | 1 | 2 | 7 | 8 => [x, y, z, last],

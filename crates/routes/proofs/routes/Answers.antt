@@ -1,29 +1,32 @@
 -- `routes::routes` meets its contract: what its lines give is what Selection.antt gives case by case, and so the routes. Assumes nothing.
-use Rattle.std.proofs.Common.{◌≡◌, refl, ◌∙◌, List, inl, inr, ℕ, ◌<◌, ◌≤◌, arith}
-use Rattle.network.specs.Sizes.{queues}
+use Rattle.std.proofs.Common.{◌≡◌, refl, ap, ◌∙◌, List, inl, inr, ℕ, arith}
 use Rattle.network.specs.Packet.{offset}
 use Rattle.network.specs.Routes.{routes}
-use Rattle.network.specs.Selection.{sign, selection}
-use Rattle.routes.specs.Lines.{outputs_from}
-use Rattle.routes.proofs.Laws.{Decided, by-x-first, by-y-first, by-z-first, are-cases, are-routes}
+use Rattle.network.specs.Selection.{sign, adaptive_x, adaptive_y, adaptive_z, selection}
+use Rattle.routes.specs.Lines.{outputs_from, unless_zero}
+use Rattle.routes.proofs.Laws.{along, Decided, by-x-first, by-y-first, by-z-first, are-cases, are-routes}
 use Rattle.routes.proofs.routes.Goals as goal
 use Rattle.routes.proofs.routes.Goals.{After-last_case-last}
+
+-- what is called is the case of the definition
+x-is : (c : After-last_case-last) → unless_zero c.adaptive-x.result ≡ adaptive_x c.sign-dx.result
+x-is c = ap unless_zero c.adaptive-x.ensures ∙ along 1 2 adaptive_x refl refl refl c.sign-dx.result
+
+y-is : (c : After-last_case-last) → unless_zero c.adaptive-y.result ≡ adaptive_y c.sign-dy.result
+y-is c = ap unless_zero c.adaptive-y.ensures ∙ along 3 4 adaptive_y refl refl refl c.sign-dy.result
+
+z-is : (c : After-last_case-last) → unless_zero c.adaptive-z.result ≡ adaptive_z c.sign-dz.result
+z-is c = ap unless_zero c.adaptive-z.ensures ∙ along 5 6 adaptive_z refl refl refl c.sign-dz.result
 
 decided : (c : After-last_case-last)
     → Decided c.sign-dx.result
     c.sign-dy.result
     c.sign-dz.result
-    c.adaptive_x-x.result
-    c.adaptive_y-y.result
-    c.adaptive_z-z.result
+    c.adaptive-x.result
+    c.adaptive-y.result
+    c.adaptive-z.result
     c.last_case-last.result
-decided c =
-    record {
-      x-is = c.adaptive_x-x.ensures;
-      y-is = c.adaptive_y-y.ensures;
-      z-is = c.adaptive_z-z.ensures;
-      last-is = c.last_case-last.ensures;
-    }
+decided c = record { x-is = x-is c; y-is = y-is c; z-is = z-is c; last-is = c.last_case-last.ensures }
 
 -- outputs that are the cases of the decided signs are those of the head, and so its routes
 abbrev Right : After-last_case-last → List ℕ → Type 0
@@ -46,13 +49,6 @@ right c r e =
     c.sign-dy.ensures
     c.sign-dz.ensures in
     (cases ∙ are-routes c.args.q c.args.p c.requires, cases)
-
--- no queue has another number
-outside : (q : ℕ) → q < queues → 13 ≤ q → ⊥
-outside q h l = omega arith
-
-pub returns-in_default : goal.returns-in_default
-returns-in_default c = absurd (outside c.args.q c.requires (omega arith))
 
 -- queues 5 and 6
 pub returns-in-5 : goal.returns-in-5
