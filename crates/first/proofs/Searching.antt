@@ -1,5 +1,5 @@
 -- First's search, step by step: at each level, what is found from the start is what is found from here on, as long as nothing was found.
--- Order: numbers searched in order; the routes of a head; a queue as the code reads it; the invariants of the three loops; a network
+-- Order: numbers searched in order; the routes of a head; a queue as the code reads it; the invariants of the two outer loops; a network
 -- that holds nothing. Assumes nothing.
 use Rattle.std.specs.Prelude.{Option, None, Some}
 use mathlib.Core.Path.{◌≡◌, refl, ap, sym, ◌∙◌, subst}
@@ -193,11 +193,6 @@ pub queue-none : (s : Sizes) (w : List ℕ) (n q start : ℕ) → QueueOf (shape
 queue-none s w n q start k at z = empty (shape_of s) w n q (sym (count-read s w n q k start at) ∙ z)
 
 -- The invariants ----------------------------------------------------------------------------------------------------------------------
-
--- what is left of the lines is found
-pub record AtLine (s : Sizes) (w : List ℕ) (n q : ℕ) (r : List ℕ) (j : ℕ) : Type 0 where
-  pub within : j ≤ selection_lines
-  pub left : FoundFrom s w n q r j
 
 -- what is left is found: of a node's queues, of the nodes
 pub record AtQueue (s : Sizes) (w : List ℕ) (n start q : ℕ) : Type 0 where

@@ -13,7 +13,7 @@ ghost use Rattle.queue.specs.QueueOf.{QueueOf};
 use flow::{flow_rules, may_flow};
 use network::{ACCEPTED_AT, DELIVERED_AT, HEADER_WORDS, NamedMove, QUEUES, Sizes};
 use queue::{capacity, queue_start};
-use routes::{LINES, applies, routes};
+use routes::{applies, routes};
 use torus::nodes;
 
 // The first permitted move of the network. Where as many packets were delivered as accepted, none is held. The place of the words
@@ -32,8 +32,7 @@ pub fn first_move(words: &[u64], s: Sizes) -> Option<NamedMove>
             if words[start] != 0 {
                 let p = words[start + 1];
                 let outputs = routes(q, p);
-                for k in 0..LINES {
-                    let o = outputs[k as usize];
+                for (k, &o) in outputs.iter().enumerate() {
                     if applies(k, o) {
                         if flow_rules(words, s, n, q, o, p).is_ok() {
                             return Some(NamedMove {
@@ -72,8 +71,7 @@ pub fn first_in_queue(
     }
     let p = words[start + 1];
     let outputs = routes(q, p);
-    for k in 0..LINES {
-        let output = outputs[k as usize];
+    for (k, &output) in outputs.iter().enumerate() {
         if applies(k, output) {
             if may_flow(words, s, near, loads, n, q, output, p) {
                 return Some(NamedMove {

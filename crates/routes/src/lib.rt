@@ -17,9 +17,9 @@ use packet::sign;
 
 // How many lines the selection list has, one for each dimension and the last, and the number of the last. The code counts them from 0: the
 // paper's line 1 has number 0, and its line 2 is one for each of the two other dimensions.
-pub const LINES: u64 = DIMENSIONS + 1;
+pub const LINES: usize = LAST_LINE + 1;
 
-const LAST_LINE: u64 = DIMENSIONS;
+const LAST_LINE: usize = DIMENSIONS as usize;
 
 // The paper's lines 1 and 2: the adaptive queue along a dimension that has these two, or 0 where no hop is left there.
 fn adaptive<const PLUS: u64, const MINUS: u64>(d: Sign) -> u64
@@ -54,7 +54,7 @@ fn last_case(dx: Sign, dy: Sign, dz: Sign) -> u64
 
 // What each line gives of the head p of queue q, in their order. The number of the queue says which dimension is the incoming one and comes
 // first; for the injection queue that is x. The contract names both statements of the routes: the paper's rule, and its cases, by which the code decides.
-pub fn routes(q: u64, p: u64) -> [u64; LINES as usize]
+pub fn routes(q: u64, p: u64) -> [u64; LINES]
     requires { q < queues }
     ensures each { length result ≡ selection_lines }
     ensures these { outputs_from 0 result ≡ routes q p }
@@ -78,7 +78,7 @@ pub fn routes(q: u64, p: u64) -> [u64; LINES as usize]
 
 // Whether line k applies, o being the number in its place. The last line always does, and there 0 is the delivery; in the lines before it 0
 // says that the line gives no output.
-pub fn applies(k: u64, o: u64) -> bool
+pub fn applies(k: usize, o: u64) -> bool
     ensures { result ≡ applies k o }
 {
     k == LAST_LINE || o != 0
@@ -90,8 +90,7 @@ pub fn is_route(q: u64, p: u64, o: u64) -> bool
     ensures { result ≡ elem o (routes q p) }
 {
     let outputs = routes(q, p);
-    for k in 0..LINES {
-        let output = outputs[k as usize];
+    for (k, &output) in outputs.iter().enumerate() {
         if output == o {
             if applies(k, output) {
                 return true;

@@ -54,7 +54,7 @@ pub bounds-words-start-2 : goal.bounds-words-start-2
 bounds-words-start-2 c = two-words (goal.at.bounds-words-start-2 c).After-queue_start-start
 
 pub loop-k-init : goal.loop-k-init
-loop-k-init c = record { within = omega arith; left = found-from-first (reading (goal.at.loop-k-init c).After-routes-outputs) }
+loop-k-init c = found-from-first (reading (goal.at.loop-k-init c).After-routes-outputs)
 
 pub may_flow-requires : goal.may_flow-requires
 may_flow-requires c =
@@ -72,20 +72,16 @@ pub returns-then-may_flow : goal.returns-then-may_flow
 returns-then-may_flow c =
     sym
     (line-found (reading (goal.at.returns-then-may_flow c).After-routes-outputs) c.loop-k.k c.loop-k-test.true (sym c.applies.ensures ∙ c.if-applies.true)
-    (passed _ _ c.may_flow.ensures c.if-may_flow.true) c.loop-k.invariant.left)
+    (passed _ _ c.may_flow.ensures c.if-may_flow.true) c.loop-k.invariant)
 
 pub loop-k-preserved : goal.loop-k-preserved
 loop-k-preserved c =
     let k = reading (goal.at.loop-k-preserved c).After-routes-outputs in
-    record {
-      within = omega (arith, c.loop-k-test.true);
-      left =
-          elim c.if-applies.branch [
-            | then-applies+else-may_flow w ↦
-                line_refused k c.loop-k.k c.loop-k-test.true (sym c.applies.ensures ∙ w.if-applies.true) (failed _ _ w.may_flow.ensures w.if-may_flow.false) c.loop-k.invariant.left
-            | else-applies w ↦ line-none k c.loop-k.k c.loop-k-test.true (sym c.applies.ensures ∙ w.if-applies.false) c.loop-k.invariant.left
-          ];
-    }
+    elim c.if-applies.branch [
+      | then-applies+else-may_flow w ↦
+          line_refused k c.loop-k.k c.loop-k-test.true (sym c.applies.ensures ∙ w.if-applies.true) (failed _ _ w.may_flow.ensures w.if-may_flow.false) c.loop-k.invariant
+      | else-applies w ↦ line-none k c.loop-k.k c.loop-k-test.true (sym c.applies.ensures ∙ w.if-applies.false) c.loop-k.invariant
+    ]
 
 pub returns : goal.returns
-returns c = sym (lines_none (reading (goal.at.returns c).After-routes-outputs) c.loop-k.k c.loop-k.invariant.within c.loop-k-test.false c.loop-k.invariant.left)
+returns c = sym (lines_none (reading (goal.at.returns c).After-routes-outputs) c.loop-k.k (omega (arith, c.loop-k.auto)) c.loop-k-test.false c.loop-k.invariant)

@@ -74,7 +74,7 @@ bounds-words-start-then-words-start-ne0 c = two-words (goal.at.bounds-words-star
 
 -- The lines of a head's routes ---------------------------------------------------------------------------------------------------------
 pub loop-k-init : goal.loop-k-init
-loop-k-init c = record { within = omega arith; left = found-from-first (reading (goal.at.loop-k-init c).After-routes-outputs) }
+loop-k-init c = found-from-first (reading (goal.at.loop-k-init c).After-routes-outputs)
 
 pub flow_rules-requires : goal.flow_rules-requires
 flow_rules-requires c =
@@ -88,16 +88,12 @@ flow_rules-requires c =
 pub loop-k-preserved : goal.loop-k-preserved
 loop-k-preserved c =
     let k = reading (goal.at.loop-k-preserved c).After-routes-outputs in
-    record {
-      within = omega (arith, c.loop-k-test.true);
-      left =
-          elim c.if-applies.branch [
-            | then-applies+else-is_ok w ↦
-                line_refused k c.loop-k.k c.loop-k-test.true (sym c.applies.ensures ∙ w.if-applies.true)
-                (λ z. err-number _ (sym w.is_ok.ensures.value ∙ w.if-is_ok.false) (w.flow_rules.ensures ∙ z)) c.loop-k.invariant.left
-            | else-applies w ↦ line-none k c.loop-k.k c.loop-k-test.true (sym c.applies.ensures ∙ w.if-applies.false) c.loop-k.invariant.left
-          ];
-    }
+    elim c.if-applies.branch [
+      | then-applies+else-is_ok w ↦
+          line_refused k c.loop-k.k c.loop-k-test.true (sym c.applies.ensures ∙ w.if-applies.true)
+          (λ z. err-number _ (sym w.is_ok.ensures.value ∙ w.if-is_ok.false) (w.flow_rules.ensures ∙ z)) c.loop-k.invariant
+      | else-applies w ↦ line-none k c.loop-k.k c.loop-k-test.true (sym c.applies.ensures ∙ w.if-applies.false) c.loop-k.invariant
+    ]
 
 -- A node's queues ---------------------------------------------------------------------------------------------------------------------
 nothing-in-queue : (c : Joined-words-start-ne0) → first_in_queue (shape_of c.args.s) c.args.words.now c.loop-n.n c.loop-q.q ≡ None
@@ -108,7 +104,7 @@ nothing-in-queue c =
       | then-words-start-ne0+else-loop-k-test w ↦ (
           let k : Reading c.args.s c.args.words.now c.loop-n.n c.loop-q.q c.loop-q.start w.routes-outputs.result =
           record { queue = queue; at = c.loop-q.invariant.place; some = w.if-words-start-ne0.true; each = w.routes-outputs.ensures.each; these = w.routes-outputs.ensures.these } in
-          lines_none k w.loop-k.k w.loop-k.invariant.within w.loop-k-test.false w.loop-k.invariant.left)
+          lines_none k w.loop-k.k (omega (arith, w.loop-k.auto)) w.loop-k-test.false w.loop-k.invariant)
       | else-words-start-ne0 w ↦ queue-none a.s a.words.now c.loop-n.n c.loop-q.q c.loop-q.start queue c.loop-q.invariant.place w.if-words-start-ne0.false
     ]
 
@@ -144,7 +140,7 @@ returns-then-is_ok c =
     (node-found c.loop-n.invariant (omega (arith, e, c.loop-n-test.true))
     (queue-found c.loop-q.invariant c.loop-q-test.true
     (line-found k c.loop-k.k c.loop-k-test.true (sym c.applies.ensures ∙ c.if-applies.true)
-    (sym c.flow_rules.ensures ∙ ok-number _ (sym c.is_ok.ensures.value ∙ c.if-is_ok.true)) c.loop-k.invariant.left)))
+    (sym c.flow_rules.ensures ∙ ok-number _ (sym c.is_ok.ensures.value ∙ c.if-is_ok.true)) c.loop-k.invariant)))
 
 pub returns : goal.returns
 returns c = let e = c.nodes-total.ensures in sym (nodes-none c.loop-n.invariant (omega (arith, e, c.loop-n-test.false)))
