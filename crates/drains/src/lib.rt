@@ -2,7 +2,7 @@
 #![tactic(auto)]
 
 ghost use Rattle.std.specs.Prelude.{◌*◌, ◌≤◌, length};
-ghost use Rattle.network.specs.Sizes.{shape_of, nodes, directions};
+ghost use Rattle.network.specs.Sizes.{shape_of, nodes, directions, most_nodes};
 ghost use Rattle.network.specs.CheckLaws.{Network};
 ghost use Rattle.near.specs.Table.{Near};
 ghost use Rattle.turns.specs.Turned.{Kept};
@@ -52,24 +52,25 @@ fn take_turns(
     }
 }
 
-// A Drain with these tables of neighbours and of loads, which are filled first. The set of heads that may have a permitted move starts with all of them.
-fn drain_with(
+// A Drain with tables of neighbours and of loads of N entries, which may be more than the network needs, filled first. The set of heads that may have a
+// permitted move starts with all of them.
+fn drain_sized<const N: usize>(
     words: &mut [u64],
     s: Sizes,
-    near: &mut [u16],
-    loads: &mut [u8],
     budget: u32,
     ledger: &mut [u64],
 ) -> Drained
     requires network { Network (shape_of s) words.old }
-    requires s_in_bounds { (directions * nodes (shape_of s) ≤ length near.old) × (directions * nodes (shape_of s) ≤ length loads.old) }
+    requires entries { (directions * nodes (shape_of s) ≤ N) × (N ≤ directions * most_nodes) }
     ensures { DrainedTo (shape_of s) words.old budget ledger.old result words.new ledger.new }
 {
-    near::fill(near, s);
-    loads::fill(loads, words, s);
+    let mut near = [0u16; N];
+    let mut loads = [0u8; N];
     let mut ready = [0u64; SET_WORDS];
+    near::fill(&mut near, s);
+    loads::fill(&mut loads, words, s);
     headset::fill(&mut ready, torus::nodes(s));
-    take_turns(words, s, near, loads, &mut ready, budget, ledger)
+    take_turns(words, s, &near, &mut loads, &mut ready, budget, ledger)
 }
 
 // The entries of a table for few nodes, and for the most.
@@ -92,11 +93,7 @@ pub fn drain_network(words: &mut [u64], s: Sizes, budget: u32, ledger: &mut [u64
         };
     }
     if torus::nodes(s) <= FEW_NODES {
-        let mut near = [0u16; FEW_ENTRIES];
-        let mut loads = [0u8; FEW_ENTRIES];
-        return drain_with(words, s, &mut near, &mut loads, budget, ledger);
+        return drain_sized::<FEW_ENTRIES>(words, s, budget, ledger);
     }
-    let mut near = [0u16; MOST_ENTRIES];
-    let mut loads = [0u8; MOST_ENTRIES];
-    drain_with(words, s, &mut near, &mut loads, budget, ledger)
+    drain_sized::<MOST_ENTRIES>(words, s, budget, ledger)
 }

@@ -16,11 +16,12 @@ use lib.Dec.{eqb, ltb, lit<}
 use lib.ListN.{length, get_or, set, length-set, replicate, length-replicate, get_or-eq_default}
 use lib.Pow.{pow_pos, shl_exact}
 use lib.Seq.{get_or-set_same, get_or-set_other}
+use Rattle.std.specs.Prelude.{None}
 use Rattle.std.proofs.lemmas.Nat.{or_comm, and_comm}
 use Rattle.network.specs.Sizes.{queues}
 use Rattle.base.specs.Bits.{bit, one_bit}
 use Rattle.base.proofs.Bits.{bit-none, bit-or, bit-ones, bit-one, one-exact, shifted-below, shifted-from}
-use Rattle.headset.specs.Set.{node_heads, heads, first_word, first_head, set_words, word_nodes, node_bits, bit_of, member, IsSet, Replaced, put, BitPut, HeadsBelow, United, Inserted, NodeInserted, Removed, LowestBit, LowestMember}
+use Rattle.headset.specs.Set.{node_heads, heads, first_word, first_head, set_words, word_nodes, node_bits, bit_of, member, IsSet, Replaced, put, BitPut, HeadsBelow, United, Inserted, NodeInserted, Removed, LowestBit, LowestHead, LowestMember}
 use Rattle.headset.proofs.WordBits.{bit-put}
 
 -- A word replaced, a bit set or cleared --------------------------------------------------------------------------------------------------
@@ -383,15 +384,11 @@ lowest-below s from b w t i first h e l =
 top_bit : (s : List ℕ) (k : ℕ) → k < 64 → bit_of s (0 + k) ≡ bit (get_or s 0 0) k
 top_bit s k l = bit_at s (0 + k) 0 k (omega arith) (omega arith)
 
-pub lowest-empty : (s : List ℕ) → IsSet s → get_or s 0 0 ≡ 0 → LowestMember s heads
+pub lowest-empty : (s : List ℕ) → IsSet s → get_or s 0 0 ≡ 0 → LowestMember s None
 unfolding member
-lowest-empty s i e =
-    record {
-      most = omega arith;
-      below = λ m l. none_below s 64 (heads / 64) i (omega arith)
-          (λ k h. none_below s 0 64 i (omega arith) (λ j b. top_bit s j b ∙ ap (λ (x : ℕ). bit x j) e ∙ bit-none j) k (omega arith)) m (omega arith);
-      found = λ l. absurd (let z : ⊥ = omega arith in z);
-    }
+lowest-empty s i e = λ m l.
+    none_below s 64 (heads / 64) i (omega arith)
+    (λ k h. none_below s 0 64 i (omega arith) (λ j b. top_bit s j b ∙ ap (λ (x : ℕ). bit x j) e ∙ bit-none j) k (omega arith)) m (omega arith)
 
 -- i is the lowest bit of word 0, t that of the word whose bit i is, and u that of the word of heads whose bit t is
 lowest-first : (s : List ℕ) (i : ℕ) → i < 64 → LowestBit (get_or s 0 0) i → LowestFrom s 0 i
@@ -407,29 +404,27 @@ lowest-there s i t k h first l =
     omega arith
 
 pub lowest-at : (s : List ℕ) (i t u : ℕ) → IsSet s → i < 64 → LowestBit (get_or s 0 0) i → LowestBit (get_or s (1 + i) 0) t
-    → LowestBit (get_or s (first_word + (64 * i + t)) 0) u → LowestMember s (64 * (64 * i + t) + u)
+    → LowestBit (get_or s (first_word + (64 * i + t)) 0) u → LowestHead s (64 * (64 * i + t) + u)
 unfolding member
 lowest-at s i t u k h first second l =
     let words = k.words in
     let there = lowest-there s i t k h first second in
-    let third = lowest-below s 64 (64 * i + t) (first_word + (64 * i + t)) u k (lowest-second s i t k h first second) (omega arith) (omega arith) l in
-    record {
-      most = let small = l.most in omega arith;
-      below = third.below;
-      found = λ b. third.found;
-    }
+    let level = lowest-second s i t k h first second in
+    let small = lowest-small s 64 (64 * i + t) (first_word + (64 * i + t)) u k level (omega arith) (omega arith) l in
+    let third = lowest-below s 64 (64 * i + t) (first_word + (64 * i + t)) u k level (omega arith) (omega arith) l in
+    record { most = omega arith; below = third.below; found = third.found }
 
 -- The lowest one out ------------------------------------------------------------------------------------------------------------------
 
 -- below the lowest there was no member, and it is out itself: the next one is at the lowest bit of the same word, if that has one left
-pub lowest-next : (s a : List ℕ) (h u : ℕ) → LowestMember s h → h < heads → Removed s a h → LowestBit (get_or a (first_word + h / 64) 0) u → u < 64
-    → LowestMember a (64 * (h / 64) + u)
+pub lowest-next : (s a : List ℕ) (h u : ℕ) → LowestHead s h → Removed s a h → LowestBit (get_or a (first_word + h / 64) 0) u → u < 64
+    → LowestHead a (64 * (h / 64) + u)
 unfolding member
-lowest-next s a h u l small r b few =
+lowest-next s a h u l r b few =
     record {
-      most = omega arith;
+      most = let small = l.most in omega arith;
       below = λ m lt. go m lt (ℕ_discrete (m / 64) (h / 64));
-      found = λ lt. bit_at a (first_head + (64 * (h / 64) + u)) (first_word + h / 64) u (omega arith) (omega arith) ∙ b.found few;
+      found = bit_at a (first_head + (64 * (h / 64) + u)) (first_word + h / 64) u (omega arith) (omega arith) ∙ b.found few;
     }
   where
     go : (m : ℕ) → m < 64 * (h / 64) + u → Dec (m / 64 ≡ h / 64) → bit_of a (first_head + m) ≡ false

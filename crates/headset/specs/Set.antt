@@ -1,7 +1,7 @@
 -- A set of heads of queues as the bits of words: bit k of the words is bit k % 64 of word k / 64. The head of queue q of node n is number
 -- node_heads * n + q, and head h is bit first_head + h. Order: the members, and the words before them, which say where there are some; what the
 -- functions of the crate leave or find. The statements are over every number m: from `heads` on there is no member (SetLaws.antt). Assumes nothing.
-use Rattle.std.specs.Prelude.{◌≡◌, Bool, true, false, not, ◌&&◌, ◌||◌, List, ◌≢◌, ℕ, ◌+◌, ◌*◌, ◌/◌, ◌%◌, ◌-◌, ◌^◌, ◌<◌, ◌≤◌, eqb, ltb, length, get_or}
+use Rattle.std.specs.Prelude.{◌≡◌, Bool, true, false, not, ◌&&◌, ◌||◌, List, ◌≢◌, ℕ, ◌+◌, ◌*◌, ◌/◌, ◌%◌, ◌-◌, ◌^◌, ◌<◌, ◌≤◌, eqb, ltb, length, get_or, Option, MatchOption}
 use Rattle.std.specs.Int.Bits.{bit_and, bit_or}
 use Rattle.base.specs.Bits.{bit}
 use Rattle.network.specs.Sizes.{queues, most_nodes}
@@ -81,11 +81,15 @@ pub record Removed (before after : List ℕ) (h : ℕ) : Type 0 where
   pub set : IsSet after
   pub members : (m : ℕ) → member after m ≡ (not (eqb m h) && member before m)
 
--- r is the lowest member, or `heads` where there is none
-pub record LowestMember (set : List ℕ) (r : ℕ) : Type 0 where
-  pub most : r ≤ heads
-  pub below : (m : ℕ) → m < r → member set m ≡ false
-  pub found : r < heads → member set r ≡ true
+-- h is the lowest member
+pub record LowestHead (set : List ℕ) (h : ℕ) : Type 0 where
+  pub most : h < heads
+  pub below : (m : ℕ) → m < h → member set m ≡ false
+  pub found : member set h ≡ true
+
+-- r is the lowest member, or None where there is none
+abbrev pub LowestMember : List ℕ → Option ℕ → Type 0
+LowestMember set r = MatchOption r ((m : ℕ) → m < heads → member set m ≡ false) (LowestHead set)
 
 -- the same of one word: r is its lowest bit that is set, or 64 where none is
 pub record LowestBit (word r : ℕ) : Type 0 where

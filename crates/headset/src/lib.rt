@@ -7,14 +7,14 @@
 
 ghost use Rattle.std.specs.Prelude.{◌≡◌, true, false, ◌<◌, ◌≤◌, ◌/◌, eqb, length, get_or, replicate};
 ghost use Rattle.network.specs.Sizes.{most_nodes};
-ghost use Rattle.headset.specs.Set.{heads, set_words, IsSet, BitPut, HeadsBelow, United, Inserted, NodeInserted, Removed, LowestBit, LowestMember};
+ghost use Rattle.headset.specs.Set.{heads, set_words, IsSet, BitPut, HeadsBelow, United, Inserted, NodeInserted, Removed, LowestBit, LowestHead, LowestMember};
 
 use network::{MOST_NODES, QUEUES};
 
 // The numbers that a node has for the heads of its queues, and the numbers of the heads of all nodes.
 pub const NODE_HEADS: u64 = 16;
 
-pub const HEADS: u64 = NODE_HEADS * MOST_NODES;
+const HEADS: u64 = NODE_HEADS * MOST_NODES;
 
 // The words of the index: word 0, and one for each of its bits. Those that have no words to index are always 0, so that one rule tells, for
 // both levels, which bit belongs to which word. The first bit behind them, and all words.
@@ -92,25 +92,24 @@ fn remove(set: &mut [u64], h: u64)
     }
 }
 
-// The lowest member, or HEADS where there is none. Word 1 + i is the lowest of words 1 to 64 that is not 0, word FIRST_WORD + j of those of the heads.
-pub fn lowest(set: &[u64]) -> u64
+// The lowest member, or None where there is none. Word 1 + i is the lowest of words 1 to 64 that is not 0, word FIRST_WORD + j of those of the heads.
+pub fn lowest(set: &[u64]) -> Option<u64>
     requires { IsSet set.now }
     ensures { LowestMember set.now result }
 {
     let top = set[0];
     if top == 0 {
-        return HEADS;
+        return None;
     }
     let i = lowest_bit(top);
     let j = WORD_BITS * i + lowest_bit(set[(1 + i) as usize]);
-    WORD_BITS * j + lowest_bit(set[(FIRST_WORD + j) as usize])
+    Some(WORD_BITS * j + lowest_bit(set[(FIRST_WORD + j) as usize]))
 }
 
 // Head h, the lowest member, is a member no longer. The answer is the lowest then: mostly in the same word, which is at hand.
-pub fn remove_lowest(set: &mut [u64], h: u64) -> u64
+pub fn remove_lowest(set: &mut [u64], h: u64) -> Option<u64>
     requires set_2 { IsSet set.old }
-    requires h_lt_heads { h < heads }
-    requires lowest_member { LowestMember set.old h }
+    requires lowest_head { LowestHead set.old h }
     ensures set { Removed set.old set.new h }
     ensures lowest { LowestMember set.new result }
 {
@@ -118,7 +117,7 @@ pub fn remove_lowest(set: &mut [u64], h: u64) -> u64
     let i = h / WORD_BITS;
     let rest = set[(FIRST_WORD + i) as usize];
     if rest != 0 {
-        return WORD_BITS * i + lowest_bit(rest);
+        return Some(WORD_BITS * i + lowest_bit(rest));
     }
     lowest(set)
 }

@@ -1,6 +1,6 @@
 -- The set of heads that goes along with a Drain: it holds every head that has a permitted move. The head of queue q of node n is number 16 n + q.
 -- Order: what it covers; a head taken out that has none; First's move from its lowest head; the set after a move; the search. Assumes nothing.
-use Rattle.std.specs.Prelude.{◌≡◌, refl, ◌⊎◌, ◌≢◌, Bool, true, false, cond, not, ◌&&◌, ◌||◌, List, ℕ, ◌+◌, ◌*◌, ◌-◌, ◌/◌, ◌%◌, ◌<◌, ◌≤◌, eqb, ltb, Option, None, Some}
+use Rattle.std.specs.Prelude.{◌≡◌, refl, ◌⊎◌, ◌≢◌, Bool, true, false, cond, not, ◌&&◌, ◌||◌, List, ℕ, ◌+◌, ◌*◌, ◌-◌, ◌/◌, ◌%◌, ◌<◌, ◌≤◌, eqb, ltb, Option, None, Some, unwrap_or}
 use Rattle.std.proofs.Common.{ap, ap₂, sym, ◌∙◌, subst, inl, inr, true≢false, arith}
 use Rattle.std.proofs.lemmas.Bool.{false≢true}
 use native.Mathlib.Nat.{lt_trans}
@@ -17,7 +17,7 @@ use Rattle.network.specs.RefusalLaws.{Permitted}
 use Rattle.network.specs.Routes.{deliver, target}
 use Rattle.network.specs.Calls.{after_move, first_in_queue, first_move}
 use Rattle.run.specs.NewHeads.{before, Untouched, still-nothing, first-at, first-nowhere}
-use Rattle.headset.specs.Set.{member, IsSet, HeadsBelow, Inserted, NodeInserted, Removed, LowestMember, node_heads, heads}
+use Rattle.headset.specs.Set.{member, IsSet, HeadsBelow, Inserted, NodeInserted, Removed, LowestHead, LowestMember, node_heads, heads}
 
 abbrev pub head_of : ℕ → ℕ → ℕ
 head_of n q = node_heads * n + q
@@ -77,10 +77,10 @@ covered-removed S w set after h c none r =
     go n q hn hq (no ne) x = c.others n q hn hq (rw (ne_eqb (head_of n q) h ne) at x)
 
 -- First's move: that of the lowest head of the set which has one
-pub lowest-first : (S : Shape) (w set : List ℕ) (h : ℕ) (f : Option NamedMove) → Covered S w set → LowestMember set h → h < heads → first_in_queue S w (h / node_heads) (h % node_heads) ≡ f
+pub lowest-first : (S : Shape) (w set : List ℕ) (h : ℕ) (f : Option NamedMove) → Covered S w set → LowestHead set h → first_in_queue S w (h / node_heads) (h % node_heads) ≡ f
     → f ≢ None → first_move S w ≡ f
-lowest-first S w set h f c l small e ne =
-    let (hn, hq) = c.heads h (l.found small) in
+lowest-first S w set h f c l e ne =
+    let (hn, hq) = c.heads h l.found in
     first-at S w (h / node_heads) (h % node_heads) f hn hq
     (λ k r hk hr. c.others k r (lt_trans hk hn) hr (l.below (head_of k r) (omega arith)))
     (λ r hr. c.others (h / node_heads) r hn (lt_trans hr hq) (l.below (head_of (h / node_heads) r) (omega arith)))
@@ -198,8 +198,9 @@ unfolding before
 before-is S n q d r e h = h ∙ ap (λ (k : ℕ). neighbour S k n) (direction-back d ∙ ap opposite e)
 
 -- the search through the set goes on upwards: the lowest head left is above the one that was taken out
-pub lowest-rises : (set after : List ℕ) (h r : ℕ) → LowestMember set h → Removed set after h → LowestMember after r → h < heads → h < r
-lowest-rises set after h r l out l' small = go (dec_lt h r)
+pub lowest-rises : (set after : List ℕ) (h : ℕ) (r : Option ℕ) → LowestHead set h → Removed set after h → LowestMember after r → h < unwrap_or r heads
+lowest-rises set after h None l out none = l.most
+lowest-rises set after h (Some r) l out l' = go (dec_lt h r)
   where
     gone : r ≤ h → member after r ≡ false
     gone b = out.members r ∙ at_most (ℕ_discrete r h)
@@ -210,11 +211,11 @@ lowest-rises set after h r l out l' small = go (dec_lt h r)
 
     go : Dec (h < r) → h < r
     go (yes b) = b
-    go (no b) = absurd (true≢false (sym (l'.found (omega arith)) ∙ gone (omega arith)))
+    go (no b) = absurd (true≢false (sym l'.found ∙ gone (omega arith)))
 
 -- where no head is left, there is no move
-pub lowest-none : (S : Shape) (w set : List ℕ) (h : ℕ) → Covered S w set → LowestMember set h → nodes S ≤ most_nodes → heads ≤ h → first_move S w ≡ None
-lowest-none S w set h c l few g = first-nowhere S w (λ k r hk hr. c.others k r hk hr (l.below (head_of k r) (omega arith)))
+pub lowest-none : (S : Shape) (w set : List ℕ) → Covered S w set → LowestMember set None → nodes S ≤ most_nodes → first_move S w ≡ None
+lowest-none S w set c l few = first-nowhere S w (λ k r hk hr. c.others k r hk hr (l (head_of k r) (omega arith)))
 
 -- what is named is not nothing
 pub move_some : (f : Option NamedMove) (m : NamedMove) → f ≡ Some m → f ≢ None

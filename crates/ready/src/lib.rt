@@ -79,14 +79,14 @@ pub fn next_move(
     ensures answer { result ≡ first_move (shape_of s) words.now }
     ensures set { Covered (shape_of s) words.now ready.new }
 {
-    let mut h = headset::lowest(ready);
-    while h < headset::HEADS {
+    let mut head = headset::lowest(ready);
+    while let Some(h) = head {
         let n = h / headset::NODE_HEADS;
         let q = h % headset::NODE_HEADS;
         if let Some(found) = first::first_in_queue(words, s, near, loads, n, q) {
             return Some(found);
         }
-        h = headset::remove_lowest(ready, h);
+        head = headset::remove_lowest(ready, h);
     }
     None
 }

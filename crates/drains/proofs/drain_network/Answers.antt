@@ -31,13 +31,13 @@ returns-then-accepted-delivered c =
 pub nodes-requires : goal.nodes-requires
 nodes-requires c = c.requires.in-range
 
-pub drain_with-requires : goal.drain_with-requires
-drain_with-requires c =
+pub drain_sized-requires-clause-entries : goal.drain_sized-requires-clause-entries
+drain_sized-requires-clause-entries c =
     let e = c.nodes.ensures in
     let h = c.if-nodes-le-FEW_NODES.true in
-    record { network = c.requires; s_in_bounds = (omega arith, omega arith) }
+    (omega arith, omega arith)
 
-pub drain_with-requires-2 : goal.drain_with-requires-2
-drain_with-requires-2 c =
+pub drain_sized-requires-2-clause-entries : goal.drain_sized-requires-2-clause-entries
+drain_sized-requires-2-clause-entries c =
     let m = sizes-nodes c.args.s c.requires.in-range in
-    record { network = c.requires; s_in_bounds = (omega arith, omega arith) }
+    (omega arith, omega arith)
