@@ -77,6 +77,7 @@ fn unite(set: &mut [u64], i: u64, bits: u64)
 }
 
 // Head h is a member no longer. Where its word is 0 now, its bit in the index is cleared too, and so on upwards.
+// The tests stay nested: joined by `&&` their proof has to split on ways that have met again, and they read no plainer.
 fn remove(set: &mut [u64], h: u64)
     requires set { IsSet set.old }
     requires h_lt_heads { h < heads }

@@ -15,7 +15,7 @@ ghost use Rattle.loads.specs.Loads.{Loads, entry_of, with_load};
 
 use network::{DIRECTIONS, FIRST_ADAPTIVE, Sizes, is_adaptive};
 
-// The loads of the adaptive queues of all nodes.
+// The loads of the adaptive queues of all nodes. The loop counts: i is an entry's place, and the node and the direction as well.
 pub fn fill(loads: &mut [u8], words: &[u64], s: Sizes)
     requires network { Network (shape_of s) words.now }
     requires s_in_bounds { directions * nodes (shape_of s) ≤ length loads.old }

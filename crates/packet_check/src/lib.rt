@@ -78,7 +78,20 @@ const FIRST_DISTANCE: u64 = DIMENSIONS * DIMENSION_WORDS;
 
 pub const TABLE_WORDS: usize = (FIRST_DISTANCE + OFFSET_VALUES) as usize;
 
-// Fills the rounds of dimension i, for a ring of k nodes. The coordinate is carried along, so that nothing is divided.
+// Fills count words from start on: the one that stands j behind start with the value of j.
+fn fill<F: Fn(u64) -> u64>(tables: &mut [u64], start: u64, count: u64, value: F)
+    requires { F.IsAlwaysCallable value × (start + count ≤ length tables.old) }
+    ensures words { length tables.new ≡ length tables.old }
+    ensures part { (j : ℕ) → j < count → F.post value j (get_or tables.new (start + j) 0) }
+    ensures kept { (j : ℕ) → j < start → get_or tables.new j 0 ≡ get_or tables.old j 0 }
+{
+    for j in 0..count {
+        tables[(start + j) as usize] = value(j);
+    }
+}
+
+// Fills the rounds of dimension i, for a ring of k nodes. The coordinate is carried along, so that nothing is divided: `fill` hands on j alone, and
+// would take a division for each word.
 fn fill_ring(tables: &mut [u64], i: u64, k: u64, weight: u64)
     requires { (length tables.old ≡ table_words) × (i < dimensions) × (1 ≤ k) × (k ≤ largest_ring) × (weight ≤ most_nodes) }
     ensures { PartWritten tables.old tables.new (i * dimension_words) (3 * k) (λ j. weight * (j % k)) }
@@ -87,16 +100,6 @@ fn fill_ring(tables: &mut [u64], i: u64, k: u64, weight: u64)
     for j in 0..3 * k {
         tables[(i * DIMENSION_WORDS + j) as usize] = weight * c;
         c = next_on_ring(c, k);
-    }
-}
-
-// Fills the offsets of dimension i that pass, queue by queue.
-fn fill_passing(tables: &mut [u64], s: Sizes, i: u64)
-    requires { T (sizes_in_range (shape_of s)) × (length tables.old ≡ table_words) × (i < dimensions) }
-    ensures { PartWritten tables.old tables.new (i * dimension_words + ring_words) queues (λ q. passing (shape_of s) q i) }
-{
-    for q in 0..QUEUES {
-        tables[(i * DIMENSION_WORDS + RING_WORDS + q) as usize] = passing(s, q, i);
     }
 }
 
@@ -111,15 +114,6 @@ fn distance_at(a: u64) -> u64
     }
 }
 
-fn fill_distances(tables: &mut [u64])
-    requires { length tables.old ≡ table_words }
-    ensures { PartWritten tables.old tables.new first_distance offset_values distance_at }
-{
-    for a in 0..OFFSET_VALUES {
-        tables[(FIRST_DISTANCE + a) as usize] = distance_at(a);
-    }
-}
-
 // All tables, one part behind the other.
 pub fn fill_tables(tables: &mut [u64], s: Sizes)
     requires { T (sizes_in_range (shape_of s)) × (length tables.old ≡ table_words) }
@@ -127,9 +121,14 @@ pub fn fill_tables(tables: &mut [u64], s: Sizes)
 {
     for i in 0..DIMENSIONS {
         fill_ring(tables, i, size(s, i), weight(s, i));
-        fill_passing(tables, s, i);
+        fill(
+            tables,
+            i * DIMENSION_WORDS + RING_WORDS,
+            QUEUES,
+            |q| passing(s, q, i),
+        );
     }
-    fill_distances(tables);
+    fill(tables, FIRST_DISTANCE, OFFSET_VALUES, distance_at);
 }
 
 // How far the offset of dimension i stands above the least that its field can stand for. What is looked up by this needs no branch on the

@@ -89,10 +89,5 @@ pub fn rings_have_room(words: &[u64], s: Sizes) -> bool
     requires { EnoughWords (shape_of s) words.now }
     ensures { result ≡ rings_have_room (shape_of s) words.now }
 {
-    for d in 0..DIRECTIONS {
-        if !direction_has_room(words, s, d) {
-            return false;
-        }
-    }
-    true
+    (0..DIRECTIONS).all(|d| direction_has_room(words, s, d))
 }

@@ -4,4 +4,4 @@ use Rattle.packet_check.specs.Tables.{table_words, DimensionPart}
 use Rattle.packet_check.proofs.fill_tables.Given as goal
 
 abbrev pub invariant-loop-i : goal.invariant-loop-i
-invariant-loop-i l = ((m : ℕ) → m < l.i → DimensionPart l.s m l.tables) × (length l.tables ≡ table_words)
+invariant-loop-i l = ((m : ℕ) → m < l.i-counter → DimensionPart l.s m l.tables) × (length l.tables ≡ table_words)
