@@ -196,19 +196,17 @@ queue-none s w n q start k at z = empty (shape_of s) w n q (sym (count-read s w 
 
 -- what is left is found: of a node's queues, of the nodes
 pub record AtQueue (s : Sizes) (w : List ℕ) (n start q : ℕ) : Type 0 where
-  pub within : q ≤ queues
   pub place : start ≡ queue_start (shape_of s) n q
   pub left : search (λ r. first_in_queue (shape_of s) w n r) q (queues - q) ≡ first_in_node (shape_of s) w n
 
 pub record AtNode (s : Sizes) (w : List ℕ) (start n : ℕ) : Type 0 where
-  pub within : n ≤ nodes (shape_of s)
   pub place : start ≡ queue_start (shape_of s) n 0
   pub left : search (λ m. first_in_node (shape_of s) w m) n (nodes (shape_of s) - n) ≡ first_move (shape_of s) w
 
 module _ {s : Sizes} {w : List ℕ} {n : ℕ} where
   pub queues-begin : {start : ℕ} → start ≡ queue_start (shape_of s) n 0 → AtQueue s w n start 0
   unfolding first_in_node
-  queues-begin e = record { within = omega arith; place = e; left = refl }
+  queues-begin e = record { place = e; left = refl }
 
   pub queue-next : {start q slots : ℕ} → AtQueue s w n start q → q < queues → slots ≡ capacity (shape_of s) q
       → first_in_queue (shape_of s) w n q ≡ None → AtQueue s w n (start + (1 + slots)) (q + 1)
@@ -218,7 +216,6 @@ module _ {s : Sizes} {w : List ℕ} {n : ℕ} where
       let at : start ≡ queue_start (shape_of s) n q = i.place in
       let one : queue_start (shape_of s) n (suc q) ≡ queue_start (shape_of s) n (q + 1) = ap (queue_start (shape_of s) n) (sym (add-one q)) in
       record {
-        within = omega arith;
         place = omega arith;
         left = search-on (λ r. first_in_queue (shape_of s) w n r) q queues h e ∙ i.left;
       }
@@ -246,18 +243,16 @@ before-nodes S = let z = zero-mul (node_words S) in omega arith
 module _ {s : Sizes} {w : List ℕ} where
   pub nodes-begin : AtNode s w header_words 0
   unfolding first_move
-  nodes-begin = record { within = omega arith; place = before-nodes (shape_of s); left = ap (search (λ m. first_in_node (shape_of s) w m) 0) (omega arith) }
+  nodes-begin = record { place = before-nodes (shape_of s); left = ap (search (λ m. first_in_node (shape_of s) w m) 0) (omega arith) }
 
-  pub node-next : {start start' n q : ℕ} → AtNode s w start n → n < nodes (shape_of s) → AtQueue s w n start' q → queues ≤ q
+  pub node-next : {start start' n q : ℕ} → AtNode s w start n → n < nodes (shape_of s) → AtQueue s w n start' q → q ≤ queues → queues ≤ q
       → AtNode s w start' (n + 1)
-  node-next {start' = start'} {n = n} {q = q} i h j l =
+  node-next {start' = start'} {n = n} {q = q} i h j m l =
       let at : start' ≡ queue_start (shape_of s) n q = j.place in
-      let b : q ≤ queues = j.within in
       let last : q ≡ queues = omega arith in
       let same : queue_start (shape_of s) n q ≡ queue_start (shape_of s) n queues = ap (queue_start (shape_of s) n) last in
       let next = after-node (shape_of s) n in
       record {
-        within = omega arith;
         place = omega arith;
         left = search-on (λ m. first_in_node (shape_of s) w m) n (nodes (shape_of s)) h (queues-none j l) ∙ i.left;
       }

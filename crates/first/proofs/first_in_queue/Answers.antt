@@ -1,7 +1,7 @@
 -- `first::first_in_queue` meets its contract: the goals that the check does not find by itself. Assumes nothing.
 use Rattle.std.proofs.Common.{◌≡◌, sym, ◌∙◌, Bool, true, false, ◌≢◌, ℕ, ◌+◌, ◌<◌, arith, eqb-true, eqb, length}
 use borrow.Author.Tests.{eqb-false}
-use Rattle.queue.specs.HeldWords.{asked, inside-at}
+use Rattle.queue.specs.HeldWords.{inside-at}
 use Rattle.first.proofs.Searching.{Reading, found-from-first, output-lt, line-none, line_refused, line-found, lines_none, queue-none}
 use Rattle.first.proofs.first_in_queue.Goals as goal
 use Rattle.first.proofs.first_in_queue.Goals.{After-queue_start-start, After-routes-outputs, then-applies+else-may_flow, else-applies}
@@ -19,19 +19,11 @@ two-words c =
     let a = c.args in
     inside-at a.s a.words.now a.n a.q c.requires.queue_of c.queue_start-start.result c.queue_start-start.ensures
 
-pub routes-outputs-requires : goal.routes-outputs-requires
-routes-outputs-requires c = c.requires.queue_of.queue
-
 -- what was read of the queue
 reading : (c : After-routes-outputs)
     → Reading c.args.s c.args.words.now c.args.n c.args.q c.queue_start-start.result c.routes-outputs.result
 reading c =
     record { queue = c.requires.queue_of; at = c.queue_start-start.ensures; some = c.if-words-start-eq0.false; each = c.routes-outputs.ensures.each; these = c.routes-outputs.ensures.these }
-
-pub queue_start-start-requires : goal.queue_start-start-requires
-queue_start-start-requires c =
-    let a = c.args in
-    asked a.s a.words.now a.n a.q c.requires.queue_of
 
 pub offset_bounds-words-start : goal.offset_bounds-words-start
 offset_bounds-words-start c = omega (arith, two-words (goal.at.offset_bounds-words-start c).After-queue_start-start, c.well_formed)
@@ -44,28 +36,19 @@ returns-then-words-start-eq0 c =
     let a = c.args in
     sym (queue-none a.s a.words.now a.n a.q c.queue_start-start.result c.requires.queue_of c.queue_start-start.ensures c.if-words-start-eq0.true)
 
-pub overflow_add-p : goal.overflow_add-p
-overflow_add-p c = omega (arith, two-words (goal.at.overflow_add-p c).After-queue_start-start, c.well_formed)
-
-pub offset_bounds-words-start-2 : goal.offset_bounds-words-start-2
-offset_bounds-words-start-2 c = omega (arith, two-words (goal.at.offset_bounds-words-start-2 c).After-queue_start-start, c.well_formed)
-
 pub bounds-words-start-2 : goal.bounds-words-start-2
 bounds-words-start-2 c = two-words (goal.at.bounds-words-start-2 c).After-queue_start-start
 
 pub loop-k-init : goal.loop-k-init
 loop-k-init c = found-from-first (reading (goal.at.loop-k-init c).After-routes-outputs)
 
-pub may_flow-requires : goal.may_flow-requires
-may_flow-requires c =
-    let k = reading (goal.at.may_flow-requires c).After-routes-outputs in record {
-      queue_of = record {
-        network = k.queue.network;
-        node = k.queue.node;
-        queue = output-lt k c.loop-k.k c.loop-k-test.true (sym c.applies.ensures ∙ c.if-applies.true);
-      };
-      near = c.requires.near;
-      loads = c.requires.loads;
+pub may_flow-requires-clause-queue_of : goal.may_flow-requires-clause-queue_of
+may_flow-requires-clause-queue_of c =
+    let k = reading (goal.at.may_flow-requires-clause-queue_of c).After-routes-outputs in
+    record {
+      network = k.queue.network;
+      node = k.queue.node;
+      queue = output-lt k c.loop-k.k c.loop-k-test.true (sym c.applies.ensures ∙ c.if-applies.true);
     }
 
 pub returns-then-may_flow : goal.returns-then-may_flow

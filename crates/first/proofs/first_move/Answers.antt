@@ -48,9 +48,6 @@ unfolding accepted delivered
 returns-then-words c = sym (nothing-held (shape_of c.args.s) c.args.words.now c.requires c.if-words.true)
 
 -- The search begins -------------------------------------------------------------------------------------------------------------------
-pub nodes-total-requires : goal.nodes-total-requires
-nodes-total-requires c = c.requires.in-range
-
 pub loop-n-init : goal.loop-n-init
 loop-n-init c = nodes-begin
 
@@ -62,12 +59,6 @@ offset_bounds-words-start c = omega (arith, two-words (goal.at.offset_bounds-wor
 
 pub bounds-words-start : goal.bounds-words-start
 bounds-words-start c = omega (arith, two-words (goal.at.bounds-words-start c).In-loop-q)
-
-pub overflow_add-p : goal.overflow_add-p
-overflow_add-p c = omega (arith, two-words (goal.at.overflow_add-p c).In-loop-q, c.well_formed)
-
-pub offset_bounds-words-start-then-words-start-ne0 : goal.offset_bounds-words-start-then-words-start-ne0
-offset_bounds-words-start-then-words-start-ne0 c = omega (arith, two-words (goal.at.offset_bounds-words-start-then-words-start-ne0 c).In-loop-q, c.well_formed)
 
 pub bounds-words-start-then-words-start-ne0 : goal.bounds-words-start-then-words-start-ne0
 bounds-words-start-then-words-start-ne0 c = two-words (goal.at.bounds-words-start-then-words-start-ne0 c).In-loop-q
@@ -129,7 +120,7 @@ loop-q-preserved c =
 
 -- The nodes ---------------------------------------------------------------------------------------------------------------------------
 pub loop-n-preserved : goal.loop-n-preserved
-loop-n-preserved c = node-next c.loop-n.invariant (node-lt (goal.at.loop-n-preserved c).In-loop-n) c.loop-q.invariant c.loop-q-test.false
+loop-n-preserved c = node-next c.loop-n.invariant (node-lt (goal.at.loop-n-preserved c).In-loop-n) c.loop-q.invariant (omega (arith, c.loop-q.auto)) c.loop-q-test.false
 
 -- The two answers ---------------------------------------------------------------------------------------------------------------------
 pub returns-then-is_ok : goal.returns-then-is_ok

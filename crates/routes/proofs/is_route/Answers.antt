@@ -1,12 +1,8 @@
 -- `routes::is_route` meets its contract: the goals that the check does not find by itself. Assumes nothing.
-use Rattle.std.proofs.Common.{ap, sym, ◌∙◌, ◌<◌, arith, length}
-use Rattle.base.specs.Tests.{elem}
+use Rattle.std.proofs.Common.{sym, ◌∙◌, ◌<◌, arith, length}
 use Rattle.routes.proofs.Laws.{elem-here, elem-passed, elem-other, elem_end}
 use Rattle.routes.proofs.is_route.Goals as goal
 use Rattle.routes.proofs.is_route.Goals.{then-output-o+else-applies, else-output-o}
-
-pub loop-k-init : goal.loop-k-init
-loop-k-init c = ap (elem c.args.o) c.routes-outputs.ensures.these
 
 pub returns-then-applies : goal.returns-then-applies
 returns-then-applies c =
