@@ -28,9 +28,6 @@ returns-then-accepted-delivered c =
     so-far-end S (sizes-torus c.args.s c.requires.in-range) w c.args.budget l w l 0 0 Stop.Emptied (so-far-start S w c.args.budget l c.requires)
     (turn-emptied S w _ _ (none-held S w c.requires c.if-accepted-delivered.true))
 
-pub nodes-requires : goal.nodes-requires
-nodes-requires c = c.requires.in-range
-
 pub drain_sized-requires-clause-entries : goal.drain_sized-requires-clause-entries
 drain_sized-requires-clause-entries c =
     let e = c.nodes.ensures in

@@ -6,9 +6,6 @@ use Rattle.ready.specs.ReadyHeads.{covered-filled}
 use Rattle.network.proofs.TorusLaws.{sizes-nodes}
 use Rattle.drains.proofs.drain_sized.Goals as goal
 
-pub nodes-requires : goal.nodes-requires
-nodes-requires g c = c.requires.network.in-range
-
 pub fill-requires-3-clause-count_le_most_nodes : goal.fill-requires-3-clause-count_le_most_nodes
 fill-requires-3-clause-count_le_most_nodes g c =
     subst (λ (x : ℕ). x ≤ most_nodes) (sym c.nodes.ensures) (sizes-nodes c.args.s c.requires.network.in-range)
