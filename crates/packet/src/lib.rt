@@ -40,7 +40,7 @@ pub fn nat_abs(z: i64) -> u64
     z.unsigned_abs()
 }
 
-// The field of such a number. One test of the sign decides it, and both ways go through `nat_abs`: a `match` on the sign would say no more.
+// The field of such a number. One test of the sign stays, over `nat_abs` (R319): no form is plainer that still goes through it.
 pub fn unsigned(z: i64) -> u64
     requires { OffsetRange z }
     ensures { result ≡ unsigned z }

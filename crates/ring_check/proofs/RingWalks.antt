@@ -1,19 +1,19 @@
 -- The rings of a direction by their distances in the words, in every dimension alike. Order: the walk over places a step apart; the distances of a
 -- dimension; the steps from one node of a ring to another; each ring once; what the code computes. `i` is a dimension, `d` a direction, `w` are the
 -- words; a node has b below its coordinate j along i, and a above it. Assumes nothing.
-use mathlib.Core.Path.{◌≡◌, ap, ap₂, sym, subst, ◌∙◌}
-use mathlib.Core.Bool.{Bool, true, false, cond}
+use mathlib.Core.Path.{◌≡◌, refl, ap, ap₂, sym, subst, ◌∙◌}
+use mathlib.Core.Bool.{Bool, true, false, cond, ◌&&◌, ◌||◌}
 use mathlib.Core.List.{List}
-use mathlib.Core.Logic.{◌⊎◌, inl, inr}
-use Prim.Native.Nat.{ℕ, suc, ◌+◌, ◌*◌, ◌-◌, ◌/◌, ◌%◌, ◌<◌, ◌≤◌}
-use native.Mathlib.Nat.{add-zero, eq-or-lt_of_le, le_of_suc-le-suc, mod-lt, mod-eq_of_lt, mod-add-div, add-mul-mod_self_right, mul-pos, mul-div_cancel, mul-le-mul_right, lt_of_mul-lt-mul_right, le_of_mul-le-mul_right}
+use Prim.Native.Nat.{ℕ, zero, suc, ◌+◌, ◌*◌, ◌-◌, ◌/◌, ◌%◌, ◌<◌, ◌≤◌}
+use native.Mathlib.Nat.{add-zero, mod-lt, mod-eq_of_lt, mod-add-div, add-mul-mod_self_right, mul-le-mul_right}
 use native.Mathlib.Omega.{arith}
 use lib.Dec.{T, ltb, ltb→lt, lt→ltb}
 use lib.ListN.{length, get_or, take, drop, length-take, length-drop}
+use Rattle.std.specs.List.{list_all, list_any, range_with_len}
 use Rattle.base.specs.Tests.{all_below, some_below}
-use Rattle.base.proofs.Tests.{all-at, all-by, some_at, some-by, T_true, true-T}
+use Rattle.base.proofs.Tests.{all-at, all-by, some_at, some-by}
 use Rattle.base.proofs.Parts.{get_or-span}
-use Rattle.base.proofs.Bools.{same_test, fails-at, passes_at}
+use Rattle.base.proofs.Bools.{same_test}
 use Rattle.base.specs.Digits.{product, digit, put_digit, weight, rotate, above, around}
 use Rattle.base.proofs.Digits.{digit_lt, product-pos, weight-pos, product-weight, digit-around, put-around, around-lt, is-around, above-lt}
 use Rattle.network.specs.Sizes.{Shape, shape_of, size, nodes, dimensions, directions, dimension_of, is_plus, queues, escape_queue, capacity, is_adaptive}
@@ -32,58 +32,63 @@ use Rattle.queue.specs.Queue.{EnoughWords}
 use Rattle.ring_check.specs.RingLines.{Steps, RingsIn, rings_of, ring_room, group_room, groups_room}
 use Rattle.ring_check.specs.declared.Rings.{Rings}
 
--- The walk over places a step apart -------------------------------------------------------------------------------------------------------
+-- Tests over the numbers of a range -------------------------------------------------------------------------------------------------------
 
--- it stands at `at`, and all places before have the property
-pub record Walk (P : ℕ → Type 0) (first step at : ℕ) : Type 0 where
-  pub done : ℕ
-  pub before : (j : ℕ) → j < done → P (first + j * step)
-  pub place : at ≡ first + done * step
+both_joined : (a b c : Bool) → a && (b && c) ≡ a && b && c
+both_joined true b c = refl
+both_joined false b c = refl
 
-pub walk_more : {P : ℕ → Type 0} {first step at : ℕ} → Walk P first step at → P at → Walk P first step (at + step)
-walk_more {P} {first} {step} {at} walk p =
-    record { done = suc walk.done; before = λ j h. go j (eq-or-lt_of_le (le_of_suc-le-suc h)); place = let e = walk.place in omega arith }
-  where
-    go : (j : ℕ) → (j ≡ walk.done) ⊎ (j < walk.done) → P (first + j * step)
-    go j (inl e) = subst P (walk.place ∙ ap (λ (k : ℕ). first + k * step) (sym e)) p
-    go j (inr h) = walk.before j h
+either_joined : (a b c : Bool) → a || (b || c) ≡ a || b || c
+either_joined true b c = refl
+either_joined false b c = refl
 
-module _ {P : ℕ → Type 0} {first step far at : ℕ} (s : Steps step far) (walk : Walk P first step at) where
-  inside : at < first + far → walk.done < far / step
-  inside h = let p = walk.place in let w = s.whole in lt_of_mul-lt-mul_right step (omega arith)
+module _ (f : ℕ → Bool) where
+  all-from : (a n : ℕ) → all_below a f && list_all f (range_with_len a n) ≡ all_below (a + n) f
+  unfolding all_below
+  all-from a zero = none (all_below a f) ∙ ap (λ (k : ℕ). all_below k f) (sym (add-zero a))
+    where
+      none : (b : Bool) → b && true ≡ b
+      none true = refl
+      none false = refl
+  all-from a (suc n) =
+      let e : a + 1 ≡ suc a = omega arith in
+      let g : suc a + n ≡ a + suc n = omega arith in
+      both_joined (all_below a f) (f a) (list_all f (range_with_len (a + 1) n))
+      ∙ ap (λ (k : ℕ). all_below (suc a) f && list_all f (range_with_len k n)) e
+      ∙ all-from (suc a) n
+      ∙ ap (λ (k : ℕ). all_below k f) g
 
-  -- the next place is not past the end
-  pub walk-room : at < first + far → at + step ≤ first + far
-  walk-room h =
-      let m : suc walk.done * step ≤ far / step * step = mul-le-mul_right step (inside h) in
-      let p = walk.place in
-      let w = s.whole in
-      omega arith
+  some-from : (a n : ℕ) → some_below a f || list_any f (range_with_len a n) ≡ some_below (a + n) f
+  unfolding some_below
+  some-from a zero = none (some_below a f) ∙ ap (λ (k : ℕ). some_below k f) (sym (add-zero a))
+    where
+      none : (b : Bool) → b || false ≡ b
+      none true = refl
+      none false = refl
+  some-from a (suc n) =
+      let e : a + 1 ≡ suc a = omega arith in
+      let g : suc a + n ≡ a + suc n = omega arith in
+      either_joined (some_below a f) (f a) (list_any f (range_with_len (a + 1) n))
+      ∙ ap (λ (k : ℕ). some_below (suc a) f || list_any f (range_with_len k n)) e
+      ∙ some-from (suc a) n
+      ∙ ap (λ (k : ℕ). some_below k f) g
 
-  -- one place decides
-  pub walk-passes : (f : ℕ → Bool) → at < first + far → f at ≡ true → some_below (far / step) (λ j. f (first + j * step)) ≡ true
-  walk-passes f h e = passes_at (far / step) (λ j. f (first + j * step)) walk.done (inside h) (ap f (sym walk.place) ∙ e)
+  pub all-range : (n : ℕ) → list_all f (range_with_len 0 n) ≡ all_below n f
+  unfolding all_below
+  all-range n = let e : 0 + n ≡ n = omega arith in all-from 0 n ∙ ap (λ (k : ℕ). all_below k f) e
 
-  pub walk-fails : (f : ℕ → Bool) → at < first + far → f at ≡ false → all_below (far / step) (λ j. f (first + j * step)) ≡ false
-  walk-fails f h e = fails-at (far / step) (λ j. f (first + j * step)) walk.done (inside h) (ap f (sym walk.place) ∙ e)
+  pub some-range : (n : ℕ) → list_any f (range_with_len 0 n) ≡ some_below n f
+  unfolding some_below
+  some-range n = let e : 0 + n ≡ n = omega arith in some-from 0 n ∙ ap (λ (k : ℕ). some_below k f) e
 
-  -- at the end all places have the property
-  walked : first + far ≤ at → (j : ℕ) → j < far / step → P (first + j * step)
-  walked h j l =
-      let p = walk.place in
-      let w = s.whole in
-      let m : far / step ≤ walk.done = le_of_mul-le-mul_right {k = step} (omega arith) s.some in
-      walk.before j (omega arith)
+-- Places a step apart -----------------------------------------------------------------------------------------------------------------------
 
-module _ {f : ℕ → Bool} {first step far at : ℕ} (s : Steps step far) where
-  pub walk-all : Walk (λ m. f m ≡ true) first step at → first + far ≤ at → all_below (far / step) (λ j. f (first + j * step)) ≡ true
-  walk-all walk h = T_true _ (all-by (far / step) (λ j. f (first + j * step)) (λ j l. true-T _ (walked s walk h j l)))
-
-  pub walk_none : Walk (λ m. f m ≡ false) first step at → first + far ≤ at → some_below (far / step) (λ j. f (first + j * step)) ≡ false
-  walk_none walk h =
-      same_test (some_below (far / step) (λ j. f (first + j * step))) false
-      (λ t. let (j, l, u) = some_at (far / step) (λ j. f (first + j * step)) t in subst T (walked s walk h j l) u)
-      (λ t. absurd t)
+-- the one after is not past the end
+pub next-inside : {count step far : ℕ} → Steps count step far → (j : ℕ) → j < count → j * step + step ≤ far
+next-inside {count} {step} {far} s j h =
+    let m : suc j * step ≤ count * step = mul-le-mul_right step h in
+    let w = s.whole in
+    omega arith
 
 -- the same distances from another place
 pub rings-at : {w : List ℕ} {r : Rings} {first far step at on by : ℕ} → RingsIn w r first far step → at + on < length w + by → RingsIn w r at on by
@@ -91,9 +96,8 @@ rings-at p h = record { rings = p.rings; ring = p.ring; groups = p.groups; short
 
 -- The distances of a dimension --------------------------------------------------------------------------------------------------------------
 
-steps_of : (m step : ℕ) → 0 < m → 0 < step → Steps step (m * step)
-steps_of m step h p =
-    record { some = p; short = let l : 1 * step ≤ m * step = mul-le-mul_right step h in omega arith; whole = ap (λ (n : ℕ). n * step) (mul-div_cancel m p) }
+steps_of : (m step : ℕ) → 0 < m → Steps m step (m * step)
+steps_of m step h = record { short = let l : 1 * step ≤ m * step = mul-le-mul_right step h in omega arith; whole = refl }
 
 module _ (S : Shape) (i : ℕ) (torus : Torus S) (hi : i < dimensions) where
   on : i < length S.sizes
@@ -102,12 +106,6 @@ module _ (S : Shape) (i : ℕ) (torus : Torus S) (hi : i < dimensions) where
   node-pos : 0 < node_words S
   unfolding node_words
   node-pos = omega arith
-
-  step-pos : 0 < weight S.sizes i * node_words S
-  step-pos = mul-pos (weight-pos S.sizes i torus.positive) node-pos
-
-  group-pos : 0 < size S i * (weight S.sizes i * node_words S)
-  group-pos = mul-pos (size-pos S i torus hi) step-pos
 
   -- the nodes are so many groups
   all-is : nodes S * node_words S ≡ above S.sizes i * (size S i * (weight S.sizes i * node_words S))
@@ -120,31 +118,22 @@ module _ (S : Shape) (i : ℕ) (torus : Torus S) (hi : i < dimensions) where
   above-pos : 0 < above S.sizes i
   above-pos = let l = above-lt S.sizes i on 0 torus.positive (product-pos S.sizes torus.positive) in omega arith
 
-  -- how many rings a group has, how many nodes a ring, and how many groups there are
-  count-rings : weight S.sizes i * node_words S / node_words S ≡ weight S.sizes i
-  count-rings = mul-div_cancel (weight S.sizes i) node-pos
-
-  count-ring : size S i * (weight S.sizes i * node_words S) / (weight S.sizes i * node_words S) ≡ size S i
-  count-ring = mul-div_cancel (size S i) step-pos
-
-  count-groups : nodes S * node_words S / (size S i * (weight S.sizes i * node_words S)) ≡ above S.sizes i
-  count-groups = ap (λ (m : ℕ). m / (size S i * (weight S.sizes i * node_words S))) all-is ∙ mul-div_cancel (above S.sizes i) group-pos
-
   -- they fit into the words, where queue q of node 0 is the first
   pub rings-in : (w : List ℕ) (q : ℕ) → EnoughWords S w → q < queues
-      → RingsIn w (rings_of S i) (queue_start S 0 q) (nodes S * node_words S) (node_words S)
+      → RingsIn w (rings_of S i) (queue_start S 0 q) (above S.sizes i * (size S i * (weight S.sizes i * node_words S))) (node_words S)
   unfolding rings_of need
   rings-in w q enough hq =
       record {
-        rings = steps_of (weight S.sizes i) (node_words S) (weight-pos S.sizes i torus.positive) node-pos;
-        ring = steps_of (size S i) (weight S.sizes i * node_words S) (size-pos S i torus hi) step-pos;
-        groups = rw all-is (steps_of (above S.sizes i) (size S i * (weight S.sizes i * node_words S)) above-pos group-pos);
-        short = let l = enough.long in omega arith;
+        rings = steps_of (weight S.sizes i) (node_words S) (weight-pos S.sizes i torus.positive);
+        ring = steps_of (size S i) (weight S.sizes i * node_words S) (size-pos S i torus hi);
+        groups = steps_of (above S.sizes i) (size S i * (weight S.sizes i * node_words S)) above-pos;
+        short = rw (← all-is) (let l = enough.long in omega arith);
         among =
-            let l = enough.long in
+            rw (← all-is)
+            (let l = enough.long in
             let e = end-node S 0 q hq in
             let f = end-start S 0 q in
-            omega arith;
+            omega arith);
       }
 
 -- The steps from one node of a ring to another ----------------------------------------------------------------------------------------------
@@ -240,10 +229,8 @@ module _ (S : Shape) (w : List ℕ) (d : ℕ) (enough : EnoughWords S w) (torus 
   groups-each : T (groups_room w (rings_of S (dimension_of d)) (queue_start S 0 (escape_queue d))) → Each
   unfolding groups_room group_room ring_room rings_of place Each
   groups-each t b a hb ha =
-      let (j, hj, u) = some_at _ _ (all-at _ _ (all-at _ _ t a (let e = count-groups S (dimension_of d) torus hi in omega arith)) b (let e = count-rings S (dimension_of d) torus hi in omega arith)) in
-      let e = count-ring S (dimension_of d) torus hi in
-      let k : j < size S (dimension_of d) = omega arith in
-      (j, k, subst T (room_at b j a hb k ha) u)
+      let (j, hj, u) = some_at _ _ (all-at _ _ (all-at _ _ t a ha) b hb) in
+      (j, hj, subst T (room_at b j a hb hj ha) u)
 
   each-groups : Each → T (groups_room w (rings_of S (dimension_of d)) (queue_start S 0 (escape_queue d)))
   unfolding groups_room group_room ring_room rings_of place Each
@@ -252,13 +239,8 @@ module _ (S : Shape) (w : List ℕ) (d : ℕ) (enough : EnoughWords S w) (torus 
       (λ a ha.
       all-by _ _
       (λ b hb.
-      let e = count-groups S (dimension_of d) torus hi in
-      let f = count-rings S (dimension_of d) torus hi in
-      let g = count-ring S (dimension_of d) torus hi in
-      let hb' : b < weight S.sizes (dimension_of d) = omega arith in
-      let ha' : a < above S.sizes (dimension_of d) = omega arith in
-      let (j, hj, u) = each b a hb' ha' in
-      some-by _ _ j (omega arith) (subst T (sym (room_at b j a hb' hj ha')) u)))
+      let (j, hj, u) = each b a hb ha in
+      some-by _ _ j hj (subst T (sym (room_at b j a hb hj ha)) u)))
 
   nodes-each : T (all_below (nodes S) (λ n. ring_has_room S w d n)) → Each
   unfolding ring_has_room Each nodes node
@@ -290,34 +272,35 @@ module _ (S : Shape) (w : List ℕ) (d : ℕ) (enough : EnoughWords S w) (torus 
 
 -- What the code computes --------------------------------------------------------------------------------------------------------------------
 
--- for direction d: a node's words, the weight and the size of its dimension, how many nodes there are, and where the first of its queues stands
-pub record Found (s : Sizes) (d node weigh round all first : ℕ) : Type 0 where
+-- for direction d: a node's words, the weight and the size of its dimension, how many nodes lie above it, and where the first of its queues stands
+pub record Found (s : Sizes) (d node weigh round behind first : ℕ) : Type 0 where
   pub one : node ≡ node_words (shape_of s)
   pub apart : weigh ≡ weight (shape_of s).sizes (dimension_of d)
   pub ring : round ≡ size (shape_of s) (dimension_of d)
-  pub every : all ≡ nodes (shape_of s)
+  pub rest : behind ≡ above (shape_of s).sizes (dimension_of d)
   pub start : first ≡ queue_start (shape_of s) 0 (escape_queue d)
 
 -- the distances made of these
 abbrev pub made : ℕ → ℕ → ℕ → ℕ → ℕ → Rings
-made slots node weigh round all = record { slots = slots; node = node; step = weigh * node; group = round * (weigh * node); all = all * node }
+made slots node weigh round behind =
+    record { slots = slots; node = node; rings = weigh; step = weigh * node; nodes = round; group = round * (weigh * node); groups = behind }
 
 module _
     {s : Sizes}
     {w : List ℕ}
-    {d node weigh round all first : ℕ}
+    {d node weigh round behind first : ℕ}
     (enough : EnoughWords (shape_of s) w)
     (hd : d < directions)
-    (found : Found s d node weigh round all first) where
-  made-is : made s.escape node weigh round all ≡ rings_of (shape_of s) (dimension_of d)
+    (found : Found s d node weigh round behind first) where
+  made-is : made s.escape node weigh round behind ≡ rings_of (shape_of s) (dimension_of d)
   unfolding rings_of shape_of
-  made-is = λ t. made s.escape (found.one t) (found.apart t) (found.ring t) (found.every t)
+  made-is = λ t. made s.escape (found.one t) (found.apart t) (found.ring t) (found.rest t)
 
-  pub found_in : RingsIn w (made s.escape node weigh round all) first (all * node) node
+  pub found_in : RingsIn w (made s.escape node weigh round behind) first (behind * (round * (weigh * node))) node
   unfolding rings_of
   found_in =
-      subst (λ (m : Rings). RingsIn w m first m.all m.node) (sym made-is)
+      subst (λ (m : Rings). RingsIn w m first (m.groups * m.group) m.node) (sym made-is)
       (rw found.start (rings-in (shape_of s) (dimension_of d) (sizes-torus s enough.sizes) (dimension-lt d hd) w (escape_queue d) enough (omega arith)))
 
-  pub found-are : (b : Bool) → b ≡ groups_room w (made s.escape node weigh round all) first → b ≡ all_below (nodes (shape_of s)) (λ n. ring_has_room (shape_of s) w d n)
+  pub found-are : (b : Bool) → b ≡ groups_room w (made s.escape node weigh round behind) first → b ≡ all_below (nodes (shape_of s)) (λ n. ring_has_room (shape_of s) w d n)
   found-are b e = e ∙ ap₂ (groups_room w) made-is found.start ∙ groups-are (shape_of s) w d enough (sizes-torus s enough.sizes) hd

@@ -7,9 +7,6 @@ use Rattle.ring_check.proofs.RingWalks.{Found, made, found_in, found-are}
 use Rattle.ring_check.proofs.direction_has_room.Goals as goal
 use Rattle.ring_check.proofs.direction_has_room.Goals.{After-queue_start-first}
 
-pub nodes-nodes-requires : goal.nodes-nodes-requires
-nodes-nodes-requires c = c.requires.0.sizes
-
 pub queue_start-first-requires : goal.queue_start-first-requires
 queue_start-first-requires c =
     let h = c.requires.1 in
@@ -18,20 +15,21 @@ queue_start-first-requires c =
 -- what the calls have found
 found : (c : After-queue_start-first)
     → Found c.args.s c.args.d c.node_words-node.result c.weight-weight.result c.size-size.result
-    c.nodes-nodes.result c.queue_start-first.result
+    c.above-groups.result c.queue_start-first.result
 found c =
     record {
       one = c.node_words-node.ensures;
       apart = c.weight-weight.ensures;
       ring = c.size-size.ensures;
-      every = c.nodes-nodes.ensures;
+      rest = c.above-groups.ensures;
       start = c.queue_start-first.ensures;
     }
 
 inside : (c : After-queue_start-first)
     → RingsIn c.args.words.now
     (made c.args.s.escape c.node_words-node.result c.weight-weight.result c.size-size.result
-    c.nodes-nodes.result) c.queue_start-first.result (c.nodes-nodes.result * c.node_words-node.result)
+    c.above-groups.result) c.queue_start-first.result
+    (c.above-groups.result * (c.size-size.result * (c.weight-weight.result * c.node_words-node.result)))
     c.node_words-node.result
 inside c = found_in c.requires.0 c.requires.1 (found c)
 
@@ -40,9 +38,6 @@ overflow_mul-step c = omega (arith, inside (goal.at.overflow_mul-step c).After-q
 
 pub overflow_mul-group : goal.overflow_mul-group
 overflow_mul-group c = omega (arith, inside (goal.at.overflow_mul-group c).After-queue_start-first, c.well_formed)
-
-pub overflow_mul-all : goal.overflow_mul-all
-overflow_mul-all c = omega (arith, inside (goal.at.overflow_mul-all c).After-queue_start-first, c.well_formed)
 
 pub groups_room-requires : goal.groups_room-requires
 groups_room-requires c = inside (goal.at.groups_room-requires c).After-queue_start-first

@@ -1,26 +1,23 @@
 -- `ring_check::group_room` meets its contract: the goals that the check does not find by itself. Assumes nothing.
-use Rattle.std.proofs.Common.{sym, ◌∙◌, arith}
-use Rattle.ring_check.specs.RingLines.{ring_room, group_room}
-use Rattle.ring_check.proofs.RingWalks.{walk_more, walk-room, walk-fails, walk-all, rings-at}
+use Rattle.std.proofs.Common.{◌∙◌, ◌+◌, ◌*◌, ◌<◌, length, refl, arith, rules, tests}
+use Rattle.std.proofs.lemmas.Iterator.{YieldsList-from_range, serves_from_Range}
+use Rattle.std.proofs.lemmas.Iterator.Search.{all_from_yields_List}
+use Rattle.ring_check.specs.RingLines.{RingsIn, ring_room, group_room}
+use Rattle.ring_check.proofs.RingWalks.{all-range, next-inside, rings-at}
 use Rattle.ring_check.proofs.group_room.Goals as goal
 
-pub ring_room-requires : goal.ring_room-requires
-ring_room-requires c = let n = walk-room c.requires.rings c.loop-at.invariant c.loop-at-test.true in rings-at c.requires (omega (arith, c.requires))
-
-pub returns-then-not-ring_room : goal.returns-then-not-ring_room
-unfolding group_room
-returns-then-not-ring_room c =
-    sym
-    (walk-fails c.requires.rings c.loop-at.invariant (λ m. ring_room c.args.words.now c.args.r m) c.loop-at-test.true
-    (sym c.ring_room.ensures ∙ c.if-not-ring_room.true))
-
-pub loop-at-preserved : goal.loop-at-preserved
-loop-at-preserved c = walk_more c.loop-at.invariant (sym c.ring_room.ensures ∙ c.if-not-ring_room.false)
+pub all-requires-clause-callable : goal.all-requires-clause-callable
+all-requires-clause-callable c =
+    serves_from_Range (λ x q k. search (rules, tests))
+    (λ x l h.
+    let n = next-inside c.requires.rings x h in
+    let p : c.args.first + x * c.args.r.node < length c.args.words.now = omega (arith, c.requires) in
+    let q : RingsIn c.args.words.now c.args.r (c.args.first + x * c.args.r.node) c.args.r.group c.args.r.step = rings-at c.requires (omega (arith, c.requires)) in
+    search rules)
 
 pub returns : goal.returns
 unfolding group_room
-returns c = sym (walk-all c.requires.rings c.loop-at.invariant c.loop-at-test.false)
-
-pub returns-else-not-ring_room : goal.returns-else-not-ring_room
-unfolding group_room
-returns-else-not-ring_room c = sym (walk-all c.requires.rings (walk_more c.loop-at.invariant (sym c.ring_room.ensures ∙ c.if-not-ring_room.false)) (omega arith))
+returns c =
+    all_from_yields_List (λ b. ring_room c.args.words.now c.args.r (c.args.first + b * c.args.r.node)) _ _ _ c.all.ensures.ran
+    (YieldsList-from_range 0 c.args.r.rings c.args.r.rings refl (omega arith)) (λ x b q k. search (rules, tests))
+    ∙ all-range _ _

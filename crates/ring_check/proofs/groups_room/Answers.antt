@@ -1,26 +1,23 @@
 -- `ring_check::groups_room` meets its contract: the goals that the check does not find by itself. Assumes nothing.
-use Rattle.std.proofs.Common.{sym, ◌∙◌, arith}
-use Rattle.ring_check.specs.RingLines.{group_room, groups_room}
-use Rattle.ring_check.proofs.RingWalks.{walk_more, walk-room, walk-fails, walk-all, rings-at}
+use Rattle.std.proofs.Common.{◌∙◌, ◌+◌, ◌*◌, ◌<◌, length, refl, arith, rules, tests}
+use Rattle.std.proofs.lemmas.Iterator.{YieldsList-from_range, serves_from_Range}
+use Rattle.std.proofs.lemmas.Iterator.Search.{all_from_yields_List}
+use Rattle.ring_check.specs.RingLines.{RingsIn, group_room, groups_room}
+use Rattle.ring_check.proofs.RingWalks.{all-range, next-inside, rings-at}
 use Rattle.ring_check.proofs.groups_room.Goals as goal
 
-pub group_room-requires : goal.group_room-requires
-group_room-requires c = let n = walk-room c.requires.groups c.loop-at.invariant c.loop-at-test.true in rings-at c.requires (omega (arith, c.requires))
-
-pub returns-then-not-group_room : goal.returns-then-not-group_room
-unfolding groups_room
-returns-then-not-group_room c =
-    sym
-    (walk-fails c.requires.groups c.loop-at.invariant (λ m. group_room c.args.words.now c.args.r m) c.loop-at-test.true
-    (sym c.group_room.ensures ∙ c.if-not-group_room.true))
-
-pub loop-at-preserved : goal.loop-at-preserved
-loop-at-preserved c = walk_more c.loop-at.invariant (sym c.group_room.ensures ∙ c.if-not-group_room.false)
+pub all-requires-clause-callable : goal.all-requires-clause-callable
+all-requires-clause-callable c =
+    serves_from_Range (λ x q k. search (rules, tests))
+    (λ x l h.
+    let n = next-inside c.requires.groups x h in
+    let p : c.args.first + x * c.args.r.group < length c.args.words.now = omega (arith, c.requires) in
+    let q : RingsIn c.args.words.now c.args.r (c.args.first + x * c.args.r.group) c.args.r.group c.args.r.node = rings-at c.requires (omega (arith, c.requires)) in
+    search rules)
 
 pub returns : goal.returns
 unfolding groups_room
-returns c = sym (walk-all c.requires.groups c.loop-at.invariant c.loop-at-test.false)
-
-pub returns-else-not-group_room : goal.returns-else-not-group_room
-unfolding groups_room
-returns-else-not-group_room c = sym (walk-all c.requires.groups (walk_more c.loop-at.invariant (sym c.group_room.ensures ∙ c.if-not-group_room.false)) (omega arith))
+returns c =
+    all_from_yields_List (λ a. group_room c.args.words.now c.args.r (c.args.first + a * c.args.r.group)) _ _ _ c.all.ensures.ran
+    (YieldsList-from_range 0 c.args.r.groups c.args.r.groups refl (omega arith)) (λ x b q k. search (rules, tests))
+    ∙ all-range _ _
