@@ -72,6 +72,7 @@ fn tells(every: bool, count: u8, listed: u8) -> bool
     every || count != listed
 }
 
+// By place in both lists, here and in `put_values`: `zip` was tried, and the search does not find the facts of its items.
 fn values_length(every: bool, counts: &[u8], fills: &[u8]) -> usize
     requires { (length counts.now ≤ most_variables) × (length counts.now ≤ length fills.now) }
     ensures { result ≡ length (value_lines (changes every counts.now fills.now)) }
@@ -85,7 +86,7 @@ fn values_length(every: bool, counts: &[u8], fills: &[u8]) -> usize
     length
 }
 
-// How many bytes the step has.
+// How many bytes the step has. `first` is the argument of the definitions (`step_bytes`, `write_answer`), and says which kind of step it is.
 fn step_length(first: bool, time: u64, counts: &[u8], fills: &[u8]) -> usize
     requires { (length counts.now ≤ most_variables) × (length counts.now ≤ length fills.now) }
     ensures { result ≡ length (step_bytes first time counts.now fills.now) }

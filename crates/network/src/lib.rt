@@ -33,6 +33,7 @@ pub fn sized(x: u64, y: u64, z: u64, escape: u64, adaptive: u64, injection: u64)
     }
 }
 
+// The numbers of dimensions, directions, queues and outputs stay numbers: the rules count by them, and a call takes any u64 for one, from C as well.
 // R1, R31 to R34: x, y and z; x+, x-, y+, y-, z+, z-; and the queues of a node: the injection queue, and an adaptive and an escape queue for each
 // direction.
 pub const DIMENSIONS: u64 = 3;

@@ -98,6 +98,7 @@ pub fn next_command(line: &mut [u8], piece: &[u8], cursor: &mut Cursor) -> Optio
         cursor.pending = 0;
         return fed_command(line, fed);
     }
+    // by place, since i is also where the cursor comes to stand
     for i in cursor.passed..piece.len() {
         let count = cursor.pending;
         let fed = lines::feed(line, Pending { count }, piece[i]);

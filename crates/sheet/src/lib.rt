@@ -11,7 +11,7 @@ pub struct Pending {
     pub count: usize,
 }
 
-// What a byte, or the end of the input, brings.
+// What a byte, or the end of the input, brings: one of three things, as no Option or Result has them.
 #[derive(Clone, Copy)]
 pub enum Fed {
     // No line ends.
@@ -22,7 +22,8 @@ pub enum Fed {
     TooLong,
 }
 
-// What a line asks for; `Bad` is every line that is none of the others.
+// What a line asks for; `Bad` is every line that is none of the others. It is a command as they are, and no None: every line has one, with an
+// answer (R248), and `command_of` says which.
 #[derive(Clone, Copy)]
 pub enum Command {
     Make {

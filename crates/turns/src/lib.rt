@@ -15,7 +15,8 @@ ghost use Rattle.turns.specs.Turned.{Kept};
 
 use network::{ACCEPTED_AT, DELIVER, DELIVERED_AT, Sizes, Stop, direction_of};
 
-// What a turn came to: a stop, a move to a neighbour, or a delivery with the packet word that it hands out.
+// What a turn came to: a stop, a move to a neighbour, or a delivery with the packet word that it hands out. Three outcomes by their names: a ControlFlow
+// over an Option would name none of them.
 #[derive(Clone, Copy)]
 pub enum Turn {
     Stopped(Stop),
