@@ -2,7 +2,7 @@
 // print together, is proved in the crate `session`; here is read, handed over and written, and nothing else.
 #![tactic(auto)]
 
-ghost use Rattle.std.specs.Prelude.{◌≢◌, IfOk};
+ghost use Rattle.std.specs.Prelude.{IfOk};
 ghost use Rattle.session.specs.Reads.{sheet, KeepsReached};
 ghost use Rattle.bench.specs.Streams.{ReadAnswered};
 
@@ -27,7 +27,7 @@ fn read_once<R: Read, W: Write>(
     out: &mut [u8; OUT_ROOM],
 ) -> Result<usize, Lost>
     ensures sheet { KeepsReached (sheet store.old line.old pending.old) (sheet store.new line.new pending.new) }
-    ensures answered { IfOk result (λ n. n ≢ 0 → ReadAnswered (R.remaining input.old) (R.remaining input.new) (W.contents output.old) (W.contents output.new)
+    ensures answered { IfOk result (λ n. ReadAnswered n (R.remaining input.old) (R.remaining input.new) (W.contents output.old) (W.contents output.new)
         (sheet store.old line.old pending.old) (sheet store.new line.new pending.new)) }
 {
     let mut piece = [0u8; PIECE];

@@ -61,8 +61,8 @@ fn read_once<R: Read, W: Write>(
 ) -> Result<usize, Lost>
     ensures sheet { OnOk result (KeepsReached (sheet store.old line.old pending.old) (sheet store.new line.new pending.new)) }
     ensures fills { FillsOf store.old fills.old → FillsOf store.new fills.new }
-    ensures replayed { IfOk result (λ n. n ≢ 0 → FillsOf store.old fills.old
-        → ReadReplayed (R.remaining input.old) (R.remaining input.new) (W.contents output.old) (W.contents output.new)
+    ensures replayed { IfOk result (λ n. FillsOf store.old fills.old
+        → ReadReplayed n (R.remaining input.old) (R.remaining input.new) (W.contents output.old) (W.contents output.new)
         (sheet store.old line.old pending.old) (sheet store.new line.new pending.new)) }
 {
     let mut piece = [0u8; PIECE];
