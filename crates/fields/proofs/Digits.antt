@@ -7,9 +7,9 @@ use Rattle.std.proofs.Math.Nat.{div-lt_iff_lt-mul, le-div_iff_mul-le, mod-eq_of_
 use native.Mathlib.Decide.{dec_lt}
 use native.Mathlib.Omega.{arith}
 use lib.ListN.{length, set, length-append}
-use Rattle.sheet.specs.Output.{numeral, written, Room}
-use Rattle.sheet.proofs.Numerals.{numeral-one, numeral-more, numeral-length-more}
-use Rattle.sheet.proofs.Puts.{put-none, written-front}
+use Rattle.sheet.specs.Output.{numeral, written, Room, Put}
+use Rattle.sheet.proofs.Numerals.{numeral-one, numeral-more, numeral-length-more, numeral-some}
+use Rattle.sheet.proofs.Puts.{length-written, put-none, written-front}
 
 -- the last digit of a number, and the digits before it: those of the number divided by the base, if there are any
 record Last (base n : ℕ) : Type 0 where
@@ -89,3 +89,39 @@ module _ (base n : ℕ) (two : 2 ≤ base) (before : List ℕ) (at : ℕ) (room 
               ap (λ o. set o j (48 + rest % base)) (d.put ∙ ap (λ k. written before k d.low) (sym e))
               ∙ written-front before j (48 + rest % base) d.low (rw e room-low);
         }
+
+    -- one digit is left: the number that is left itself
+    module _ (e : i ≡ at + 1) where
+      one-front : length d.front ≡ 1
+      one-front = let p = d.place in omega arith
+
+      front-is : d.front ≡ numeral base rest
+      front-is = let l = one-front in d.more (omega arith)
+
+      pub one-digit : rest < base
+      one-digit = go (dec_lt rest base)
+        where
+          go : Dec (rest < base) → rest < base
+          go (yes h) = h
+          go (no h) =
+              let l = ap length (sym front-is) ∙ one-front in
+              let m = numeral-length-more base two rest (omega arith) in
+              let s = numeral-some base two (rest / base) in
+              absurd (omega arith)
+
+      pub behind-place : at < length out
+      behind-place =
+          let l = ap length d.put ∙ length-written before i d.low room-low in
+          let r = room-low in
+          omega arith
+
+      pub behind-all : Put before at (numeral base n) (set out at (48 + rest)) (at + length (numeral base n))
+      behind-all =
+          let digit : d.front ≡ (48 + rest) ∷ [] = front-is ∙ numeral-one base two rest one-digit in
+          record {
+            leaves =
+                ap (λ o. set o at (48 + rest)) (d.put ∙ ap (λ k. written before k d.low) e)
+                ∙ written-front before at (48 + rest) d.low (rw (sym e) room-low)
+                ∙ ap (λ ds. written before at ds) (sym (d.digits ∙ ap (λ ds. ds ++ d.low) digit));
+            answers = refl;
+          }

@@ -44,18 +44,20 @@ impl<'a> Page<'a> {
         self.at = end;
     }
 
-    // A number's digits, the last one first: how many there are says where it stands.
+    // A number's digits, the last one first: how many there are says where it stands. The first is what is left: a number of one digit is not divided.
     pub fn put_number(&mut self, base: u64, n: u64)
         requires le_base { (2 ≤ base) × (base ≤ 10) }
         requires room { Fits self.old (numeral base n) }
         ensures { Puts self.old (numeral base n) self.new }
     {
-        let end = self.at + number_length(base, n);
+        let at = self.at;
+        let end = at + number_length(base, n);
         let mut rest = n;
-        for i in (self.at..end).rev() {
+        for i in (at + 1..end).rev() {
             self.out[i] = b'0' + (rest % base) as u8;
             rest /= base;
         }
+        self.out[at] = b'0' + rest as u8;
         self.at = end;
     }
 

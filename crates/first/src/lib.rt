@@ -27,28 +27,30 @@ pub fn first_move(words: &[u64], s: Sizes) -> Option<NamedMove>
     }
     let mut start: usize = HEADER_WORDS;
     let total = nodes(s);
-    for n in 0..total {
-        for q in 0..QUEUES {
-            if words[start] != 0 {
-                let p = words[start + 1];
-                let outputs = routes(q, p);
-                for (k, &o) in outputs.iter().enumerate() {
-                    if applies(k, o) {
-                        if flow_rules(words, s, n, q, o, p).is_ok() {
-                            return Some(NamedMove {
-                                node: n,
-                                queue: q,
-                                output: o,
-                            });
+    'search: {
+        for n in 0..total {
+            for q in 0..QUEUES {
+                if words[start] != 0 {
+                    let p = words[start + 1];
+                    let outputs = routes(q, p);
+                    for (k, &o) in outputs.iter().enumerate() {
+                        if applies(k, o) {
+                            if flow_rules(words, s, n, q, o, p).is_ok() {
+                                break 'search Some(NamedMove {
+                                    node: n,
+                                    queue: q,
+                                    output: o,
+                                });
+                            }
                         }
                     }
                 }
+                let slots = capacity(s, q);
+                start += 1 + slots as usize;
             }
-            let slots = capacity(s, q);
-            start += 1 + slots as usize;
         }
+        None
     }
-    None
 }
 
 // The first permitted move of the head of queue q of node n, if it has one.

@@ -14,7 +14,7 @@ use network::{MOST_NODES, QUEUES};
 // The numbers that a node has for the heads of its queues, and the numbers of the heads of all nodes.
 pub const NODE_HEADS: u64 = 16;
 
-const HEADS: u64 = NODE_HEADS * MOST_NODES;
+pub const HEADS: u64 = NODE_HEADS * MOST_NODES;
 
 // The words of the index: word 0, and one for each of its bits. Those that have no words to index are always 0, so that one rule tells, for
 // both levels, which bit belongs to which word. The first bit behind them, and all words.

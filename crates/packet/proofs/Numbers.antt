@@ -5,11 +5,11 @@ use mathlib.Core.Bool.{Bool, true, false, cond, true≢false}
 use Prim.Native.Nat.{ℕ, zero, suc, ◌+◌, ◌-◌, ◌%◌, ◌<◌, ◌≤◌}
 use native.Mathlib.Decide.{dec_lt}
 use native.Mathlib.Omega.{arith}
-use lib.Dec.{ltb}
+use lib.Dec.{T, ltb}
 use lib.IntN.{ℤ, pos, negsuc, neg_ℤ, nat_abs, ◌-ℤ◌, +ℤ_idl, +ℤ_one, -ℤ_one}
-use lib.Signed.{lt_z}
+use lib.Signed.{lt_z, non_neg}
 use mir.Syntax.{w64}
-use mir.Val.{SFits, to_z, of_z}
+use mir.Val.{Fits, SFits, to_z, of_z}
 use mir.Facts.{to_z-of_z, to_z_pos}
 use borrow.Author.Tests.{ltb-true, lt-ltb, le-ltb}
 use Rattle.std.specs.Int.{int_signum}
@@ -37,6 +37,21 @@ pub range_back : {y z : ℤ} → y ≡ z → OffsetRange z → OffsetRange (agai
 range_back e r = subst OffsetRange (sym (back e r)) r
 
 -- Negated -----------------------------------------------------------------------------------------------------------------------------
+
+neg-fits : (z : ℤ) → OffsetRange z → SFits w64 (neg_ℤ z)
+unfolding forward backward
+neg-fits (pos zero) r = record { sfits = omega arith }
+neg-fits (pos (suc n)) r = let l : suc n < half_offsets = r.most in record { sfits = omega arith }
+neg-fits (negsuc n) r = let l : suc n ≤ half_offsets = r.least in record { sfits = omega arith }
+
+negation-is : (z : ℤ) → OffsetRange z → pos 0 -ℤ again z ≡ neg_ℤ z
+negation-is z r = ap (λ x. pos 0 -ℤ x) (back refl r) ∙ +ℤ_idl (neg_ℤ z)
+
+pub negation-fits : {z : ℤ} → OffsetRange z → SFits w64 (pos 0 -ℤ again z)
+negation-fits {z} r = subst (SFits w64) (sym (negation-is z r)) (neg-fits z r)
+
+negation-back : (z : ℤ) → OffsetRange z → again (pos 0 -ℤ again z) ≡ neg_ℤ z
+negation-back z r = ap again (negation-is z r) ∙ to_z-of_z (neg-fits z r)
 
 -- of a small number m without a sign
 small-fits : (m : ℕ) → m ≤ offset_values → SFits w64 (neg_ℤ (pos m))
@@ -83,6 +98,34 @@ never : (n : ℕ) → ltb n 0 ≡ true → ⊥
 never n t = let l = ltb-true n 0 t in omega arith
 
 -- What each sign gives ----------------------------------------------------------------------------------------------------------------
+
+nat_abs-neg : (z : ℤ) → nat_abs (neg_ℤ z) ≡ nat_abs z
+nat_abs-neg (pos zero) = refl
+nat_abs-neg (pos (suc n)) = refl
+nat_abs-neg (negsuc n) = refl
+
+pub nat_abs-negation : {z : ℤ} → OffsetRange z → nat_abs (again (pos 0 -ℤ again z)) ≡ nat_abs z
+nat_abs-negation {z} r = ap nat_abs (negation-back z r) ∙ nat_abs-neg z
+
+-- the number may be cast to one without a sign
+abbrev Castable : ℤ → Type 0
+Castable z = T (non_neg z) × Fits w64 (nat_abs z)
+
+plus-castable : (z : ℤ) → OffsetRange z → lt_z z (pos 0) ≡ false → Castable z
+unfolding forward
+plus-castable (pos n) r t = let l : n < half_offsets = r.most in (tt, record { fits = omega arith })
+plus-castable (negsuc n) r t = absurd (true≢false t)
+
+minus-castable : (z : ℤ) → OffsetRange z → lt_z z (pos 0) ≡ true → Castable (neg_ℤ z)
+unfolding backward
+minus-castable (pos n) r t = absurd (never n t)
+minus-castable (negsuc n) r t = let l : suc n ≤ half_offsets = r.least in (tt, record { fits = omega arith })
+
+pub cast-of : {z : ℤ} → OffsetRange z → Below z false → Castable (again z)
+cast-of {z} r t = subst Castable (sym (back refl r)) (plus-castable z r (under refl r t))
+
+pub cast-of-negation : {z : ℤ} → OffsetRange z → Below z true → Castable (again (pos 0 -ℤ again z))
+cast-of-negation {z} r t = subst Castable (sym (negation-back z r)) (minus-castable z r (under refl r t))
 
 pub nat_abs-most : (z : ℤ) → OffsetRange z → nat_abs z ≤ half_offsets
 unfolding forward backward

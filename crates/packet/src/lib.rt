@@ -37,7 +37,7 @@ pub fn nat_abs(z: i64) -> u64
     requires { OffsetRange z }
     ensures { result ≡ nat_abs z }
 {
-    z.unsigned_abs()
+    if z < 0 { (-z) as u64 } else { z as u64 }
 }
 
 // The field of such a number. One test of the sign stays, over `nat_abs` (R319): no form is plainer that still goes through it.

@@ -10,7 +10,7 @@ ghost use Rattle.network.specs.Check.{ring_has_room, rings_have_room};
 ghost use Rattle.queue.specs.Queue.{EnoughWords};
 ghost use Rattle.ring_check.specs.RingLines.{ring_room, group_room, groups_room, RingsIn};
 
-use network::{DIRECTIONS, FIRST_ESCAPE, Sizes};
+use network::{DIMENSIONS, DIRECTIONS, FIRST_ESCAPE, Sizes};
 
 // The slots of a queue, and how far it is in the words from a node to the next, from a node of a ring to the ring's next, and from a group of rings
 // to the next. A group is the rings that begin between a ring's first node and its second. So many rings are in a group, nodes in a ring, and groups
@@ -51,16 +51,15 @@ fn groups_room(words: &[u64], r: Rings, first: usize) -> bool
 }
 
 // The product of the sizes above dimension i.
-#[tactic(auto, unfolding(base::specs::Digits::above, base::specs::Digits::product, network::specs::Sizes::shape_of))]
 fn above(s: Sizes, i: u64) -> u64
     requires { T (sizes_in_range (shape_of s)) × (i < dimensions) }
     ensures { result ≡ above (shape_of s).sizes i }
 {
-    match i {
-        0 => s.y * s.z,
-        1 => s.z,
-        _ => 1,
+    let mut product = 1;
+    for j in i + 1..DIMENSIONS {
+        product *= torus::size(s, j);
     }
+    product
 }
 
 // The rings of direction d run along its dimension.

@@ -1,5 +1,5 @@
 -- Each of Drain's stops has its condition, on every network: theorem `drain-stops` (RULES R130 to R133), of the statement in network/specs/Choices.antt.
--- So a Drain that says emptied has left nothing, in the two cases of its definition that never come up too.
+-- So a Drain that says emptied has left nothing, in the case of its definition that never comes up too.
 -- Order: why moves stopped; one move more; the next move; a whole Drain; the theorem. Assumes nothing.
 use Rattle.std.specs.Prelude.{◌≡◌, ◌≢◌, cond, eqb, length, Option, Some, Ok}
 use Rattle.std.proofs.Math.Path.{refl}

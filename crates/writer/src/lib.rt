@@ -13,8 +13,8 @@ use network::{
     number_of,
 };
 
-// A line of a letter and a number.
-fn put_line(page: &mut Page, letter: u8, n: u64)
+// A line of a letter and a number: of any number, also of one that no answer of this repository has.
+pub fn put_line(page: &mut Page, letter: u8, n: u64)
     requires { Fits page.old (answer_line letter n) }
     ensures { Puts page.old (answer_line letter n) page.new }
 {

@@ -133,5 +133,5 @@ returns-then-is_ok c =
     (line-found k c.loop-k.k c.loop-k-test.true (sym c.applies.ensures ∙ c.if-applies.true)
     (sym c.flow_rules.ensures ∙ ok-number _ (sym c.is_ok.ensures.value ∙ c.if-is_ok.true)) c.loop-k.invariant)))
 
-pub returns : goal.returns
-returns c = let e = c.nodes-total.ensures in sym (nodes-none c.loop-n.invariant (omega (arith, e, c.loop-n-test.false)))
+pub returns-after-loop-n : goal.returns-after-loop-n
+returns-after-loop-n c = let e = c.nodes-total.ensures in sym (nodes-none c.loop-n.invariant (omega (arith, e, c.loop-n-test.false)))
